@@ -1,0 +1,211 @@
+ghost use Rattle.std.specs.Prelude.{◌≡◌, ◌+◌, ◌^◌, ◌<◌, ◌≤◌, false, length, take, drop, replicate, IfOk};
+ghost use Rattle.disk_model.specs.Disk.{put};
+ghost use Rattle.disk_model.specs.Memory.{picked, picked_byte, MarksWithin};
+
+use crate::disk::Disk;
+use crate::errors::{Failed, NoMemory};
+use std::alloc::Global;
+use std::marker::Model;
+
+/// A disk in memory, which tells its images. No call of it fails but `new`, and no other takes memory.
+///
+/// After a crash with pick 0 each pending byte has its stable value, with pick 1 its present value, and with
+/// pick `2 + b` the value b.
+#[derive(Drop)]
+pub struct MemDisk {
+    stable: Vec<u8>,
+    present: Vec<u8>,
+    pending: Vec<bool>,
+    // All that is pending lies from `low` to below `high`, so that a sync visits no more than that.
+    low: usize,
+    high: usize,
+    last_pick: Option<u16>,
+}
+
+impl Model for MemDisk {
+    ghost use Rattle.disk_model.specs.Memory.{Memory};
+
+    ghost Value = { Memory };
+
+    ghost use Rattle.disk_model.specs.Bounds.{memory_of, IsBounded};
+
+    ghost view = { memory_of };
+
+    ghost invariant = { λ m. IsBounded m.low m.high (memory_of m) };
+}
+
+impl MemDisk {
+    ghost use Rattle.disk_model.specs.Memory.{IsSound, new_memory, written, settled, crashed};
+
+    /// Zero bytes, and nothing pending. The size is in bytes.
+    pub fn new(alloc: Global, size: u64) -> Result<MemDisk, NoMemory>
+        requires { size < 2 ^ 32 }
+        ensures { IfOk result (λ disk. disk ≡ new_memory size) }
+    {
+        let size = size as usize;
+        Ok(MemDisk {
+            stable: zeros(alloc, size)?,
+            present: zeros(alloc, size)?,
+            pending: no_marks(alloc, size)?,
+            low: 0,
+            high: 0,
+            last_pick: None,
+        })
+    }
+
+    /// Reads the present bytes from an offset on.
+    pub fn read(&self, at: u64, into: &mut [u8])
+        requires { at + length into.old ≤ length self.now.present }
+        ensures { into.new ≡ take (length into.old) (drop at self.now.present) }
+    {
+        let at = at as usize;
+        into.copy_from_slice(&self.present[at..at + into.len()]);
+    }
+
+    /// Writes over the bytes from an offset on.
+    pub fn write(&mut self, at: u64, bytes: &[u8])
+        requires { at + length bytes.now ≤ length self.old.present }
+        ensures written { self.new ≡ written at bytes.now self.old }
+        ensures sound { IsSound self.old }
+    {
+        let low = at as usize;
+        copy_over(&mut self.present, low, bytes);
+        mark(&mut self.pending, low, bytes.len(), true);
+        let high = low + bytes.len();
+        if self.low == self.high {
+            self.low = low;
+            self.high = high;
+        } else {
+            self.low = self.low.min(low);
+            self.high = self.high.max(high);
+        }
+    }
+
+    /// Makes the present bytes stable.
+    pub fn flush(&mut self)
+        ensures settled { self.new ≡ settled self.old }
+        ensures sound { IsSound self.old }
+    {
+        copy_over(
+            &mut self.stable,
+            self.low,
+            &self.present[self.low..self.high],
+        );
+        mark(&mut self.pending, self.low, self.high - self.low, false);
+        self.low = 0;
+        self.high = 0;
+    }
+
+    /// Comes back after a crash that picks among the images.
+    pub fn crash(&mut self, pick: u16)
+        requires { pick ≤ 257 }
+        ensures crashed { self.new ≡ crashed pick self.old }
+        ensures sound { IsSound self.old }
+    {
+        pick_pending(
+            &mut self.present,
+            &self.stable,
+            &self.pending,
+            self.low,
+            self.high,
+            pick,
+        );
+        self.flush();
+        self.last_pick = Some(pick);
+    }
+}
+
+impl Disk for MemDisk {
+    ghost use Rattle.disk_model.specs.Memory.{memory_state, memory_lawful};
+
+    ghost state = { memory_state };
+
+    fn size(&self) -> u64 {
+        self.present.len() as u64
+    }
+
+    fn read_at(&mut self, at: u64, into: &mut [u8]) -> Result<(), Failed> {
+        self.read(at, into);
+        Ok(())
+    }
+
+    fn write_at(&mut self, at: u64, bytes: &[u8]) -> Result<(), Failed> {
+        self.write(at, bytes);
+        Ok(())
+    }
+
+    fn sync(&mut self) -> Result<(), Failed> {
+        self.flush();
+        Ok(())
+    }
+
+    fn restart(&mut self, pick: u16) -> Result<(), Failed> {
+        self.crash(pick);
+        Ok(())
+    }
+
+    ghost lawful = { memory_lawful };
+}
+
+fn zeros(alloc: Global, count: usize) -> Result<Vec<u8>, NoMemory>
+    ensures { IfOk result (λ bytes. bytes.items ≡ replicate count 0) }
+{
+    vec![in alloc; 0; count].map_err(|_| NoMemory)
+}
+
+fn no_marks(alloc: Global, count: usize) -> Result<Vec<bool>, NoMemory>
+    ensures { IfOk result (λ marks. marks.items ≡ replicate count false) }
+{
+    vec![in alloc; false; count].map_err(|_| NoMemory)
+}
+
+// Writes these bytes over those from an offset on.
+fn copy_over(into: &mut Vec<u8>, at: usize, bytes: &[u8])
+    requires { at + length bytes.now ≤ length into.old.items }
+    ensures { into.new.items ≡ put at bytes.now into.old.items }
+{
+    into[at..at + bytes.len()].copy_from_slice(bytes);
+}
+
+// Sets `count` marks from an offset on.
+fn mark(marks: &mut Vec<bool>, at: usize, count: usize, value: bool)
+    requires { at + count ≤ length marks.old.items }
+    ensures { marks.new.items ≡ put at (replicate count value) marks.old.items }
+{
+    marks[at..at + count].fill(value);
+}
+
+// Picks a value for each pending byte. All of them lie from `low` to below `high`.
+fn pick_pending(
+    present: &mut Vec<u8>,
+    stable: &[u8],
+    pending: &[bool],
+    low: usize,
+    high: usize,
+    pick: u16,
+)
+    requires pick { pick ≤ 257 }
+    requires stable { length stable.now ≡ length present.old.items }
+    requires marks { length pending.now ≡ length present.old.items }
+    requires bounds { MarksWithin low high pending.now }
+    requires order { low ≤ high }
+    requires end { high ≤ length present.old.items }
+    ensures { present.new.items ≡ picked pick pending.now stable.now present.old.items }
+{
+    for k in low..high {
+        if pending[k] {
+            present[k] = picked_byte(pick, stable[k], present[k]);
+        }
+    }
+}
+
+fn picked_byte(pick: u16, stable: u8, present: u8) -> u8
+    requires { pick ≤ 257 }
+    ensures { result ≡ picked_byte pick stable present }
+{
+    match pick {
+        0 => stable,
+        1 => present,
+        _ => (pick - 2) as u8,
+    }
+}

@@ -1,0 +1,109 @@
+ghost use Rattle.std.specs.Prelude.{◌≡◌, ◌≢◌, ◌^◌, ◌<◌, ◌≤◌, ◌↔◌, ℕ, Bool, List, IsTrue, IsSome, Some, None, true, IfOk, OnOk, OnErr, IsErrOf};
+ghost use Rattle.disk_model.specs.Disk.{Rose};
+ghost use Rattle.disk_model.specs.Shelf.{IsBlank, SameUnder};
+
+use crate::disk::Disk;
+use crate::errors::{NoMemory, ShelfError};
+use crate::memory::MemDisk;
+use std::alloc::Global;
+use std::collections::BTreeMap;
+
+/// Gives disks by name, and takes them back.
+pub trait Shelf {
+    type D: Disk + Send + Drop;
+
+    /// How often a `take` failed by a fault.
+    ghost faults: { Self → ℕ };
+
+    /// Whether it tells which disks were given back. Where it doesn't, `given_back` holds of no disk.
+    ghost tells: { Self → Bool };
+
+    /// A disk was taken under this name.
+    ghost has_place: { Self → List ℕ → Type 0 };
+
+    /// This disk is the one last given back under this name.
+    ghost given_back: { Self → List ℕ → Self.D → Type 0 };
+
+    /// A new disk under this name, of this size in bytes. It makes the place for the disk to be given back to.
+    fn take(&mut self, alloc: Global, name: &str, size: u64) -> Result<Self::D, ShelfError>
+        requires { size < 2 ^ 32 }
+        ensures blank { IfOk result (λ disk. IsBlank size (Self.D.state disk)) }
+        ensures place { OnOk result (has_place self.new name.now) }
+        ensures places { (n : List ℕ) → has_place self.old n → has_place self.new n }
+        ensures others { (n : List ℕ) → n ≢ name.now → SameUnder n (given_back self.old) (given_back self.new) }
+        ensures failed { IsErrOf result ShelfError.Failed → Rose (faults self.old) (faults self.new) }
+        ensures err { OnErr result ((n : List ℕ) → SameUnder n (given_back self.old) (given_back self.new)) }
+        ensures faults { faults self.old ≤ faults self.new }
+        ensures tells { tells self.new ≡ tells self.old };
+
+    /// Takes a disk back, into the place that the `take` under this name made. It takes no memory.
+    fn give(&mut self, name: &str, disk: Self::D)
+        ensures given { IsTrue (tells self.old) → has_place self.old name.now → given_back self.new name.now disk }
+        ensures only { (d : Self.D) → given_back self.new name.now d → d ≡ disk }
+        ensures places { (n : List ℕ) → has_place self.old n → has_place self.new n }
+        ensures others { (n : List ℕ) → n ≢ name.now → SameUnder n (given_back self.old) (given_back self.new) }
+        ensures faults { faults self.old ≤ faults self.new }
+        ensures tells { tells self.new ≡ tells self.old };
+}
+
+/// A shelf of disks in memory, which keeps those given back. It never fails by a fault.
+#[derive(Drop)]
+pub struct MemShelf {
+    // The names that were taken, each with the disk last given back under it.
+    places: BTreeMap<String, Option<MemDisk>>,
+}
+
+impl MemShelf {
+    ghost use Rattle.disk_model.specs.Places.{place};
+
+    /// A shelf that gave no disk yet.
+    pub fn new(alloc: Global) -> MemShelf
+        ensures { (name : List ℕ) → place name result ≡ None }
+    {
+        MemShelf {
+            places: BTreeMap::new(alloc),
+        }
+    }
+
+    // Sees to a place under this name. The disks that were given back stay.
+    fn make_place(&mut self, alloc: Global, name: &str) -> Result<(), NoMemory>
+        ensures place { OnOk result (IsSome (place name.now self.new)) }
+        ensures places { (n : List ℕ) → IsSome (place n self.old) → IsSome (place n self.new) }
+        ensures disks { (n : List ℕ) (disk : _) → place n self.new ≡ Some (Some disk) ↔ place n self.old ≡ Some (Some disk) }
+    {
+        if self.places.contains_key(name) {
+            return Ok(());
+        }
+        let name = String::from_str(alloc, name).map_err(|_| NoMemory)?;
+        match self.places.insert(name, None) {
+            Ok(_) => Ok(()),
+            Err(_) => Err(NoMemory),
+        }
+    }
+}
+
+impl Shelf for MemShelf {
+    type D = MemDisk;
+
+    ghost use Rattle.disk_model.specs.Places.{place};
+
+    ghost faults = { λ _. 0 };
+
+    ghost tells = { λ _. true };
+
+    ghost has_place = { λ shelf name. IsSome (place name shelf) };
+
+    ghost given_back = { λ shelf name disk. place name shelf ≡ Some (Some disk) };
+
+    fn take(&mut self, alloc: Global, name: &str, size: u64) -> Result<MemDisk, ShelfError> {
+        let disk = MemDisk::new(alloc, size)?;
+        self.make_place(alloc, name)?;
+        Ok(disk)
+    }
+
+    fn give(&mut self, name: &str, disk: MemDisk) {
+        if let Some(place) = self.places.get_mut(name) {
+            *place = Some(disk);
+        }
+    }
+}

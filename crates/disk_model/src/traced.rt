@@ -1,0 +1,168 @@
+ghost use Rattle.std.specs.Prelude.{◌≡◌, ◌+◌, ◌^◌, ◌<◌, ◌≤◌, [], ◌++◌, length, take, drop, vec_len, vec_capacity, IfOk, OnOk, OnErr};
+
+use crate::disk::Disk;
+use crate::errors::{Failed, NoMemory};
+use crate::memory::MemDisk;
+use std::alloc::Global;
+use std::marker::Model;
+
+/// A disk in memory that keeps its writes, syncs and restarts, and so tells its moments too. It takes its room
+/// for so many calls and written bytes when it is made. A call past that room fails and changes nothing else.
+#[derive(Drop)]
+pub struct TracedDisk {
+    disk: MemDisk,
+    calls: Vec<TracedCall>,
+    // What the writes wrote, one after another.
+    bytes: Vec<u8>,
+    call_room: u32,
+    byte_room: u64,
+    faults: u64,
+}
+
+#[derive(Clone, Copy)]
+enum TracedCall {
+    Write { at: u64, count: usize },
+    Sync,
+    Restart { pick: u16 },
+}
+
+impl Model for TracedDisk {
+    ghost use Rattle.disk_model.specs.Trace.{Trace};
+
+    ghost Value = { Trace };
+
+    ghost use Rattle.disk_model.specs.Room.{trace_of, IsKept};
+
+    ghost view = { trace_of };
+
+    ghost invariant = { IsKept };
+}
+
+impl TracedDisk {
+    ghost use Rattle.disk_model.specs.Trace.{has_room, disk_of, IsNoted, IsRefused};
+    ghost use Rattle.disk_model.specs.Trace.Call.{Wrote, Synced, Restarted};
+
+    /// Zero bytes, nothing pending and no call. The size is in bytes.
+    pub fn new(alloc: Global, size: u64, calls: u32, bytes: u64) -> Result<TracedDisk, NoMemory>
+        requires { size < 2 ^ 32 }
+        ensures { IfOk result (λ disk. disk ≡ record { size = size; calls = []; call_room = calls; byte_room = bytes; faults = 0 }) }
+    {
+        Ok(TracedDisk {
+            disk: MemDisk::new(alloc, size)?,
+            calls: with_room(alloc, calls as usize)?,
+            bytes: with_room(alloc, bytes as usize)?,
+            call_room: calls,
+            byte_room: bytes,
+            faults: 0,
+        })
+    }
+
+    /// Reads the present bytes from an offset on.
+    pub fn read(&self, at: u64, into: &mut [u8])
+        requires { at + length into.old ≤ length (disk_of self.now).present }
+        ensures { into.new ≡ take (length into.old) (drop at (disk_of self.now).present) }
+    {
+        self.disk.read(at, into);
+    }
+
+    /// Whether there is room for one more call, with so many bytes.
+    pub fn has_room(&self, bytes: u64) -> bool
+        ensures { result ≡ has_room bytes self.now }
+    {
+        self.calls.len() < self.call_room as usize
+            && bytes <= self.byte_room - self.bytes.len() as u64
+    }
+
+    /// Writes over the bytes from an offset on.
+    pub fn write(&mut self, at: u64, bytes: &[u8]) -> Result<(), Failed>
+        requires { at + length bytes.now ≤ length (disk_of self.old).present }
+        ensures noted { OnOk result (IsNoted (Wrote at bytes.now) self.old self.new) }
+        ensures refused { OnErr result (IsRefused (length bytes.now) self.old self.new) }
+    {
+        if !self.has_room(bytes.len() as u64) {
+            return Err(Failed::counted(&mut self.faults));
+        }
+        append(&mut self.bytes, bytes);
+        self.calls.push_reserved(TracedCall::Write {
+            at,
+            count: bytes.len(),
+        });
+        self.disk.write(at, bytes);
+        Ok(())
+    }
+
+    /// Makes the present bytes stable.
+    pub fn flush(&mut self) -> Result<(), Failed>
+        ensures noted { OnOk result (IsNoted Synced self.old self.new) }
+        ensures refused { OnErr result (IsRefused 0 self.old self.new) }
+    {
+        if !self.has_room(0) {
+            return Err(Failed::counted(&mut self.faults));
+        }
+        self.calls.push_reserved(TracedCall::Sync);
+        self.disk.flush();
+        Ok(())
+    }
+
+    /// Comes back after a crash that picks among the images, as `MemDisk` does.
+    pub fn crash(&mut self, pick: u16) -> Result<(), Failed>
+        requires { pick ≤ 257 }
+        ensures noted { OnOk result (IsNoted (Restarted pick) self.old self.new) }
+        ensures refused { OnErr result (IsRefused 0 self.old self.new) }
+    {
+        if !self.has_room(0) {
+            return Err(Failed::counted(&mut self.faults));
+        }
+        self.calls.push_reserved(TracedCall::Restart { pick });
+        self.disk.crash(pick);
+        Ok(())
+    }
+}
+
+impl Disk for TracedDisk {
+    ghost use Rattle.disk_model.specs.Trace.{trace_state, trace_lawful};
+
+    ghost state = { trace_state };
+
+    fn size(&self) -> u64 {
+        self.disk.size()
+    }
+
+    fn read_at(&mut self, at: u64, into: &mut [u8]) -> Result<(), Failed> {
+        self.read(at, into);
+        Ok(())
+    }
+
+    fn write_at(&mut self, at: u64, bytes: &[u8]) -> Result<(), Failed> {
+        self.write(at, bytes)?;
+        Ok(())
+    }
+
+    fn sync(&mut self) -> Result<(), Failed> {
+        self.flush()?;
+        Ok(())
+    }
+
+    fn restart(&mut self, pick: u16) -> Result<(), Failed> {
+        self.crash(pick)?;
+        Ok(())
+    }
+
+    ghost lawful = { trace_lawful };
+}
+
+fn with_room<T: Drop>(alloc: Global, count: usize) -> Result<Vec<T>, NoMemory>
+    ensures empty { IfOk result (λ made. made.items ≡ []) }
+    ensures room { IfOk result (λ made. count ≤ vec_capacity made) }
+{
+    Vec::with_capacity(alloc, count).map_err(|_| NoMemory)
+}
+
+// Appends bytes for which there is room.
+fn append(into: &mut Vec<u8>, bytes: &[u8])
+    requires { vec_len into.old + length bytes.now ≤ vec_capacity into.old }
+    ensures items { into.new.items ≡ into.old.items ++ bytes.now }
+    ensures capacity { vec_capacity into.old ≤ vec_capacity into.new }
+{
+    into.extend_from_slice(bytes).unwrap();
+}
