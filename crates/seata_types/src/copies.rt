@@ -1,0 +1,26 @@
+//! Copies that may fail: the one error, and the trait of all types here that hold a list or text.
+ghost use Rattle.std.specs.Prelude.{◌≡◌, IfOk};
+
+use std::alloc::Global;
+
+/// Memory was refused. A type of its own, so that no other error is ever merged with it.
+#[derive(Clone, Copy, PartialEq, Eq, Debug)]
+pub struct NoMemory;
+
+/// A value that can be copied, where memory is there.
+pub trait Duplicate {
+    /// The same value again.
+    fn copy(&self, alloc: Global) -> Result<Self, NoMemory>
+    where
+        Self: Sized,
+        ensures { IfOk result (λ copied. copied ≡ self.now) };
+}
+
+impl<T: Duplicate> Duplicate for Option<T> {
+    fn copy(&self, alloc: Global) -> Result<Self, NoMemory> {
+        match self {
+            Some(value) => Ok(Some(value.copy(alloc)?)),
+            None => Ok(None),
+        }
+    }
+}

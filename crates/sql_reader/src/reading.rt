@@ -1,0 +1,48 @@
+//! The reading of a text as a statement.
+ghost use Rattle.std.specs.Prelude.{◌≡◌, ◌≢◌, IfOk, IfErr, Ok, Err};
+ghost use Rattle.sql_reader.specs.Answer.{reading};
+ghost use Rattle.sql_reader.specs.Readable.{IsReadable};
+ghost use Rattle.sql_reader.specs.Answer as spec;
+ghost use Rattle.sql_reader.specs.Lexing as lexing;
+
+use crate::cursor::Cursor;
+use crate::errors::{Refusal, SqlError, Stop};
+use crate::lexing::lex;
+use crate::statements::statement;
+use seata_types::{NoMemory, Stmt};
+use std::alloc::Global;
+
+/// Where a refused token begins, in bytes; the text's length at its end.
+fn place_of(text: &str, places: &[usize], refusal: Refusal) -> usize
+    requires { places.now ≡ lexing.places text.now }
+    ensures { result ≡ spec.place_of text.now refusal }
+{
+    places
+        .get(places.len().saturating_sub(refusal.left))
+        .copied()
+        .unwrap_or(text.len())
+}
+
+/// The statement that a text is. Its length has no limit here.
+#[tactic(auto, unfolding(crate::specs::Answer::reading))]
+pub fn read_stmt(alloc: Global, text: &str) -> Result<Stmt, SqlError>
+    // A statement, exactly where the text is in the grammar.
+    ensures ok { IfOk result (λ s. reading text.now ≡ Ok s) }
+    // A refusal, exactly where the text is not in it, with the first token that can't stand there.
+    ensures refused { IfErr result (λ e. e ≢ SqlError.NoMemory → reading text.now ≡ Err e) }
+    // A statement that can be written again.
+    ensures readable { IfOk result IsReadable }
+{
+    let lexed = match lex(alloc, text) {
+        Ok(lexed) => lexed,
+        Err(NoMemory) => return Err(SqlError::NoMemory),
+    };
+    match statement(alloc, &mut Cursor::new(&lexed.tokens)) {
+        Ok(statement) => Ok(statement),
+        Err(Stop::NoMemory) => Err(SqlError::NoMemory),
+        Err(Stop::Refused(refusal)) => Err(SqlError::Refused {
+            at: place_of(text, &lexed.places, refusal),
+            kind: refusal.kind,
+        }),
+    }
+}

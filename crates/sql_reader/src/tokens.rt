@@ -1,0 +1,25 @@
+//! The tokens that a text is cut into.
+use crate::symbols::Symbol;
+use seata_types::Text;
+
+#[derive(Drop)]
+pub enum Token {
+    Symbol(Symbol),
+    Name(Text),
+    /// Digits, by their number; where that is above `u64::MAX`, this number stands for it.
+    Number(u64),
+    /// A text in quotes, by its value.
+    Quoted(Text),
+    /// A text that isn't closed, is too long, or has a control character.
+    BadText,
+    /// A word or a character that no statement has.
+    Unknown,
+}
+
+/// A text cut into tokens.
+#[derive(Drop)]
+pub struct Lexed {
+    pub tokens: Vec<Token>,
+    /// The byte at which each of them begins.
+    pub places: Vec<usize>,
+}

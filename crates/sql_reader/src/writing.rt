@@ -1,0 +1,273 @@
+//! Writes statements.
+ghost use Rattle.std.specs.Prelude.{◌≡◌, ◌∷◌, [], ◌||◌, OnOk, IfOk, map, string_bytes, Ok};
+ghost use Rattle.std.specs.List.{flat_map};
+ghost use Rattle.sql_reader.specs.Canonical as spec;
+ghost use Rattle.sql_reader.specs.Canonical.{canonical_text, written};
+ghost use Rattle.sql_reader.specs.Answer.{reading};
+ghost use Rattle.sql_reader.specs.Readable.{IsReadable};
+
+use crate::symbols::Symbol;
+use crate::writer::Writer;
+use seata_types::{Cond, CondNode, Expr, List, NoMemory, Op, Sign, Stmt, Term, Text, Value};
+use std::alloc::Global;
+
+fn value(writer: &mut Writer, value: &Value) -> Result<(), NoMemory>
+    ensures { OnOk result (writer.new ≡ spec.put writer.old (spec.value_piece value.now)) }
+{
+    match value {
+        Value::Int(number) => writer.number(*number),
+        Value::Text(text) => writer.quoted(text.as_str()),
+    }
+}
+
+fn term(writer: &mut Writer, term: &Term) -> Result<(), NoMemory>
+    ensures { OnOk result (writer.new ≡ spec.put writer.old (spec.term_piece term.now)) }
+{
+    match term {
+        Term::Lit(found) => value(writer, found),
+        Term::Column(name) => writer.name(name.as_str()),
+    }
+}
+
+fn sign_of(sign: Sign) -> Symbol
+    ensures { result ≡ spec.sign_of sign }
+{
+    match sign {
+        Sign::Plus => Symbol::Plus,
+        Sign::Minus => Symbol::Minus,
+    }
+}
+
+#[tactic(auto, unfolding(crate::specs::Canonical::expr_pieces))]
+fn expr(writer: &mut Writer, expr: &Expr) -> Result<(), NoMemory>
+    ensures { OnOk result (writer.new ≡ written writer.old (spec.expr_pieces expr.now)) }
+{
+    term(writer, &expr.first)?;
+    for (sign, next) in expr.rest.as_slice() {
+        writer.symbol(sign_of(*sign))?;
+        term(writer, next)?;
+    }
+    Ok(())
+}
+
+fn op_symbol(op: Op) -> Symbol
+    ensures { result ≡ spec.op_symbol op }
+{
+    match op {
+        Op::Eq => Symbol::Equal,
+        Op::Ne => Symbol::NotEqual,
+        Op::Lt => Symbol::Less,
+        Op::Le => Symbol::LessOrEqual,
+        Op::Gt => Symbol::Greater,
+        Op::Ge => Symbol::GreaterOrEqual,
+    }
+}
+
+fn is_or(cond: &Cond) -> bool
+    ensures { result ≡ spec.is_or cond.now }
+{
+    matches!(&cond.node, CondNode::Or(..))
+}
+
+fn is_joined(cond: &Cond) -> bool
+    ensures { result ≡ (spec.is_or cond.now || spec.is_and cond.now) }
+{
+    matches!(&cond.node, CondNode::Or(..) | CondNode::And(..))
+}
+
+#[cycle(writing)]
+#[tactic(auto, using(crate::proofs::Written::written_append), unfolding(crate::specs::Canonical::condition_pieces))]
+fn condition(writer: &mut Writer, cond: &Cond) -> Result<(), NoMemory>
+    ensures { OnOk result (writer.new ≡ written writer.old (spec.condition_pieces cond.now)) }
+{
+    match &cond.node {
+        CondNode::Cmp {
+            column,
+            op,
+            value: compared,
+        } => {
+            writer.name(column.as_str())?;
+            writer.symbol(op_symbol(*op))?;
+            value(writer, compared)?;
+        }
+        CondNode::And(left, right) => {
+            part(writer, left, is_or(left))?;
+            writer.symbol(Symbol::And)?;
+            part(writer, right, is_joined(right))?;
+        }
+        CondNode::Or(left, right) => {
+            condition(writer, left)?;
+            writer.symbol(Symbol::Or)?;
+            part(writer, right, is_or(right))?;
+        }
+        CondNode::Not(inner) => {
+            writer.symbol(Symbol::Not)?;
+            part(writer, inner, is_joined(inner))?;
+        }
+    }
+    Ok(())
+}
+
+/// A part of a condition, in parentheses where it has to be.
+#[cycle(writing)]
+#[tactic(auto, using(crate::proofs::Written::written_append))]
+fn part(writer: &mut Writer, cond: &Cond, is_grouped: bool) -> Result<(), NoMemory>
+    ensures { OnOk result (writer.new ≡ written writer.old (spec.grouped is_grouped (spec.condition_pieces cond.now))) }
+{
+    if !is_grouped {
+        return condition(writer, cond);
+    }
+    writer.symbol(Symbol::Open)?;
+    condition(writer, cond)?;
+    writer.symbol(Symbol::Close)?;
+    Ok(())
+}
+
+#[tactic(auto, unfolding(crate::specs::Canonical::filter_pieces))]
+fn filter(writer: &mut Writer, cond: &Option<Cond>) -> Result<(), NoMemory>
+    ensures { OnOk result (writer.new ≡ written writer.old (spec.filter_pieces cond.now)) }
+{
+    match cond {
+        Some(cond) => {
+            writer.symbol(Symbol::Where)?;
+            condition(writer, cond)?;
+        }
+        None => {}
+    }
+    Ok(())
+}
+
+#[tactic(auto, unfolding(crate::specs::Canonical::assignment_pieces))]
+fn assignment(writer: &mut Writer, set: &(Text, Expr)) -> Result<(), NoMemory>
+    ensures { OnOk result (writer.new ≡ written writer.old (spec.assignment_pieces set.now)) }
+{
+    writer.name(set.0.as_str())?;
+    writer.symbol(Symbol::Equal)?;
+    expr(writer, &set.1)?;
+    Ok(())
+}
+
+fn names(writer: &mut Writer, names: &[Text]) -> Result<(), NoMemory>
+    ensures { OnOk result (writer.new ≡ written writer.old (spec.comma_separated (λ n. spec.Name n ∷ []) names.now)) }
+{
+    let [first, rest @ ..] = names else {
+        return Ok(());
+    };
+    writer.name(first.as_str())?;
+    for name in rest {
+        writer.symbol(Symbol::Comma)?;
+        writer.name(name.as_str())?;
+    }
+    Ok(())
+}
+
+fn values(writer: &mut Writer, values: &[Value]) -> Result<(), NoMemory>
+    ensures { OnOk result (writer.new ≡ written writer.old (spec.comma_separated (λ v. spec.value_piece v ∷ []) values.now)) }
+{
+    let [first, rest @ ..] = values else {
+        return Ok(());
+    };
+    value(writer, first)?;
+    for next in rest {
+        writer.symbol(Symbol::Comma)?;
+        value(writer, next)?;
+    }
+    Ok(())
+}
+
+#[tactic(auto, using(crate::proofs::Written::written_append), unfolding(crate::specs::Canonical::tuple_pieces))]
+fn tuple(writer: &mut Writer, tuple: &List<Value>) -> Result<(), NoMemory>
+    ensures { OnOk result (writer.new ≡ written writer.old (spec.tuple_pieces tuple.now)) }
+{
+    writer.symbol(Symbol::Open)?;
+    values(writer, tuple.as_slice())?;
+    writer.symbol(Symbol::Close)?;
+    Ok(())
+}
+
+#[tactic(auto, using(crate::proofs::Written::written_append))]
+fn tuples(writer: &mut Writer, tuples: &[List<Value>]) -> Result<(), NoMemory>
+    ensures { OnOk result (writer.new ≡ written writer.old (spec.comma_separated spec.tuple_pieces tuples.now)) }
+{
+    let [first, rest @ ..] = tuples else {
+        return Ok(());
+    };
+    tuple(writer, first)?;
+    for next in rest {
+        writer.symbol(Symbol::Comma)?;
+        tuple(writer, next)?;
+    }
+    Ok(())
+}
+
+#[tactic(auto, using(crate::proofs::Written::written_append))]
+fn assignments(writer: &mut Writer, sets: &[(Text, Expr)]) -> Result<(), NoMemory>
+    ensures { OnOk result (writer.new ≡ written writer.old (spec.comma_separated spec.assignment_pieces sets.now)) }
+{
+    let [first, rest @ ..] = sets else {
+        return Ok(());
+    };
+    assignment(writer, first)?;
+    for next in rest {
+        writer.symbol(Symbol::Comma)?;
+        assignment(writer, next)?;
+    }
+    Ok(())
+}
+
+#[tactic(auto, using(crate::proofs::Written::written_append), unfolding(crate::specs::Canonical::pieces))]
+fn statement(writer: &mut Writer, stmt: &Stmt) -> Result<(), NoMemory>
+    ensures { OnOk result (writer.new ≡ written writer.old (spec.pieces stmt.now)) }
+{
+    match stmt {
+        Stmt::Insert {
+            table,
+            columns,
+            rows,
+        } => {
+            writer.symbol(Symbol::Insert)?;
+            writer.symbol(Symbol::Into)?;
+            writer.name(table.as_str())?;
+            writer.symbol(Symbol::Open)?;
+            names(writer, columns.as_slice())?;
+            writer.symbol(Symbol::Close)?;
+            writer.symbol(Symbol::Values)?;
+            tuples(writer, rows.as_slice())?;
+        }
+        Stmt::Update { table, sets, cond } => {
+            writer.symbol(Symbol::Update)?;
+            writer.name(table.as_str())?;
+            writer.symbol(Symbol::Set)?;
+            assignments(writer, sets.as_slice())?;
+            filter(writer, cond)?;
+        }
+        Stmt::Delete { table, cond } => {
+            writer.symbol(Symbol::Delete)?;
+            writer.symbol(Symbol::From)?;
+            writer.name(table.as_str())?;
+            filter(writer, cond)?;
+        }
+        Stmt::Select { table, cond } => {
+            writer.symbol(Symbol::Select)?;
+            writer.symbol(Symbol::Star)?;
+            writer.symbol(Symbol::From)?;
+            writer.name(table.as_str())?;
+            filter(writer, cond)?;
+            writer.symbol(Symbol::For)?;
+            writer.symbol(Symbol::Update)?;
+        }
+    }
+    Ok(())
+}
+
+/// The one canonical text of a statement that `read_stmt` can give. It reads as that statement.
+#[tactic(auto, using(crate::proofs::Written::written_text), unfolding(crate::specs::Canonical::canonical_text))]
+pub fn write_stmt(alloc: Global, stmt: &Stmt) -> Result<String, NoMemory>
+    requires { IsReadable stmt.now }
+    ensures text { IfOk result (λ t. string_bytes t ≡ canonical_text stmt.now) }
+    ensures reads_back { IfOk result (λ t. reading (string_bytes t) ≡ Ok stmt.now) }
+{
+    let mut writer = Writer::new(alloc);
+    statement(&mut writer, stmt)?;
+    Ok(writer.into_text())
+}
