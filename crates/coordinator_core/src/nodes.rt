@@ -1,0 +1,102 @@
+//! The coordinator as a node.
+ghost use Rattle.std.specs.Prelude.{◌+◌, ◌<◌, ◌^◌};
+ghost use Rattle.indexmap.specs.IndexMap.{index_map_len};
+
+use crate::sessions::Session;
+use crate::table::Table;
+use history_text::Node;
+use seata_types::{Input, NoMemory, NodeError, Place, Step, Xid};
+use std::alloc::Global;
+
+/// A node makes fewer than `2^32 - 1` steps.
+const STEPS: u32 = u32::MAX - 1;
+
+/// The transaction coordinator, in memory.
+#[derive(Drop)]
+pub struct Coordinator {
+    table: Table,
+    left: u32,
+    ghost room: { index_map_len table.sessions + left < 2 ^ 32 },
+}
+
+impl Coordinator {
+    ghost use Rattle.std.specs.Prelude.{◌≡◌, [], List, ℕ, Option, Some, None, IsSome, ◌↔◌, ◌<◌, ◌≤◌};
+    ghost use Rattle.history_text.specs.Own.{Own};
+    ghost use Rattle.history_text.specs.CoordinatorRules.{begun};
+    ghost use Rattle.coordinator_core.specs.Standing.{StandsFor, retry_of, steps_of};
+    ghost use Rattle.coordinator_core.specs.Tracks.{session_of};
+
+    /// A coordinator that asks again after so many ticks; takes no memory.
+    #[tactic(auto, unfolding(crate::specs::Standing::StandsFor))]
+    pub fn new(alloc: Global, retry: u64) -> Coordinator
+        ensures fresh { StandsFor result [] }
+        ensures retry { retry_of result ≡ retry }
+        ensures steps { steps_of result ≡ 4294967294 }
+    {
+        Coordinator {
+            table: Table::new(alloc, retry),
+            left: STEPS,
+        }
+    }
+
+    /// The session of a transaction; none where it never began.
+    #[tactic(auto, unfolding(crate::specs::Standing::StandsFor))]
+    pub fn session(&self, xid: Xid) -> Option<Session>
+        ensures { (owns : List Own) → StandsFor self.now owns → result ≡ session_of (retry_of self.now) owns xid.0 }
+    {
+        self.table.session(xid)
+    }
+
+    /// How many transactions began: they are numbered from 1 to this.
+    #[tactic(auto, unfolding(crate::specs::Standing::StandsFor))]
+    pub fn begun(&self) -> usize
+        ensures { (owns : List Own) → StandsFor self.now owns → result ≡ begun owns }
+    {
+        self.table.len()
+    }
+}
+
+impl Node for Coordinator {
+    ghost use Rattle.std.specs.Prelude.{false};
+    ghost use Rattle.history_text.specs.Rules.{Coordinator as CoordinatorRole};
+    ghost use Rattle.coordinator_core.specs.Standing.{StandsFor, retry_of, steps_of};
+
+    ghost role = { λ c. CoordinatorRole (retry_of c) };
+
+    ghost stands_for = { StandsFor };
+
+    ghost left = { steps_of };
+
+    ghost down = { λ _. false };
+
+    ghost faults = { λ _. 0 };
+
+    ghost overflows = { λ _ _. ⊥ };
+
+    fn place(&self) -> Place {
+        Place::Tc
+    }
+
+    #[tactic(auto, unfolding(crate::specs::Standing::StandsFor))]
+    fn step(&mut self, _alloc: Global, input: Input, now: u64) -> Result<Step, NodeError> {
+        match self.table.answer(&input, now) {
+            Ok(step) => {
+                drop(input);
+                self.left -= 1;
+                Ok(step)
+            }
+            Err(NoMemory) => {
+                drop(input);
+                Err(NodeError::NoMemory)
+            }
+        }
+    }
+
+    fn is_down(&self) -> bool {
+        false
+    }
+
+    fn steps_left(&self) -> u32 {
+        self.left
+    }
+}

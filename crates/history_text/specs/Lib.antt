@@ -1,0 +1,9 @@
+pub mod Notes
+pub mod Own
+pub mod CoordinatorRules
+pub mod ManagerRules
+pub mod Rules
+pub mod History
+pub mod Lines
+pub mod Report
+pub mod Safety

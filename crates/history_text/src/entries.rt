@@ -1,0 +1,40 @@
+//! The entries of a history, as they are printed.
+use crate::notes::Note;
+use seata_types::{Act, List, Place, Text};
+
+/// What brought an entry about. `Missing` is the delivery of a message that isn't there.
+#[derive(Clone, Copy)]
+pub enum Cause {
+    Turn,
+    Deliver { stamp: u32, from: Place },
+    Missing { stamp: u32 },
+    Wait { ticks: u64 },
+    Stop { calls: u32 },
+    Crash,
+    Restart { pick: u16, calls: Option<u32> },
+}
+
+/// A message that an entry sent, as its line shows it.
+#[derive(Drop)]
+pub struct Sent {
+    pub to: Place,
+    pub note: Note,
+}
+
+/// One event at one place: its number, where and when, why, what was done and what was sent.
+#[derive(Drop)]
+pub struct Entry {
+    pub stamp: u32,
+    pub place: Place,
+    pub now: u64,
+    pub cause: Cause,
+    pub act: Act,
+    pub sent: Option<Sent>,
+}
+
+/// The names of the resources and of the managers, each counted from 1.
+#[derive(Drop)]
+pub struct Names {
+    pub resources: List<Text>,
+    pub managers: List<Text>,
+}

@@ -1,0 +1,114 @@
+//! The parts of a line: places, identities, values, keys and rows. Each appends to a text; after
+//! want of memory the text is cut somewhere.
+ghost use Rattle.std.specs.Prelude.{◌≡◌, ◌++◌, codes, OnOk, string_bytes};
+ghost use Rattle.history_text.specs.Lines as lines;
+
+use crate::entries::Names;
+use seata_types::{Place, Row, RowKey, Text, Value};
+use std::alloc::AllocError;
+
+/// The n-th name, counted from 1; where there is none, a letter and the number.
+fn put_name(out: &mut String, letter: &str, names: &[Text], n: u16) -> Result<(), AllocError>
+    ensures { OnOk result (string_bytes out.new ≡ string_bytes out.old ++ lines.name_text letter.now names.now n) }
+{
+    if n > 0
+        && let Some(name) = names.get(n as usize - 1)
+    {
+        return write!(out, "{}", name.as_str());
+    }
+    write!(out, "{letter}{n}")
+}
+
+/// A place, by its node's name.
+pub fn put_place(out: &mut String, place: Place, names: &Names) -> Result<(), AllocError>
+    ensures { OnOk result (string_bytes out.new ≡ string_bytes out.old ++ lines.place_text names.now place) }
+{
+    match place {
+        Place::Net => write!(out, "net"),
+        Place::Tc => write!(out, "tc"),
+        Place::Res(n) => put_name(out, "r", names.resources.as_slice(), n),
+        Place::Man(n) => put_name(out, "m", names.managers.as_slice(), n),
+    }
+}
+
+/// A text with each quote doubled.
+fn put_quoted(out: &mut String, text: &str) -> Result<(), AllocError>
+    ensures { OnOk result (string_bytes out.new ≡ string_bytes out.old ++ lines.quoted text.now) }
+{
+    let mut rest = text;
+    while let Some((before, after)) = rest.split_once('\'') {
+        write!(out, "{before}''")?;
+        rest = after;
+    }
+    write!(out, "{rest}")
+}
+
+/// A value as a statement's literal.
+fn put_literal(out: &mut String, value: &Value) -> Result<(), AllocError>
+    ensures { OnOk result (string_bytes out.new ≡ string_bytes out.old ++ lines.literal_text value.now) }
+{
+    match value {
+        Value::Int(number) => write!(out, "{number}"),
+        Value::Text(text) => {
+            write!(out, "'")?;
+            put_quoted(out, text.as_str())?;
+            write!(out, "'")
+        }
+    }
+}
+
+/// A key, as `A.acc:1`.
+pub fn put_key(out: &mut String, key: &RowKey, names: &Names) -> Result<(), AllocError>
+    ensures { OnOk result (string_bytes out.new ≡ string_bytes out.old ++ lines.key_text names.now key.now) }
+{
+    put_name(out, "r", names.resources.as_slice(), key.resource)?;
+    write!(out, ".{}:", key.table.as_str())?;
+    put_literal(out, &key.pk)
+}
+
+/// The keys of locks, as `acc:1,2;stock:1`, or `-` for none.
+pub fn put_keys(out: &mut String, keys: &[RowKey]) -> Result<(), AllocError>
+    ensures { OnOk result (string_bytes out.new ≡ string_bytes out.old ++ lines.keys_text keys.now) }
+{
+    let Some((first, rest)) = keys.split_first() else {
+        return write!(out, "-");
+    };
+    write!(out, "{}:", first.table.as_str())?;
+    put_literal(out, &first.pk)?;
+    let mut table = &first.table;
+    for key in rest {
+        if *table == key.table {
+            write!(out, ",")?;
+        } else {
+            write!(out, ";{}:", key.table.as_str())?;
+        }
+        put_literal(out, &key.pk)?;
+        table = &key.table;
+    }
+    Ok(())
+}
+
+/// A row, as `(1, 900)`.
+pub fn put_row(out: &mut String, row: &Row) -> Result<(), AllocError>
+    ensures { OnOk result (string_bytes out.new ≡ string_bytes out.old ++ lines.row_text row.now) }
+{
+    write!(out, "(")?;
+    if let Some((first, rest)) = row.0.as_slice().split_first() {
+        put_literal(out, first)?;
+        for value in rest {
+            write!(out, ", ")?;
+            put_literal(out, value)?;
+        }
+    }
+    write!(out, ")")
+}
+
+/// A row, or `-` for none.
+pub fn put_option_row(out: &mut String, row: &Option<Row>) -> Result<(), AllocError>
+    ensures { OnOk result (string_bytes out.new ≡ string_bytes out.old ++ lines.option_row_text row.now) }
+{
+    match row {
+        Some(row) => put_row(out, row),
+        None => write!(out, "-"),
+    }
+}

@@ -1,0 +1,7 @@
+mod Begun
+mod Concluded
+mod Flow
+mod Histories
+mod Played
+mod Spoken
+mod Stepped

@@ -1,0 +1,250 @@
+-- What a run keeps after each kind of step.
+use Rattle.std.proofs.Common.{◌≡◌, ◌≢◌, ◌+◌, ◌*◌, ◌-◌, ◌<◌, ◌≤◌, ◌==◌, ℕ, zero, suc, nat_eq, nat_lt, Bool, true, false, List, [], ◌∷◌, ◌++◌, length, slice_get, Option, Some, None, option_map, refl, ap, sym, subst, ◌∙◌, arith, length-append, add-one}
+use Rattle.std.proofs.lemmas.Bool.Decides.{nat_tests}
+use Rattle.std.proofs.lemmas.Option.{same_Some}
+use Rattle.seata_types.specs.declared.acts.Act.TheVariants as act
+use Rattle.seata_types.specs.declared.ids.Place.{Place}
+use Rattle.seata_types.specs.declared.ids.Place.TheVariants as place
+use Rattle.seata_types.specs.declared.messages.Input.{Input}
+use Rattle.seata_types.specs.declared.messages.Input.TheVariants as input
+use Rattle.seata_types.specs.declared.messages.Outgoing.{Outgoing}
+use Rattle.seata_types.specs.declared.messages.Step.{Step}
+use Rattle.scenario_reader.specs.Runnable.{IsPlaceAmong}
+use Rattle.scenario_reader.specs.declared.scenarios.ManagerDef.{ManagerDef}
+use Rattle.scenario_reader.specs.declared.scenarios.Scenario.{Scenario}
+use Rattle.scenario_reader.specs.declared.scenarios.ScheduleItem.{ScheduleItem}
+use Rattle.scenario_reader.specs.declared.scenarios.ScheduleItem.TheVariants as item
+use Rattle.history_text.specs.declared.entries.Cause.{Cause}
+use Rattle.history_text.specs.declared.entries.Cause.TheVariants as cause
+use Rattle.history_text.specs.declared.entries.Entry.{Entry}
+use Rattle.history_text.specs.Own.{Event, Given, still}
+use Rattle.history_text.specs.Rules.{Role, Coordinator as CoordinatorRole, Manager as ManagerRole}
+use Rattle.history_text.specs.History.{Moment, ticks_of, IsAnswer, IsDone, Stands, IsStep, IsNamed, ComesToNone, entries, entry_of, own, role_at, manager_role, settings_of, clock, Legal, Follows, brings, delivered, same_place, sent_at, sent_from}
+use Rattle.seata_lab.specs.declared.runner.Letter.{Letter}
+use Rattle.seata_lab.specs.declared.runner.Run.{Run}
+use Rattle.seata_lab.specs.Runs.{CanStep, Plays, Nodes, AllPost, IsPost, IsNode, IsGiven, Gives, IsRecorded, PlaysOn, letters, letter_of, letter_at, letter_from, the_letter, next, printed_entry}
+use Rattle.seata_lab.proofs.Histories.{last_stamp_is, owned_clock-le, letters_at, Found, same_place-refl, snoc_below, snoc_end, snoc_past, length-letters}
+use Rattle.seata_lab.proofs.Stepped.{nodes_net, StepsAt}
+
+length-entries : (ms : List Moment) → length (entries ms) ≡ length ms
+length-entries [] = refl
+length-entries (m ∷ ms) = let rest = length-entries ms in omega (arith, length-append (entries ms) (entry_of m ∷ []), rest)
+
+-- ---- places
+
+item_at : {A : Type 0} (xs : List A) (k : ℕ) → k < length xs → (x : A) × (slice_get xs k ≡ Some x)
+item_at [] k below = absurd (omega arith)
+item_at (x ∷ xs) zero below = (x, refl)
+item_at (x ∷ xs) (suc k) below = item_at xs k (omega arith)
+
+-- a place among the nodes is one
+pub node_at : (s : Scenario) (p : Place) → IsPlaceAmong (length s.managers) p → IsNode s p
+node_at s place.Net among = absurd among
+node_at s place.Tc among = (CoordinatorRole s.retry, refl)
+node_at s (place.Res n) among = absurd among
+node_at s (place.Man zero) among = absurd (let low = among.0 in omega (arith, low))
+node_at s (place.Man (suc k)) among =
+    let found = item_at s.managers k (let high = among.1 in omega (arith, high)) in
+    (ManagerRole (settings_of (suc k) found.0), rw found.1 refl)
+
+-- a message that was sent goes between nodes
+pub letter_posts : (s : Scenario) (ms : List Moment) → AllPost s ms → (k : ℕ) (l : Letter) → letter_at k (letters ms) ≡ Some l → IsPost s l.from l.to l.message
+letter_posts s ms post zero l e = absurd (let no : None ≡ Some l = e in cc)
+letter_posts s ms post (suc k) l e = from ms post k e
+  where
+    here : (m : Moment) → ((out : Outgoing) → m.step.sent ≡ Some out → IsPost s m.place out.to out.message)
+        → (o : Option Outgoing) → m.step.sent ≡ o → option_map (letter_from m.place) o ≡ Some l → IsPost s l.from l.to l.message
+    here m posts None is h = absurd (let no : None ≡ Some l = h in cc)
+    here m posts (Some out) is h = subst (λ k. IsPost s k.from k.to k.message) (same_Some _ l h) (posts out is)
+
+    from : (ms : List Moment) → AllPost s ms → (k : ℕ) → the_letter (slice_get (letters ms) k) ≡ Some l → IsPost s l.from l.to l.message
+    from [] post k e = absurd (let no : None ≡ Some l = e in cc)
+    from (m ∷ ms) post k e = by (nat_lt k (length (letters ms))) refl (nat_eq k (length (letters ms))) refl (from ms post.0 k) e
+      where
+        by : (b : Bool) → nat_lt k (length (letters ms)) ≡ b → (c : Bool) → nat_eq k (length (letters ms)) ≡ c
+            → (the_letter (slice_get (letters ms) k) ≡ Some l → IsPost s l.from l.to l.message)
+            → the_letter (slice_get (letters ms ++ letter_of m ∷ []) k) ≡ Some l → IsPost s l.from l.to l.message
+        by true below c is before h =
+            let within : k < length (letters ms) = grind (arith, nat_tests) in
+            before (sym (ap the_letter (snoc_below (letters ms) (letter_of m) k within)) ∙ h)
+        by false above true is before h =
+            let end : k ≡ length (letters ms) = grind (arith, nat_tests) in
+            let last : slice_get (letters ms ++ letter_of m ∷ []) k ≡ Some (letter_of m) = rw end (snoc_end (letters ms) (letter_of m)) in
+            here m post.1 m.step.sent refl (sym (ap the_letter last) ∙ h)
+        by false above false is before h =
+            let past : length (letters ms) < k = grind (arith, nat_tests) in
+            let none : None ≡ Some l = sym (ap the_letter (snoc_past (letters ms) (letter_of m) k past)) ∙ h in
+            absurd (let no : None ≡ Some l = none in cc)
+
+-- ---- one moment more
+
+-- a moment of the run is made: how many ticks passed, and what the rules say of it
+pub record Made (s : Scenario) (old new : Run) (ms : List Moment) (m : Moment) (step : ScheduleItem) : Type 0 where
+  pub nodes : Nodes s new.coordinator new.managers.items (m ∷ ms)
+  pub kept : new.letters.items ≡ old.letters.items ++ letter_of m ∷ []
+  pub printed : new.entries.items ≡ old.entries.items ++ entry_of m ∷ []
+  pub clocked : new.clock ≡ m.now
+  pub slow : m.now ≤ (length ms + 1) * 1000000000
+  pub stands : Stands s ms m
+  pub is_step : IsStep (Some step) ms m
+  pub posts : (out : Outgoing) → m.step.sent ≡ Some out → IsPost s m.place out.to out.message
+
+plays_more : (s : Scenario) (old new : Run) (ms : List Moment) (m : Moment) (step : ScheduleItem) → Plays s old ms
+    → slice_get s.schedule (length ms) ≡ Some step → Made s old new ms m step → Plays s new (m ∷ ms)
+plays_more s old new ms m step t at made = record {
+  nodes = made.nodes;
+  printed = made.printed ∙ ap (λ es. es ++ entry_of m ∷ []) t.printed;
+  sent = made.kept ∙ ap (λ ls. ls ++ letter_of m ∷ []) t.sent;
+  clocked = made.clocked;
+  slow = let now = made.clocked in let slow = made.slow in omega (arith, now, slow);
+  legal = (t.legal, made.stands);
+  follows = (t.follows, subst (λ o. IsStep o ms m) (sym at) made.is_step);
+  post = (t.post, made.posts);
+}
+
+module _ (s : Scenario) (old : Run) (ms : List Moment) (t : Plays s old ms) where
+  -- there are as many entries as moments
+  pub size : length old.entries.items ≡ length ms
+  size = ap length t.printed ∙ length-entries ms
+
+  -- how many entries there are, as a bound
+  pub few_moments : length old.entries.items < 20000 → length ms < 20000
+  few_moments short = let e = size in omega (arith, e)
+
+  rising : (p : Place) (now : ℕ) (why : Cause) (event : Option Event) (step : Step) → old.clock ≤ now
+      → event ≡ brings ms p why → IsDone s ms (next ms p now why event step) event → Stands s ms (next ms p now why event step)
+  rising p now why event step later brought done = record {
+    rises = let e = last_stamp_is s ms t.follows in omega (arith, e);
+    clock_rises = λ at. let le = owned_clock-le s place.Tc ms t.follows in let now_is = t.clocked in omega (arith, le, now_is);
+    brought = brought;
+    done = done;
+  }
+
+  -- a node took a step
+  given_made : (new : Run) (p : Place) (why : Cause) (given : Input) (step : ScheduleItem) → Gives old new p why given → IsNode s p → IsGiven s given
+      → Some (Given given) ≡ brings ms p why → ((m : Moment) → m.place ≡ p → m.cause ≡ why → IsNamed step m.place m.cause) → ticks_of step ≡ 0
+      → (m : Moment) × Made s old new ms m step
+  given_made new p why given step gives node is_given brought named still_time =
+      let g = gives s ms t.nodes node in
+      let m : Moment = next ms p old.clock why (Some (Given given)) g.0 in (
+        m,
+        record {
+          nodes = g.2;
+          kept = g.4;
+          printed = g.5 ∙ ap (λ n. old.entries.items ++ printed_entry n p old.clock why g.0 ∷ []) size;
+          clocked = g.6;
+          slow = let slow = t.slow in omega (arith, slow);
+          stands = rising p old.clock why (Some (Given given)) g.0 (omega arith) brought g.1;
+          is_step = (refl, (let now_is = t.clocked in omega (arith, now_is, still_time)), named m refl refl);
+          posts = g.3 is_given t.post;
+        },
+      )
+
+  -- the network did nothing
+  passed_made : (mid new : Run) (why : Cause) (step : ScheduleItem) → IsRecorded mid new place.Net why (still act.Nothing)
+      → mid.coordinator ≡ old.coordinator → mid.managers ≡ old.managers → mid.letters ≡ old.letters → mid.entries ≡ old.entries
+      → mid.clock ≡ old.clock + ticks_of step → ticks_of step ≤ 1000000000
+      → None ≡ brings ms place.Net why → ComesToNone ms place.Net why → IsNamed step place.Net why
+      → (m : Moment) × Made s old new ms m step
+  passed_made mid new why step rec same_coordinator same_managers same_letters same_entries time short brought comes named =
+      let m : Moment = next ms place.Net mid.clock why None (still act.Nothing) in (
+        m,
+        record {
+          nodes = subst (λ c. Nodes s c new.managers.items (m ∷ ms)) (sym (rec.same_coordinator ∙ same_coordinator))
+              (subst (λ l. Nodes s old.coordinator l (m ∷ ms)) (sym (ap (λ v. v.items) (rec.same_managers ∙ same_managers)))
+              (nodes_net s old.coordinator old.managers.items ms mid.clock why (still act.Nothing) t.nodes));
+          kept = rec.kept ∙ ap (λ v. v.items ++ None ∷ []) same_letters;
+          printed = rec.printed ∙ ap (λ v. v.items ++ printed_entry (length v.items) place.Net mid.clock why (still act.Nothing) ∷ []) same_entries
+              ∙ ap (λ n. old.entries.items ++ printed_entry n place.Net mid.clock why (still act.Nothing) ∷ []) size;
+          clocked = rec.same_clock;
+          slow = let slow = t.slow in omega (arith, slow, time, short);
+          stands = rising place.Net mid.clock why None (still act.Nothing) (omega (arith, time)) brought (comes, refl);
+          is_step = (refl, (let now_is = t.clocked in omega (arith, now_is, time)), named);
+          posts = λ out e. absurd (let no : None ≡ Some out = e in cc);
+        },
+      )
+
+-- ---- the steps of the schedule
+
+module _ (s : Scenario) (old : Run) (ms : List Moment) (t : Plays s old ms) where
+  more : (new : Run) (step : ScheduleItem) → slice_get s.schedule (length ms) ≡ Some step → (m : Moment) × Made s old new ms m step
+      → (m : Moment) × Plays s new (m ∷ ms)
+  more new step at (m, made) = (m, plays_more s old new ms m step t at made)
+
+  pub turn_plays : (new : Run) (p : Place) → Gives old new p cause.Turn input.Turn → IsNode s p
+      → slice_get s.schedule (length ms) ≡ Some (item.Turn p) → (m : Moment) × Plays s new (m ∷ ms)
+  turn_plays new p gives node at =
+      more new (item.Turn p) at (given_made s old ms t new p cause.Turn input.Turn (item.Turn p) gives node tt refl (λ m here why. (here, why)) refl)
+
+  pub wait_plays : (mid new : Run) (ticks : ℕ) → IsRecorded mid new place.Net (cause.Wait ticks) (still act.Nothing)
+      → mid.coordinator ≡ old.coordinator → mid.managers ≡ old.managers → mid.letters ≡ old.letters → mid.entries ≡ old.entries
+      → mid.clock ≡ old.clock + ticks → ticks ≤ 1000000000
+      → slice_get s.schedule (length ms) ≡ Some (item.Wait ticks) → (m : Moment) × Plays s new (m ∷ ms)
+  wait_plays mid new ticks rec a b c d time short at =
+      more new (item.Wait ticks) at (passed_made s old ms t mid new (cause.Wait ticks) (item.Wait ticks) rec a b c d time short refl tt (refl, refl))
+
+  -- what the letters say of a stamp
+  found : (stamp : ℕ) (r : Option Letter) → letter_at stamp old.letters.items ≡ r → Found s stamp ms r
+  found stamp r e = subst (λ o. Found s stamp ms o) (ap (letter_at stamp) (sym t.sent) ∙ e) (letters_at s ms t.follows stamp)
+
+  pub missing_plays : (new : Run) (stamp : ℕ) → IsRecorded old new place.Net (cause.Missing stamp) (still act.Nothing)
+      → letter_at stamp old.letters.items ≡ None
+      → slice_get s.schedule (length ms) ≡ Some (item.Deliver stamp) → (m : Moment) × Plays s new (m ∷ ms)
+  missing_plays new stamp rec none at =
+      more new (item.Deliver stamp) at
+      (passed_made s old ms t old new (cause.Missing stamp) (item.Deliver stamp) rec refl refl refl refl (omega arith) (omega arith) refl (found stamp None none) refl)
+
+  letter_node : (stamp : ℕ) (l : Letter) → letter_at stamp old.letters.items ≡ Some l → IsPost s l.from l.to l.message
+  letter_node stamp l e = letter_posts s ms t.post stamp l (ap (letter_at stamp) (sym t.sent) ∙ e)
+
+  pub receiver_node : (stamp : ℕ) (l : Letter) → letter_at stamp old.letters.items ≡ Some l → IsNode s l.to
+  receiver_node stamp l e = (letter_node stamp l e).receiver
+
+  pub deliver_plays : (new : Run) (stamp : ℕ) (l : Letter) → letter_at stamp old.letters.items ≡ Some l
+      → Gives old new l.to (cause.Deliver stamp l.from) (input.Message l.from l.message)
+      → slice_get s.schedule (length ms) ≡ Some (item.Deliver stamp) → (m : Moment) × Plays s new (m ∷ ms)
+  deliver_plays new stamp l e gives at =
+      let post = letter_node stamp l e in
+      let sent : sent_from l.from stamp ms ≡ Some (record { to = l.to; message = l.message }) = found stamp (Some l) e in
+      more new (item.Deliver stamp) at
+      (given_made s old ms t new l.to (cause.Deliver stamp l.from) (input.Message l.from l.message) (item.Deliver stamp) gives post.receiver
+      (post.sender, post.named) (rw (sent, same_place-refl l.to) refl) (λ m here why. named_by m why) refl)
+    where
+      named_by : (m : Moment) → m.cause ≡ cause.Deliver stamp l.from → IsNamed (item.Deliver stamp) m.place m.cause
+      named_by m why = subst (λ w. IsNamed (item.Deliver stamp) m.place w) (sym why) refl
+
+  -- the clock of a short run
+  pub slow_clock : length old.entries.items < 20000 → old.clock ≤ 20000000000000
+  slow_clock short =
+      let few = few_moments s old ms t short in
+      let slow = t.slow in
+      omega (arith, few, slow)
+
+  pub can_step : (p : Place) → length old.entries.items < 20000 → IsNode s p → CanStep old p
+  can_step p short node = record { s = s; ms = ms; nodes = t.nodes; node = node; short = few_moments s old ms t short }
+
+  -- a node among those of the run
+  pub run_node : (p : Place) → IsPlaceAmong (length old.managers.items) p → IsNode s p
+  run_node p among = node_at s p (subst (λ n. IsPlaceAmong n p) t.nodes.count among)
+
+-- a step was taken and its entry added
+pub gives_by : (s : Scenario) (ms : List Moment) (old mid new : Run) (p : Place) (why : Cause) (given : Input) (step : Step)
+    → StepsAt s mid.coordinator mid.managers.items ms p given old.clock why step → mid.letters ≡ old.letters → mid.entries ≡ old.entries → mid.clock ≡ old.clock
+    → IsRecorded mid new p why step
+    → (step : Step) × IsAnswer (role_at s p) (own p ms) (Given given) old.clock step
+    × Nodes s new.coordinator new.managers.items (next ms p old.clock why (Some (Given given)) step ∷ ms)
+    × (IsGiven s given → AllPost s ms → (out : Outgoing) → step.sent ≡ Some out → IsPost s p out.to out.message)
+    × (new.letters.items ≡ old.letters.items ++ option_map (letter_from p) step.sent ∷ [])
+    × (new.entries.items ≡ old.entries.items ++ printed_entry (length old.entries.items) p old.clock why step ∷ [])
+    × (new.clock ≡ old.clock)
+gives_by s ms old mid new p why given step st letters_same entries_same clock_same rec = (
+  step,
+  st.0,
+  subst (λ c. Nodes s c new.managers.items (next ms p old.clock why (Some (Given given)) step ∷ ms)) (sym rec.same_coordinator)
+      (subst (λ l. Nodes s mid.coordinator l (next ms p old.clock why (Some (Given given)) step ∷ ms)) (sym (ap (λ v. v.items) rec.same_managers)) st.1),
+  st.2,
+  rec.kept ∙ ap (λ v. v.items ++ option_map (letter_from p) step.sent ∷ []) letters_same,
+  rec.printed ∙ ap (λ v. v.items ++ printed_entry (length v.items) p mid.clock why step ∷ []) entries_same
+      ∙ ap (λ n. old.entries.items ++ printed_entry (length old.entries.items) p n why step ∷ []) clock_same,
+  rec.same_clock ∙ clock_same,
+)

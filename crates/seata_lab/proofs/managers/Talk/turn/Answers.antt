@@ -1,0 +1,33 @@
+use Rattle.std.proofs.Common.{refl, false, ap, ◌∙◌, Some, None, Option, Bool}
+use Rattle.seata_types.specs.declared.acts.Act.TheVariants as act
+use Rattle.seata_types.specs.declared.messages.Input.TheVariants as input
+use Rattle.seata_types.specs.declared.messages.Message.TheVariants as message
+use Rattle.history_text.specs.ManagerRules.{sent_count, is_closed, last_sent, manager_turn}
+use Rattle.seata_lab.specs.declared.managers.Phase.TheVariants as phase
+use Rattle.seata_lab.specs.Talks.{IsPhase, settings_of}
+use Rattle.seata_lab.proofs.Spoken.{spoken, phased_as}
+use Rattle.seata_lab.proofs.managers.Talk.turn.Goals as goal
+
+pub returns-in-Unstarted-clause-takes : goal.returns-in-Unstarted-clause-takes
+returns-in-Unstarted-clause-takes c =
+    λ owns t. let p = phased_as c.args.self.now owns (phase.Unstarted) t c.in-Unstarted.is in
+    spoken c.args.self.now owns input.Turn c.args.now act.Starts (message.Begin c.args.self.now.number c.args.self.now.timeout) (phase.Beginning) c.say.new.self c.say.result t c.say.ensures.said c.say.ensures.silent
+    (rw (p.0, p.1) refl) p.0 (refl, refl)
+
+pub returns-in-Beginning-clause-takes : goal.returns-in-Beginning-clause-takes
+returns-in-Beginning-clause-takes c =
+    λ owns t. let p = phased_as c.args.self.now owns (phase.Beginning) t c.in-Beginning.is in
+    spoken c.args.self.now owns input.Turn c.args.now act.Repeats (message.Begin c.args.self.now.number c.args.self.now.timeout) (phase.Beginning) c.say-in-Beginning.new.self c.say-in-Beginning.result t c.say-in-Beginning.ensures.said c.say-in-Beginning.ensures.silent
+    (rw (p.0, p.1) refl) p.0 (refl, refl)
+
+pub returns-in-Committing-clause-takes : goal.returns-in-Committing-clause-takes
+returns-in-Committing-clause-takes c =
+    λ owns t. let p = phased_as c.args.self.now owns (phase.Committing c.in-Committing.xid) t c.in-Committing.is in
+    spoken c.args.self.now owns input.Turn c.args.now act.Repeats (message.GlobalCommit c.in-Committing.xid) (phase.Committing c.in-Committing.xid) c.say-in-Committing.new.self c.say-in-Committing.result t c.say-in-Committing.ensures.said c.say-in-Committing.ensures.silent
+    (rw (p.0, p.1) refl) p.0 (refl, refl)
+
+pub returns-in-RollingBack-clause-takes : goal.returns-in-RollingBack-clause-takes
+returns-in-RollingBack-clause-takes c =
+    λ owns t. let p = phased_as c.args.self.now owns (phase.RollingBack c.in-RollingBack.xid) t c.in-RollingBack.is in
+    spoken c.args.self.now owns input.Turn c.args.now act.Repeats (message.GlobalRollback c.in-RollingBack.xid) (phase.RollingBack c.in-RollingBack.xid) c.say-in-RollingBack.new.self c.say-in-RollingBack.result t c.say-in-RollingBack.ensures.said c.say-in-RollingBack.ensures.silent
+    (rw (p.0, p.1) refl) p.0 (refl, refl)

@@ -1,0 +1,22 @@
+use Rattle.std.proofs.Common.{◌≡◌, ◌∷◌, Some, length, slice_get, sym, ap, ◌∙◌, arith}
+use Rattle.std.proofs.lemmas.Option.{slice_get-get_or}
+use Rattle.seata_lab.proofs.Played.{size}
+use Rattle.seata_lab.proofs.replays.replay.Goals as goal
+
+pub play-requires-clause-short : goal.play-requires-clause-short
+play-requires-clause-short c =
+    let (ms, t, count) = c.loop-step.invariant in
+    let entries = size c.args.scenario.now c.loop-step.run ms t in
+    let whole = ap length c.as_slice-step-items.ensures in
+    let short = c.requires.short in
+    let within = c.loop-step-test.true in
+    omega (arith, entries, count, whole, short, within)
+
+pub loop-step-preserved : goal.loop-step-preserved
+loop-step-preserved c =
+    let (ms, t, count) = c.loop-step.invariant in
+    let at =
+    ap (slice_get c.args.scenario.now.schedule) count ∙ ap (λ l. slice_get l c.loop-step.step-index) (sym c.as_slice-step-items.ensures)
+    ∙ slice_get-get_or c.as_slice-step-items.result.now c.loop-step.step-index _ c.loop-step-test.true in
+    let (m, more) = c.in_ok-play.ensures.plays c.args.scenario.now ms t at in
+    (m ∷ ms, more, omega (arith, count))

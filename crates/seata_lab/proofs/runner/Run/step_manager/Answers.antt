@@ -1,0 +1,18 @@
+use Rattle.std.proofs.Common.{◌≡◌, refl, ap}
+use Rattle.std.proofs.lemmas.Option.{slice_get_read}
+use Rattle.history_text.specs.ManagerRules.{Settings}
+use Rattle.history_text.specs.Rules.{Role, Coordinator, Manager as ManagerRole}
+use Rattle.seata_lab.proofs.Stepped.{manager_role-injective}
+use Rattle.seata_lab.proofs.runner.Run.step_manager.Goals as goal
+
+pub returns-in-Ok-clause-takes : goal.returns-in-Ok-clause-takes
+returns-in-Ok-clause-takes c =
+    record {
+      before = c.index_mut-manager.result.now;
+      after = c.step.new.self;
+      at = slice_get_read _ _ c.args.k _ refl c.requires.there c.index_mut-manager.ensures.value;
+      changed = refl;
+      takes = c.in-Ok.ensures.answers;
+      same = manager_role-injective _ _ c.in-Ok.ensures.same;
+      counted = c.in-Ok.ensures.counted;
+    }

@@ -1,0 +1,185 @@
+-- What a run of the schedule keeps of the history that it made.
+use Rattle.std.specs.Prelude.{◌≡◌, ◌+◌, ◌*◌, ◌<◌, ◌≤◌, ℕ, zero, suc, List, [], ◌∷◌, ◌++◌, length, slice_get, slice_set as set, Option, Some, None, option_map}
+use Rattle.seata_types.specs.declared.ids.Place.{Place}
+use Rattle.seata_types.specs.declared.ids.Place.TheVariants as place
+use Rattle.seata_types.specs.declared.messages.Input.{Input}
+use Rattle.seata_types.specs.declared.messages.Input.TheVariants as input
+use Rattle.seata_types.specs.declared.messages.Message.{Message}
+use Rattle.seata_types.specs.declared.messages.Message.TheVariants as message
+use Rattle.seata_types.specs.declared.messages.Outgoing.{Outgoing}
+use Rattle.seata_types.specs.declared.messages.Step.{Step}
+use Rattle.scenario_reader.specs.declared.scenarios.ManagerDef.{ManagerDef}
+use Rattle.scenario_reader.specs.declared.scenarios.Scenario.{Scenario}
+use Rattle.scenario_reader.specs.declared.scenarios.ScheduleItem.{ScheduleItem}
+use Rattle.scenario_reader.specs.Runnable.{FitsNodes}
+use Rattle.history_text.specs.declared.entries.Cause.{Cause}
+use Rattle.history_text.specs.declared.entries.Entry.{Entry}
+use Rattle.history_text.specs.Notes.{sent_of}
+use Rattle.history_text.specs.Own.{Event, Given}
+use Rattle.history_text.specs.History.{Moment, IsAnswer, entries, own, role_at, clock, Legal, Follows, settings_of}
+use Rattle.history_text.specs.Rules.{Role, Manager as ManagerRole, TakesStep}
+use Rattle.coordinator_core.specs.Standing.{StandsFor, retry_of, steps_of}
+use Rattle.coordinator_core.specs.declared.nodes.Coordinator.{Coordinator}
+use Rattle.seata_lab.specs.ManagerStanding.{StandsFor as ManagerStandsFor, settings, steps_of as manager_steps_of}
+use Rattle.seata_lab.specs.declared.managers.Manager.{Manager}
+use Rattle.seata_lab.specs.declared.runner.Letter.{Letter}
+use Rattle.seata_lab.specs.declared.runner.Run.{Run}
+
+-- a node stands at this place
+abbrev pub IsNode : Scenario → Place → Type 0
+IsNode s p = (role : Role) × (role_at s p ≡ Some role)
+
+-- a Begin names a manager of the scenario
+abbrev pub NamesNode : Scenario → Message → Type 0
+NamesNode s (message.Begin manager timeout) = IsNode s (place.Man manager)
+NamesNode s _ = Unit {0}
+
+-- a message between nodes of the scenario
+pub record IsPost (s : Scenario) (from to : Place) (sent : Message) : Type 0 where
+  pub sender : IsNode s from
+  pub receiver : IsNode s to
+  pub named : NamesNode s sent
+
+-- the message of a moment, with the place that sent it
+abbrev pub letter_from : Place → Outgoing → Letter
+letter_from from out = record { from = from; to = out.to; message = out.message }
+
+abbrev pub letter_of : Moment → Option Letter
+letter_of m = option_map (letter_from m.place) m.step.sent
+
+-- what was sent, oldest first
+abbrev pub letters : List Moment → List (Option Letter)
+letters [] = []
+letters (m ∷ ms) = letters ms ++ letter_of m ∷ []
+
+-- the message that the entry with this stamp sent
+abbrev pub the_letter : Option (Option Letter) → Option Letter
+the_letter None = None
+the_letter (Some found) = found
+
+abbrev pub letter_at : ℕ → List (Option Letter) → Option Letter
+letter_at zero sent = None
+letter_at (suc k) sent = the_letter (slice_get sent k)
+
+-- each message was sent between nodes
+abbrev pub AllPost : Scenario → List Moment → Type 0
+AllPost s [] = Unit {0}
+AllPost s (m ∷ ms) = AllPost s ms × ((out : Outgoing) → m.step.sent ≡ Some out → IsPost s m.place out.to out.message)
+
+-- the manager of this number, counted from 1, is the node of its own entries
+pub record IsManagerOf (s : Scenario) (ms : List Moment) (n : ℕ) (def : ManagerDef) (m : Manager) : Type 0 where
+  pub stands : ManagerStandsFor m (own (place.Man n) ms)
+  pub same : settings m ≡ settings_of n def
+  pub able : 4294967294 ≤ manager_steps_of m + length ms
+
+-- the k-th manager of a list is that of the scenario
+abbrev pub HasManager : Scenario → List Moment → ℕ → List Manager → Type 0
+HasManager s ms k managers =
+    (def : ManagerDef) → slice_get s.managers k ≡ Some def → (m : Manager) × (slice_get managers k ≡ Some m) × IsManagerOf s ms (k + 1) def m
+
+-- the nodes stand for their own entries
+pub record Nodes (s : Scenario) (coordinator : Coordinator) (managers : List Manager) (ms : List Moment) : Type 0 where
+  pub coordinated : StandsFor coordinator (own place.Tc ms)
+  pub retry : retry_of coordinator ≡ s.retry
+  pub able : 4294967294 ≤ steps_of coordinator + length ms
+  pub count : length managers ≡ length s.managers
+  pub managed : (k : ℕ) → HasManager s ms k managers
+
+-- the run made this history
+pub record Plays (s : Scenario) (r : Run) (ms : List Moment) : Type 0 where
+  pub nodes : Nodes s r.coordinator r.managers.items ms
+  pub printed : r.entries.items ≡ entries ms
+  pub sent : r.letters.items ≡ letters ms
+  pub clocked : r.clock ≡ clock ms
+  pub slow : r.clock ≤ length ms * 1000000000
+  pub legal : Legal s ms
+  pub follows : Follows s ms
+  pub post : AllPost s ms
+
+-- the next moment: its stamp is one more than there are moments
+abbrev pub next : List Moment → Place → ℕ → Cause → Option Event → Step → Moment
+next ms at now why event step = record { stamp = length ms + 1; place = at; now = now; cause = why; event = event; step = step }
+
+-- the entry of the next moment, after so many
+abbrev pub printed_entry : ℕ → Place → ℕ → Cause → Step → Entry
+printed_entry count at now why step =
+    record { stamp = count + 1; place = at; now = now; cause = why; act = step.act; sent = option_map sent_of step.sent }
+
+-- an entry was added, with the message that it sent
+pub record IsRecorded (old new : Run) (at : Place) (why : Cause) (step : Step) : Type 0 where
+  pub kept : new.letters.items ≡ old.letters.items ++ option_map (letter_from at) step.sent ∷ []
+  pub printed : new.entries.items ≡ old.entries.items ++ printed_entry (length old.entries.items) at old.clock why step ∷ []
+  pub same_coordinator : new.coordinator ≡ old.coordinator
+  pub same_managers : new.managers ≡ old.managers
+  pub same_clock : new.clock ≡ old.clock
+
+-- a message that a node is given came from a node, and names one
+abbrev pub IsGiven : Scenario → Input → Type 0
+IsGiven s input.Turn = Unit {0}
+IsGiven s (input.Message from heard) = IsNode s from × NamesNode s heard
+
+-- a node of the scenario can take a step after these moments
+pub record CanStep (old : Run) (at : Place) : Type 0 where
+  pub s : Scenario
+  pub ms : List Moment
+  pub nodes : Nodes s old.coordinator old.managers.items ms
+  pub node : IsNode s at
+  pub short : length ms < 20000
+
+-- the k-th manager took a step, and no other
+pub record StepsManager (old new : List Manager) (k : ℕ) (given : Input) (now : ℕ) (step : Step) : Type 0 where
+  pub before : Manager
+  pub after : Manager
+  pub at : slice_get old k ≡ Some before
+  pub changed : new ≡ set old k after
+  pub takes : TakesStep ManagerStandsFor (ManagerRole (settings before)) before after given now step
+  pub same : settings after ≡ settings before
+  pub counted : manager_steps_of after + 1 ≡ manager_steps_of before
+
+-- said of each history that the run's nodes stand for: a node took the step that is its one answer, and the nodes
+-- then stand for the history with that moment
+abbrev pub IsStepOf : Run → Run → Place → Input → Step → Type 0
+IsStepOf old new at given step =
+    (s : Scenario) (ms : List Moment) (why : Cause) → Nodes s old.coordinator old.managers.items ms → IsNode s at
+    → IsAnswer (role_at s at) (own at ms) (Given given) old.clock step
+    × Nodes s new.coordinator new.managers.items (next ms at old.clock why (Some (Given given)) step ∷ ms)
+    × (IsGiven s given → AllPost s ms → (out : Outgoing) → step.sent ≡ Some out → IsPost s at out.to out.message)
+
+-- said likewise: a node took the step that is its one answer, and its entry was added
+abbrev pub Gives : Run → Run → Place → Cause → Input → Type 0
+Gives old new at why given =
+    (s : Scenario) (ms : List Moment) → Nodes s old.coordinator old.managers.items ms → IsNode s at
+    → (step : Step) × IsAnswer (role_at s at) (own at ms) (Given given) old.clock step
+    × Nodes s new.coordinator new.managers.items (next ms at old.clock why (Some (Given given)) step ∷ ms)
+    × (IsGiven s given → AllPost s ms → (out : Outgoing) → step.sent ≡ Some out → IsPost s at out.to out.message)
+    × (new.letters.items ≡ old.letters.items ++ option_map (letter_from at) step.sent ∷ [])
+    × (new.entries.items ≡ old.entries.items ++ printed_entry (length old.entries.items) at old.clock why step ∷ [])
+    × (new.clock ≡ old.clock)
+
+-- the run made a history of a scenario
+abbrev pub CanPlay : Run → Type 0
+CanPlay r = (s : Scenario) × (ms : List Moment) × Plays s r ms
+
+-- a step of the schedule that each scenario of the run's managers can have
+abbrev pub Fits : Run → ScheduleItem → Type 0
+Fits r step = FitsNodes (length r.managers.items) step
+
+-- said of each history that the run made: a step of the schedule adds the moment that it names
+abbrev pub PlaysOn : Run → Run → ScheduleItem → Type 0
+PlaysOn old new step =
+    (s : Scenario) (ms : List Moment) → Plays s old ms → slice_get s.schedule (length ms) ≡ Some step → (m : Moment) × Plays s new (m ∷ ms)
+
+-- the manager of this number, before it does anything
+pub record IsNew (n : ℕ) (def : ManagerDef) (m : Manager) : Type 0 where
+  pub stands : ManagerStandsFor m []
+  pub same : settings m ≡ settings_of n def
+  pub able : manager_steps_of m ≡ 4294967294
+
+-- the managers of these definitions, before they do anything
+pub record AreManagers (defs : List ManagerDef) (managers : List Manager) : Type 0 where
+  pub count : length managers ≡ length defs
+  pub each : (k : ℕ) (def : ManagerDef) → slice_get defs k ≡ Some def → (m : Manager) × (slice_get managers k ≡ Some m) × IsNew (k + 1) def m
+
+-- the run made a history of the whole schedule
+abbrev pub HasPlayed : Scenario → Run → Type 0
+HasPlayed s r = (ms : List Moment) × Plays s r ms × (length ms ≡ length s.schedule)

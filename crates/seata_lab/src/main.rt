@@ -1,0 +1,40 @@
+//! `seata_lab`: reads a scenario from standard input, replays it, and prints the whole history.
+#![tactic(auto)]
+
+mod answers;
+mod managers;
+mod memory;
+mod replays;
+mod reports;
+#[cfg(test)]
+mod rows;
+mod runner;
+mod standard;
+mod streams;
+#[cfg(test)]
+mod tests;
+mod tops;
+mod transfer;
+mod words;
+
+use seata_types::Text;
+use standard::{StdSink, StdSource};
+use std::env;
+use std::process::ExitCode;
+use tops::{MEMORY, top};
+
+fn main(rt: HostRuntime) -> ExitCode {
+    let mut words = Vec::new(rt.alloc());
+    // Where the words can't be had there are none, and the usage line answers that.
+    if let Ok(given) = env::args(&rt) {
+        // The first word is the program's own name.
+        for word in given.skip(1) {
+            if words.push(Text::of(word)).is_err() {
+                return ExitCode::from(MEMORY);
+            }
+        }
+    }
+    let mut source = StdSource::new(rt.stdin());
+    let mut sink = StdSink::new(rt.stdout());
+    ExitCode::from(top(rt.alloc(), words.as_slice(), &mut source, &mut sink))
+}

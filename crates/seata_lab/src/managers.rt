@@ -1,0 +1,242 @@
+//! A manager as a node. It stands here until managers make calls.
+ghost use Rattle.std.specs.Prelude.{◌+◌, ◌<◌, ◌^◌};
+
+use history_text::{Node, sends, still};
+use seata_types::{Act, Ending, GlobalStatus, Input, Message, NodeError, Place, Step, Xid};
+use std::alloc::Global;
+
+/// A node makes fewer than `2^32 - 1` steps.
+const STEPS: u32 = u32::MAX - 1;
+
+/// What a manager waits for: its first turn, or the answer to its last message.
+#[derive(Clone, Copy)]
+pub enum Phase {
+    Unstarted,
+    Beginning,
+    Committing(Xid),
+    RollingBack(Xid),
+    Closed,
+}
+
+/// A manager's settings, how many messages it sent, and what it waits for.
+#[derive(Clone, Copy)]
+pub struct Talk {
+    pub number: u16,
+    pub timeout: u64,
+    pub ending: Ending,
+    pub silent: Option<u32>,
+    pub sent: u32,
+    pub phase: Phase,
+}
+
+impl Talk {
+    ghost use Rattle.std.specs.Prelude.{◌≡◌, ◌<◌, ◌≤◌, ◌+◌, ◌^◌, true, false, [], List, ◌==◌};
+    ghost use Rattle.seata_types.specs.declared.acts.Act.TheVariants as acts;
+    ghost use Rattle.seata_types.specs.declared.ids.Place.TheVariants as place;
+    ghost use Rattle.seata_types.specs.declared.messages.Input.TheVariants as input;
+    ghost use Rattle.seata_types.specs.declared.messages.Message.TheVariants as message;
+    ghost use Rattle.history_text.specs.Own as own;
+    ghost use Rattle.history_text.specs.ManagerRules as rules;
+    ghost use Rattle.history_text.specs.Rules.{Manager as ManagerRole, TakesStep};
+    ghost use Rattle.seata_lab.specs.Talks.{Tracks, settings_of, says, ending_phase};
+    ghost use Rattle.seata_lab.specs.declared.managers.Phase.TheVariants as phase;
+
+    /// Whether it has sent all that it may.
+    fn is_silent(&self) -> bool
+        ensures { result ≡ rules.is_silent self.now.silent self.now.sent }
+    {
+        match self.silent {
+            Some(most) => most <= self.sent,
+            None => false,
+        }
+    }
+
+    /// Sends a message and waits for its answer, unless it has gone silent.
+    fn say(&mut self, act: Act, message: Message, phase: Phase) -> Step
+        requires { self.old.sent < 4294967295 }
+        ensures said { rules.is_silent self.old.silent self.old.sent ≡ false
+            → (result ≡ own.sends act place.Tc message) × (self.new ≡ says self.old phase) }
+        ensures silent { rules.is_silent self.old.silent self.old.sent ≡ true → (result ≡ own.still acts.Silent) × (self.new ≡ self.old) }
+    {
+        if self.is_silent() {
+            drop(act);
+            drop(message);
+            return still(Act::Silent);
+        }
+        self.sent += 1;
+        self.phase = phase;
+        sends(act, Place::Tc, message)
+    }
+
+    /// Takes a turn: starts, repeats the last message, or has nothing to do.
+    fn turn(&mut self, now: u64) -> Step
+        requires { self.old.sent < 4294967295 }
+        ensures takes { TakesStep Tracks (ManagerRole (settings_of self.old)) self.old self.new input.Turn now result }
+        ensures same { settings_of self.new ≡ settings_of self.old }
+        ensures grows { self.new.sent ≤ self.old.sent + 1 }
+    {
+        let (number, timeout) = (self.number, self.timeout);
+        let begin = Message::Begin {
+            manager: number,
+            timeout,
+        };
+        match self.phase {
+            Phase::Unstarted => self.say(Act::Starts, begin, Phase::Beginning),
+            Phase::Beginning => self.say(Act::Repeats, begin, Phase::Beginning),
+            Phase::Committing(xid) => {
+                drop(begin);
+                let commit = Message::GlobalCommit { xid };
+                self.say(Act::Repeats, commit, Phase::Committing(xid))
+            }
+            Phase::RollingBack(xid) => {
+                drop(begin);
+                let rollback = Message::GlobalRollback { xid };
+                self.say(Act::Repeats, rollback, Phase::RollingBack(xid))
+            }
+            Phase::Closed => {
+                drop(begin);
+                still(Act::Nothing)
+            }
+        }
+    }
+
+    /// Ends its transaction as it was told to.
+    fn go_on(&mut self, xid: Xid) -> Step
+        requires { self.old.sent < 4294967295 }
+        ensures said { rules.is_silent self.old.silent self.old.sent ≡ false
+            → (result ≡ own.sends acts.GoesOn place.Tc (rules.ending_message self.old.ending xid)) × (self.new ≡ says self.old (ending_phase self.old.ending xid)) }
+        ensures silent { rules.is_silent self.old.silent self.old.sent ≡ true → (result ≡ own.still acts.Silent) × (self.new ≡ self.old) }
+    {
+        match self.ending {
+            Ending::Commit => {
+                self.say(
+                    Act::GoesOn,
+                    Message::GlobalCommit { xid },
+                    Phase::Committing(xid),
+                )
+            }
+            Ending::Rollback => {
+                self.say(
+                    Act::GoesOn,
+                    Message::GlobalRollback { xid },
+                    Phase::RollingBack(xid),
+                )
+            }
+        }
+    }
+
+    /// Answers a message.
+    fn hear(&mut self, from: Place, heard: &Message, now: u64) -> Step
+        requires { self.old.sent < 4294967295 }
+        ensures takes { TakesStep Tracks (ManagerRole (settings_of self.old)) self.old self.new (input.Message from heard.now) now result }
+        ensures same { settings_of self.new ≡ settings_of self.old }
+        ensures grows { self.new.sent ≤ self.old.sent + 1 }
+    {
+        match (self.phase, heard) {
+            (Phase::Beginning, Message::Begun { xid }) => self.go_on(*xid),
+            (Phase::Committing(asked), Message::CommitStatus { xid, status }) => {
+                self.close(asked, *xid, *status)
+            }
+            (Phase::RollingBack(asked), Message::RollbackStatus { xid, status }) => {
+                self.close(asked, *xid, *status)
+            }
+            _ => still(Act::Ignored),
+        }
+    }
+
+    /// Closes on the status of the transaction that it asked for.
+    fn close(&mut self, asked: Xid, told: Xid, status: GlobalStatus) -> Step
+        ensures closed { (asked.0 == told.0) ≡ true → (result ≡ own.still (acts.Closes status)) × (self.new ≡ record self.old { phase = phase.Closed }) }
+        ensures ignored { (asked.0 == told.0) ≡ false → (result ≡ own.still acts.Ignored) × (self.new ≡ self.old) }
+    {
+        if asked.0 == told.0 {
+            self.phase = Phase::Closed;
+            return still(Act::Closes { status });
+        }
+        still(Act::Ignored)
+    }
+
+    /// Answers an input.
+    fn answer(&mut self, given: &Input, now: u64) -> Step
+        requires { self.old.sent < 4294967295 }
+        ensures takes { TakesStep Tracks (ManagerRole (settings_of self.old)) self.old self.new given.now now result }
+        ensures same { settings_of self.new ≡ settings_of self.old }
+        ensures grows { self.new.sent ≤ self.old.sent + 1 }
+    {
+        match given {
+            Input::Turn => self.turn(now),
+            Input::Message { from, message } => self.hear(*from, message, now),
+        }
+    }
+}
+
+/// A manager, in memory.
+#[derive(Drop)]
+pub struct Manager {
+    talk: Talk,
+    left: u32,
+    ghost room: { talk.sent + left < 2 ^ 32 },
+}
+
+impl Manager {
+    ghost use Rattle.std.specs.Prelude.{◌≡◌, []};
+    ghost use Rattle.seata_lab.specs.ManagerStanding.{StandsFor, settings, steps_of};
+
+    /// A manager that stands for no own entries; takes no memory.
+    #[tactic(auto, unfolding(crate::specs::ManagerStanding::StandsFor))]
+    pub fn new(number: u16, timeout: u64, ending: Ending, silent: Option<u32>) -> Manager
+        ensures fresh { StandsFor result [] }
+        ensures settings { settings result ≡ record { number = number; timeout = timeout; ending = ending; silent = silent } }
+        ensures steps { steps_of result ≡ 4294967294 }
+    {
+        Manager {
+            talk: Talk {
+                number,
+                timeout,
+                ending,
+                silent,
+                sent: 0,
+                phase: Phase::Unstarted,
+            },
+            left: STEPS,
+        }
+    }
+}
+
+impl Node for Manager {
+    ghost use Rattle.std.specs.Prelude.{false};
+    ghost use Rattle.history_text.specs.Rules.{Manager as ManagerRole};
+    ghost use Rattle.seata_lab.specs.ManagerStanding.{StandsFor, settings, steps_of};
+
+    ghost role = { λ m. ManagerRole (settings m) };
+
+    ghost stands_for = { StandsFor };
+
+    ghost left = { steps_of };
+
+    ghost down = { λ _. false };
+
+    ghost faults = { λ _. 0 };
+
+    ghost overflows = { λ _ _. ⊥ };
+
+    fn place(&self) -> Place {
+        Place::Man(self.talk.number)
+    }
+
+    #[tactic(auto, unfolding(crate::specs::ManagerStanding::StandsFor))]
+    fn step(&mut self, _alloc: Global, input: Input, now: u64) -> Result<Step, NodeError> {
+        let step = self.talk.answer(&input, now);
+        drop(input);
+        self.left -= 1;
+        Ok(step)
+    }
+
+    fn is_down(&self) -> bool {
+        false
+    }
+
+    fn steps_left(&self) -> u32 {
+        self.left
+    }
+}

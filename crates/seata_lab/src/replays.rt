@@ -1,0 +1,50 @@
+//! Replaying the whole schedule of a scenario.
+ghost use Rattle.std.specs.Prelude.{◌≡◌, ◌≤◌, [], length, IfOk};
+ghost use Rattle.scenario_reader.specs.Runnable.{IsRunnable};
+ghost use Rattle.seata_lab.specs.Runs.{Plays, AreManagers, HasPlayed};
+
+use crate::managers::Manager;
+use crate::runner::Run;
+use coordinator_core::Coordinator;
+use scenario_reader::{ManagerDef, Scenario};
+use seata_types::NoMemory;
+use std::alloc::Global;
+
+/// The managers of a scenario, before they do anything.
+fn new_managers(alloc: Global, managers: &[ManagerDef]) -> Result<Vec<Manager>, NoMemory>
+    requires { length managers.now ≤ 256 }
+    ensures { IfOk result (λ made. AreManagers managers.now made.items) }
+{
+    let mut made = Vec::new(alloc);
+    for (k, def) in managers.iter().enumerate() {
+        let manager = Manager::new(k as u16 + 1, def.timeout, def.ending, def.silent);
+        made.push(manager).map_err(|_| NoMemory)?;
+    }
+    Ok(made)
+}
+
+/// A run that made nothing yet.
+fn new_run(alloc: Global, scenario: &Scenario) -> Result<Run, NoMemory>
+    requires { length scenario.now.managers ≤ 256 }
+    ensures { IfOk result (λ made. Plays scenario.now made []) }
+{
+    Ok(Run {
+        coordinator: Coordinator::new(alloc, scenario.retry),
+        managers: new_managers(alloc, scenario.managers.as_slice())?,
+        letters: Vec::new(alloc),
+        entries: Vec::new(alloc),
+        clock: 0,
+    })
+}
+
+/// Replays the schedule of a scenario, step by step.
+pub fn replay(alloc: Global, scenario: &Scenario) -> Result<Run, NoMemory>
+    requires { IsRunnable scenario.now }
+    ensures { IfOk result (HasPlayed scenario.now) }
+{
+    let mut run = new_run(alloc, scenario)?;
+    for step in scenario.schedule.as_slice() {
+        run.play(alloc, *step)?;
+    }
+    Ok(run)
+}

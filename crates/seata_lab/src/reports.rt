@@ -1,0 +1,123 @@
+//! The report of a run.
+ghost use Rattle.std.specs.Prelude.{◌≡◌, ◌++◌, [], ℕ, List, codes, map, IfOk, OnOk, string_bytes};
+ghost use Rattle.history_text.specs.Own.{Own};
+ghost use Rattle.history_text.specs.CoordinatorRules.{begun};
+ghost use Rattle.history_text.specs.History.{Moment};
+ghost use Rattle.history_text.specs.Report as report;
+ghost use Rattle.coordinator_core.specs.Standing.{StandsFor};
+ghost use Rattle.seata_lab.specs.Runs.{Plays};
+
+use crate::runner::Run;
+use coordinator_core::{Coordinator, Session};
+use history_text::{Entry, Names, put_entry, put_place};
+use scenario_reader::{ManagerDef, Scenario};
+use seata_types::{Duplicate, GlobalStatus, List, NoMemory, Place, Xid};
+use std::alloc::{AllocError, Global};
+
+/// Seata's name of a session's status.
+fn status_name(status: GlobalStatus) -> &'static str
+    ensures { result.now ≡ report.status_name status }
+{
+    match status {
+        GlobalStatus::UnKnown => "UnKnown",
+        GlobalStatus::Begin => "Begin",
+        GlobalStatus::Committing => "Committing",
+        GlobalStatus::CommitRetrying => "CommitRetrying",
+        GlobalStatus::Rollbacking => "Rollbacking",
+        GlobalStatus::RollbackRetrying => "RollbackRetrying",
+        GlobalStatus::TimeoutRollbacking => "TimeoutRollbacking",
+        GlobalStatus::TimeoutRollbackRetrying => "TimeoutRollbackRetrying",
+        GlobalStatus::AsyncCommitting => "AsyncCommitting",
+        GlobalStatus::Committed => "Committed",
+        GlobalStatus::CommitFailed => "CommitFailed",
+        GlobalStatus::Rollbacked => "Rollbacked",
+        GlobalStatus::RollbackFailed => "RollbackFailed",
+        GlobalStatus::TimeoutRollbacked => "TimeoutRollbacked",
+        GlobalStatus::TimeoutRollbackFailed => "TimeoutRollbackFailed",
+        GlobalStatus::Finished => "Finished",
+    }
+}
+
+/// The names of the managers.
+fn manager_names(alloc: Global, managers: &[ManagerDef]) -> Result<Names, NoMemory>
+    ensures { IfOk result (λ names. names ≡ record { resources = []; managers = map report.manager_name managers.now }) }
+{
+    let mut names = Vec::new(alloc);
+    for manager in managers {
+        names.push(manager.name.copy(alloc)?).map_err(|_| NoMemory)?;
+    }
+    Ok(Names {
+        resources: List::of(Vec::new(alloc)),
+        managers: List::of(names),
+    })
+}
+
+/// The lines of the entries.
+fn put_entries(out: &mut String, entries: &[Entry], names: &Names) -> Result<(), AllocError>
+    ensures { OnOk result (string_bytes out.new ≡ string_bytes out.old ++ report.entry_lines names.now entries.now) }
+{
+    for entry in entries {
+        put_entry(out, entry, names)?;
+        out.push_str("\n")?;
+    }
+    Ok(())
+}
+
+/// The line of a session.
+fn put_session(out: &mut String, x: u64, session: &Session, names: &Names) -> Result<(), AllocError>
+    ensures { OnOk result (string_bytes out.new ≡ string_bytes out.old ++ report.session_text names.now x session.now.manager session.now.status) }
+{
+    write!(out, "tc:{x} ")?;
+    put_place(out, Place::Man(session.manager), names)?;
+    write!(
+        out,
+        " {} {}\n",
+        session.status.code(),
+        status_name(session.status)
+    )
+}
+
+/// The lines of the sessions.
+fn put_sessions(
+    out: &mut String,
+    coordinator: &Coordinator,
+    names: &Names,
+) -> Result<(), AllocError>
+    ensures { OnOk result ((owns : List Own) → StandsFor coordinator.now owns
+        → string_bytes out.new ≡ string_bytes out.old ++ report.session_lines names.now owns (begun owns)) }
+{
+    for k in 0..coordinator.begun() {
+        let x = k as u64 + 1;
+        if let Some(session) = coordinator.session(Xid(x)) {
+            put_session(out, x, &session, names)?;
+        }
+    }
+    Ok(())
+}
+
+/// The text of the report.
+#[tactic(auto, unfolding(history_text::specs::Report::report_text))]
+fn put_report(out: &mut String, run: &Run, names: &Names) -> Result<(), AllocError>
+    ensures { OnOk result ((owns : List Own) → StandsFor run.now.coordinator owns
+        → string_bytes out.new ≡ string_bytes out.old ++ report.report_text names.now run.now.entries.items owns) }
+{
+    out.push_str("entries\n")?;
+    put_entries(out, run.entries.as_slice(), names)?;
+    out.push_str("sessions\n")?;
+    put_sessions(out, &run.coordinator, names)?;
+    out.push_str("locks\ntables\nfences\nreads\n")?;
+    Ok(())
+}
+
+/// The report of a run.
+#[tactic(auto, unfolding(history_text::specs::Report::report))]
+pub fn write_report(alloc: Global, scenario: &Scenario, run: &Run) -> Result<String, NoMemory>
+    ensures { IfOk result (λ text. (ms : List Moment) → Plays scenario.now run.now ms → string_bytes text ≡ report.report scenario.now ms) }
+{
+    let names = manager_names(alloc, scenario.managers.as_slice())?;
+    let mut out = String::new(alloc);
+    match put_report(&mut out, run, &names) {
+        Ok(()) => Ok(out),
+        Err(AllocError) => Err(NoMemory),
+    }
+}

@@ -1,0 +1,264 @@
+//! A run of the schedule: the nodes, the messages that were sent, and the history so far.
+ghost use Rattle.std.specs.Prelude.{◌≡◌, IfOk, option_map};
+ghost use Rattle.history_text.specs.Notes as notes;
+
+use crate::managers::Manager;
+use coordinator_core::Coordinator;
+use history_text::{Cause, Entry, Node, Sent, note_of, still};
+use scenario_reader::ScheduleItem;
+use seata_types::{Act, Duplicate, Input, Message, NoMemory, NodeError, Outgoing, Place, Step};
+use std::alloc::Global;
+
+/// A message on its way between two nodes.
+#[derive(Drop)]
+pub struct Letter {
+    pub from: Place,
+    pub to: Place,
+    pub message: Message,
+}
+
+/// The nodes of a run, the message that each entry sent, the entries, and the clock in ticks.
+#[derive(Drop)]
+pub struct Run {
+    pub coordinator: Coordinator,
+    pub managers: Vec<Manager>,
+    pub letters: Vec<Option<Letter>>,
+    pub entries: Vec<Entry>,
+    pub clock: u64,
+}
+
+/// A copy of a letter.
+fn copy_letter(alloc: Global, letter: &Letter) -> Result<Letter, NoMemory>
+    ensures { IfOk result (λ copied. copied ≡ letter.now) }
+{
+    Ok(Letter {
+        from: letter.from,
+        to: letter.to,
+        message: letter.message.copy(alloc)?,
+    })
+}
+
+impl Run {
+    ghost use Rattle.std.specs.Prelude.{◌≡◌, ◌+◌, ◌++◌, ◌∷◌, [], ◌<◌, ◌≤◌, ◌^◌, ℕ, List, length, slice_get, Option, Some, None, IfOk, OnOk, IfSome, option_map};
+    ghost use Rattle.coordinator_core.specs.Standing.{StandsFor, retry_of, steps_of};
+    ghost use Rattle.seata_lab.specs.ManagerStanding.{steps_of as manager_steps_of};
+    ghost use Rattle.history_text.specs.Rules.{Coordinator as CoordinatorRole, TakesStep};
+    ghost use Rattle.seata_types.specs.declared.acts.Act.TheVariants as acts;
+    ghost use Rattle.seata_types.specs.declared.ids.Place.TheVariants as places;
+    ghost use Rattle.scenario_reader.specs.declared.scenarios.Scenario.{Scenario as TheScenario};
+    ghost use Rattle.history_text.specs.Own.{Given, still as still_step};
+    ghost use Rattle.history_text.specs.History.{Moment, entry_of, own};
+    ghost use Rattle.history_text.specs.Rules.{answer};
+    ghost use Rattle.seata_lab.specs.Runs.{Plays, Nodes, next, letter_at, letter_from, letters, IsNode, IsPost, IsGiven, CanStep, IsRecorded, printed_entry, StepsManager, IsStepOf, Gives, CanPlay, Fits, PlaysOn};
+    ghost use Rattle.scenario_reader.specs.declared.scenarios.ScheduleItem.TheVariants as item;
+
+    /// Gives the coordinator an input.
+    fn step_coordinator(&mut self, alloc: Global, input: Input) -> Result<Step, NoMemory>
+        requires able { 0 < steps_of self.old.coordinator }
+        requires moment { self.old.clock ≤ 2 ^ 63 }
+        ensures takes { IfOk result (TakesStep StandsFor (CoordinatorRole (retry_of self.old.coordinator)) self.old.coordinator self.new.coordinator input self.old.clock) }
+        ensures same { retry_of self.new.coordinator ≡ retry_of self.old.coordinator }
+        ensures counted { OnOk result (steps_of self.new.coordinator + 1 ≡ steps_of self.old.coordinator) }
+        ensures managers { self.new.managers ≡ self.old.managers }
+        ensures rest { (self.new.letters ≡ self.old.letters) × (self.new.entries ≡ self.old.entries) × (self.new.clock ≡ self.old.clock) }
+    {
+        let now = self.clock;
+        match self.coordinator.step(alloc, input, now) {
+            Ok(step) => Ok(step),
+            Err(NodeError::NoMemory) => Err(NoMemory),
+            Err(NodeError::Failed { at: _ }) => unreachable!(),
+            Err(NodeError::Full(_)) => unreachable!(),
+        }
+    }
+
+    /// Gives a manager an input. Managers are counted from 0 here.
+    fn step_manager(&mut self, alloc: Global, k: usize, input: Input) -> Result<Step, NoMemory>
+        requires there { k < length self.old.managers.items }
+        requires able { IfSome (slice_get self.old.managers.items k) (λ m. 0 < manager_steps_of m) }
+        requires moment { self.old.clock ≤ 2 ^ 63 }
+        ensures takes { IfOk result (StepsManager self.old.managers.items self.new.managers.items k input self.old.clock) }
+        ensures coordinator { self.new.coordinator ≡ self.old.coordinator }
+        ensures rest { (self.new.letters ≡ self.old.letters) × (self.new.entries ≡ self.old.entries) × (self.new.clock ≡ self.old.clock) }
+    {
+        let now = self.clock;
+        let manager = &mut self.managers[k];
+        match manager.step(alloc, input, now) {
+            Ok(step) => Ok(step),
+            Err(NodeError::NoMemory) => Err(NoMemory),
+            Err(NodeError::Failed { at: _ }) => unreachable!(),
+            Err(NodeError::Full(_)) => unreachable!(),
+        }
+    }
+
+    /// Gives a node of the scenario an input.
+    fn step(&mut self, alloc: Global, place: Place, input: Input) -> Result<Step, NoMemory>
+        requires can { CanStep self.old place }
+        requires moment { self.old.clock ≤ 2 ^ 63 }
+        ensures done { IfOk result (IsStepOf self.old self.new place input) }
+        ensures rest { (self.new.letters ≡ self.old.letters) × (self.new.entries ≡ self.old.entries) × (self.new.clock ≡ self.old.clock) }
+    {
+        match place {
+            Place::Tc => {
+                let step = self.step_coordinator(alloc, input)?;
+                Ok(step)
+            }
+            Place::Man(n) => {
+                let step = self.step_manager(alloc, n as usize - 1, input)?;
+                Ok(step)
+            }
+            Place::Net | Place::Res(_) => unreachable!(),
+        }
+    }
+
+    /// The message that the entry with this stamp sent, if it is there and sent one.
+    fn letter(&self, alloc: Global, stamp: u32) -> Result<Option<Letter>, NoMemory>
+        ensures { IfOk result (λ found. found ≡ letter_at stamp self.now.letters.items) }
+    {
+        if stamp == 0 {
+            return Ok(None);
+        }
+        match self.letters.get(stamp as usize - 1) {
+            Some(Some(letter)) => Ok(Some(copy_letter(alloc, letter)?)),
+            _ => Ok(None),
+        }
+    }
+
+    /// Keeps the message of the next entry.
+    fn keep(&mut self, alloc: Global, from: Place, sent: &Option<Outgoing>) -> Result<(), NoMemory>
+        ensures kept { OnOk result (self.new.letters.items ≡ self.old.letters.items ++ option_map (letter_from from) sent.now ∷ []) }
+        ensures entries { self.new.entries ≡ self.old.entries }
+        ensures nodes { (self.new.coordinator ≡ self.old.coordinator) × (self.new.managers ≡ self.old.managers) }
+        ensures clock { self.new.clock ≡ self.old.clock }
+    {
+        let letter = match sent {
+            Some(outgoing) => Some(Letter {
+                from,
+                to: outgoing.to,
+                message: outgoing.message.copy(alloc)?,
+            }),
+            None => None,
+        };
+        self.letters.push(letter).map_err(|_| NoMemory)?;
+        Ok(())
+    }
+
+    /// Adds the next entry.
+    fn print(&mut self, place: Place, cause: Cause, step: Step) -> Result<(), NoMemory>
+        requires { length self.old.entries.items < 20000 }
+        ensures printed { OnOk result (self.new.entries.items ≡ self.old.entries.items ++ printed_entry (length self.old.entries.items) place self.old.clock cause step ∷ []) }
+        ensures letters { self.new.letters ≡ self.old.letters }
+        ensures nodes { (self.new.coordinator ≡ self.old.coordinator) × (self.new.managers ≡ self.old.managers) }
+        ensures clock { self.new.clock ≡ self.old.clock }
+    {
+        let Step { act, sent } = step;
+        let entry = Entry {
+            stamp: self.entries.len() as u32 + 1,
+            place,
+            now: self.clock,
+            cause,
+            act,
+            sent: sent_of(sent),
+        };
+        self.entries.push(entry).map_err(|_| NoMemory)?;
+        Ok(())
+    }
+
+    /// Adds the next entry, and keeps its message.
+    fn record(
+        &mut self,
+        alloc: Global,
+        place: Place,
+        cause: Cause,
+        step: Step,
+    ) -> Result<(), NoMemory>
+        requires { length self.old.entries.items < 20000 }
+        ensures recorded { OnOk result (IsRecorded self.old self.new place cause step) }
+    {
+        match self.keep(alloc, place, &step.sent) {
+            Ok(()) => self.print(place, cause, step),
+            Err(NoMemory) => {
+                drop(step);
+                Err(NoMemory)
+            }
+        }
+    }
+
+    /// Gives a node an input, and adds the entry.
+    fn give(
+        &mut self,
+        alloc: Global,
+        place: Place,
+        cause: Cause,
+        input: Input,
+    ) -> Result<(), NoMemory>
+        requires can { CanStep self.old place }
+        requires moment { self.old.clock ≤ 2 ^ 63 }
+        requires short { length self.old.entries.items < 20000 }
+        ensures gives { OnOk result (Gives self.old self.new place cause input) }
+    {
+        let step = self.step(alloc, place, input)?;
+        self.record(alloc, place, cause, step)?;
+        Ok(())
+    }
+
+    /// Adds an entry of the network, at which nothing is done.
+    fn pass(&mut self, alloc: Global, cause: Cause) -> Result<(), NoMemory>
+        requires short { length self.old.entries.items < 20000 }
+        ensures recorded { OnOk result (IsRecorded self.old self.new places.Net cause (still_step acts.Nothing)) }
+    {
+        self.record(alloc, Place::Net, cause, still(Act::Nothing))
+    }
+
+    /// Delivers the message that the entry with this stamp sent.
+    fn deliver(&mut self, alloc: Global, stamp: u32) -> Result<(), NoMemory>
+        requires can { CanPlay self.old }
+        requires short { length self.old.entries.items < 20000 }
+        ensures plays { OnOk result (PlaysOn self.old self.new (item.Deliver stamp)) }
+    {
+        let Some(letter) = self.letter(alloc, stamp)? else {
+            self.pass(alloc, Cause::Missing { stamp })?;
+            return Ok(());
+        };
+        let Letter { from, to, message } = letter;
+        let cause = Cause::Deliver { stamp, from };
+        self.give(alloc, to, cause, Input::Message { from, message })?;
+        Ok(())
+    }
+
+    /// Makes one step of the schedule.
+    pub fn play(&mut self, alloc: Global, step: ScheduleItem) -> Result<(), NoMemory>
+        requires can { CanPlay self.old }
+        requires fits { Fits self.old step }
+        requires short { length self.old.entries.items < 20000 }
+        ensures plays { OnOk result (PlaysOn self.old self.new step) }
+    {
+        match step {
+            ScheduleItem::Turn { place } => {
+                self.give(alloc, place, Cause::Turn, Input::Turn)?;
+                Ok(())
+            }
+            ScheduleItem::Deliver { stamp } => {
+                self.deliver(alloc, stamp)?;
+                Ok(())
+            }
+            ScheduleItem::Wait { ticks } => {
+                self.clock += ticks;
+                self.pass(alloc, Cause::Wait { ticks })?;
+                Ok(())
+            }
+        }
+    }
+}
+
+/// What an entry shows of the message that it sent.
+fn sent_of(sent: Option<Outgoing>) -> Option<Sent>
+    ensures { result ≡ option_map notes.sent_of sent }
+{
+    match sent {
+        Some(Outgoing { to, message }) => Some(Sent {
+            to,
+            note: note_of(message),
+        }),
+        None => None,
+    }
+}

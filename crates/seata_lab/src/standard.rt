@@ -1,0 +1,71 @@
+//! A source and a sink over readers and writers, as the standard streams are. They tell nothing of content.
+use crate::streams::{Failed, Sink, Source};
+use std::io::{Read, Write};
+
+/// A source over a reader, which counts its errors.
+#[derive(Drop)]
+pub struct StdSource<R> {
+    input: R,
+    faults: u64,
+}
+
+impl<R> StdSource<R> {
+    /// A source over a reader; takes no memory.
+    pub fn new(input: R) -> StdSource<R> {
+        StdSource { input, faults: 0 }
+    }
+}
+
+impl<R: Read> Source for StdSource<R> {
+    ghost use Rattle.std.specs.Prelude.{None};
+
+    ghost left = { λ _. None };
+
+    ghost faults = { λ s. s.faults };
+
+    fn read(&mut self, into: &mut [u8]) -> Result<usize, Failed> {
+        match self.input.read(into) {
+            Ok(count) => Ok(count),
+            Err(_) => {
+                self.faults = self.faults.saturating_add(1);
+                Err(Failed)
+            }
+        }
+    }
+}
+
+/// A sink over a writer, which counts its errors, and a write of nothing as one.
+#[derive(Drop)]
+pub struct StdSink<W> {
+    output: W,
+    faults: u64,
+}
+
+impl<W> StdSink<W> {
+    /// A sink over a writer; takes no memory.
+    pub fn new(output: W) -> StdSink<W> {
+        StdSink { output, faults: 0 }
+    }
+}
+
+impl<W: Write> Sink for StdSink<W> {
+    ghost use Rattle.std.specs.Prelude.{None};
+
+    ghost written = { λ _. None };
+
+    ghost faults = { λ s. s.faults };
+
+    fn write(&mut self, bytes: &[u8]) -> Result<usize, Failed> {
+        match self.output.write(bytes) {
+            Ok(0) => {
+                self.faults = self.faults.saturating_add(1);
+                Ok(0)
+            }
+            Ok(count) => Ok(count),
+            Err(_) => {
+                self.faults = self.faults.saturating_add(1);
+                Err(Failed)
+            }
+        }
+    }
+}

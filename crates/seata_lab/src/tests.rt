@@ -1,0 +1,123 @@
+//! Whole runs of `top` over memory: the words, the input, what is written, and the status.
+use crate::memory::{MemSink, MemSource};
+use crate::rows::{COMMIT_IN_TIME, LATE_ONES, NOTHING, REPEATED_MESSAGES, ROLLBACK, TIMEOUT};
+use crate::tops::top;
+use seata_types::Text;
+use std::alloc::Global;
+use std::process::Abort;
+use std::test::Fail;
+
+/// What a run of `top` gave.
+#[derive(Drop)]
+struct Ran {
+    status: u8,
+    written: Vec<u8>,
+}
+
+/// Which calls fail, counted from 1, and how much room the sink has.
+#[derive(Clone, Copy)]
+struct Devices {
+    source_fails: u32,
+    sink_fails: u32,
+    room: usize,
+}
+
+const SOUND: Devices = Devices {
+    source_fails: 0,
+    sink_fails: 0,
+    room: 100_000,
+};
+
+/// A run of `top`.
+fn run(alloc: Global, words: &[&str], input: &[u8], devices: Devices) -> Result<Ran, Fail> {
+    let mut all = Vec::new(alloc);
+    for word in words {
+        all.push(Text::of(String::from_str(alloc, *word)?))?;
+    }
+    let failing = Vec::from_slice(alloc, &[devices.source_fails])?;
+    let mut source = MemSource::new(Vec::from_slice(alloc, input)?, failing);
+    let failing = Vec::from_slice(alloc, &[devices.sink_fails])?;
+    let Ok(mut sink) = MemSink::new(alloc, devices.room, failing) else {
+        return Err(Fail::from("no memory"));
+    };
+    let status = top(alloc, all.as_slice(), &mut source, &mut sink);
+    let written = Vec::from_slice(alloc, sink.written())?;
+    Ok(Ran { status, written })
+}
+
+/// A run of `top` that gives this status and writes this text.
+fn expect(rt: &impl Abort, ran: &Ran, status: u8, text: &str) {
+    assert_eq!(rt; ran.status, status);
+    assert_eq!(rt; ran.written.as_slice(), text.as_bytes());
+}
+
+#[test]
+fn replays(rt: HostRuntime) -> Result<(), Fail> {
+    for [input, output] in [
+        NOTHING,
+        REPEATED_MESSAGES,
+        COMMIT_IN_TIME,
+        TIMEOUT,
+        ROLLBACK,
+        LATE_ONES,
+    ] {
+        let ran = run(rt.alloc(), &["replay"], input.as_bytes(), SOUND)?;
+        expect(&rt, &ran, 0, output);
+    }
+    Ok(())
+}
+
+#[test]
+fn refuses(rt: HostRuntime) -> Result<(), Fail> {
+    let usage = "usage: seata_lab replay | run | make | stress | frames\n";
+    let alloc = rt.alloc();
+    expect(&rt, &run(alloc, &[], b"", SOUND)?, 2, usage);
+    expect(&rt, &run(alloc, &["replay", "--"], b"", SOUND)?, 2, usage);
+    expect(&rt, &run(alloc, &["--help"], b"", SOUND)?, 2, usage);
+    let not_json = "scenario: NotJson\n";
+    expect(&rt, &run(alloc, &["replay"], b"[", SOUND)?, 3, not_json);
+    let shape = "scenario: Shape .\n";
+    expect(&rt, &run(alloc, &["replay"], b"{}", SOUND)?, 3, shape);
+    let outside = br#"{"resources":[],"managers":[],"schedule":["turn m9"]}"#;
+    expect(&rt, &run(alloc, &["replay"], outside, SOUND)?, 3, shape);
+    Ok(())
+}
+
+#[test]
+fn refuses_long_input(rt: HostRuntime) -> Result<(), Fail> {
+    let long = vec![in rt.alloc(); b' '; 4_194_305]?;
+    let ran = run(rt.alloc(), &["replay"], long.as_slice(), SOUND)?;
+    expect(&rt, &ran, 3, "scenario: Limit . 4194304\n");
+    Ok(())
+}
+
+#[test]
+fn stops_where_a_device_fails(rt: HostRuntime) -> Result<(), Fail> {
+    let [input, output] = REPEATED_MESSAGES;
+    let source = Devices {
+        source_fails: 1,
+        ..SOUND
+    };
+    expect(
+        &rt,
+        &run(rt.alloc(), &["replay"], input.as_bytes(), source)?,
+        4,
+        "",
+    );
+    let sink = Devices {
+        sink_fails: 1,
+        ..SOUND
+    };
+    expect(
+        &rt,
+        &run(rt.alloc(), &["replay"], input.as_bytes(), sink)?,
+        5,
+        "",
+    );
+    let narrow = Devices { room: 100, ..SOUND };
+    let ran = run(rt.alloc(), &["replay"], input.as_bytes(), narrow)?;
+    assert_eq!(rt; ran.status, 5);
+    assert_eq!(rt; ran.written.len(), 100);
+    assert!(rt; output.as_bytes().starts_with(ran.written.as_slice()));
+    Ok(())
+}
