@@ -1,2 +1,4 @@
+mod Decided
+mod Runs
 mod Texts
 pub mod Turns

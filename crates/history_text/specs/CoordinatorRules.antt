@@ -1,5 +1,5 @@
 -- The coordinator's rules. Each notion is asked of its own entries afresh, newest first.
-use Rattle.std.specs.Prelude.{ℕ, zero, suc, ◌+◌, ◌==◌, ◌&&◌, nat_lt, nat_le, Bool, true, false, if◌then◌else◌, List, [], ◌∷◌, Option, Some, None, option_map}
+use Rattle.std.specs.Prelude.{ℕ, zero, suc, ◌+◌, ◌==◌, ◌&&◌, nat_lt, nat_le, Bool, true, false, if◌then◌else◌, List, [], ◌∷◌, Option, Some, None}
 use Rattle.std.specs.Option.{option_map_or}
 use Rattle.seata_types.specs.declared.acts.Act.{Act}
 use Rattle.seata_types.specs.declared.acts.Act.TheVariants as act
@@ -17,7 +17,7 @@ use Rattle.seata_types.specs.declared.statuses.Decision.{Decision}
 use Rattle.seata_types.specs.declared.statuses.Decision.TheVariants as how
 use Rattle.seata_types.specs.declared.statuses.GlobalStatus.{GlobalStatus}
 use Rattle.seata_types.specs.declared.statuses.GlobalStatus.TheVariants as status
-use Rattle.history_text.specs.Own.{Event, Given, Stopped, Crashed, Restarted, Own, standing, asking, still, sends}
+use Rattle.history_text.specs.Own.{Event, Given, Own, standing, asking, still, sends}
 
 -- ---- transactions that began
 

@@ -1,5 +1,5 @@
 -- The report of a history: its entries, and what they say of the sessions, the locks and the rows.
-use Rattle.std.specs.Prelude.{ℕ, zero, suc, ◌+◌, List, [], ◌∷◌, ◌++◌, map, Option, Some, None, codes}
+use Rattle.std.specs.Prelude.{ℕ, zero, suc, List, [], ◌∷◌, ◌++◌, map, Option, Some, None, codes}
 use Rattle.std.specs.Fmt.{decimal}
 use Rattle.seata_types.specs.Statuses.{code_of}
 use Rattle.seata_types.specs.declared.ids.Place.TheVariants as place

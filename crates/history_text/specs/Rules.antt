@@ -1,5 +1,5 @@
 -- The one answer of every node, and what the trait `Node` promises.
-use Rattle.std.specs.Prelude.{◌≡◌, ◌≤◌, ◌+◌, ◌-◌, ◌^◌, ℕ, min, Bool, true, false, List, ◌∷◌, Option, Some, None, Result, Ok, Err}
+use Rattle.std.specs.Prelude.{◌≡◌, ◌≤◌, ◌+◌, ◌-◌, ◌^◌, ℕ, min, Bool, true, false, List, ◌∷◌, Some, None, Result, Ok, Err}
 use Rattle.seata_types.specs.declared.acts.Act.TheVariants as act
 use Rattle.seata_types.specs.declared.acts.Durable.{Durable}
 use Rattle.seata_types.specs.declared.errors.Full.{Full}

@@ -1,5 +1,5 @@
 -- What holds of every legal history.
-use Rattle.std.specs.Prelude.{◌≡◌, ◌⊎◌, ◌+◌, ◌≤◌, ◌==◌, ℕ, Bool, true, false, if◌then◌else◌, List, [], ◌∷◌, Option, Some, None}
+use Rattle.std.specs.Prelude.{◌≡◌, ◌⊎◌, ◌+◌, ◌≤◌, ◌==◌, ℕ, Bool, true, false, if◌then◌else◌, List, [], ◌∷◌, Option, Some}
 use Rattle.seata_types.specs.Statuses.{code_of, follows}
 use Rattle.seata_types.specs.declared.acts.Durable.{Durable}
 use Rattle.seata_types.specs.declared.acts.Durable.TheVariants as durable

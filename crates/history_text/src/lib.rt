@@ -4,6 +4,7 @@
 #![tactic(auto)]
 
 pub mod entries;
+pub mod laws;
 pub mod lines;
 pub mod nodes;
 pub mod notes;

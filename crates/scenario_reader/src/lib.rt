@@ -9,6 +9,8 @@ mod numbers;
 mod reading;
 pub mod scenarios;
 mod schedules;
+#[cfg(test)]
+mod tests;
 
 pub use errors::ScenarioError;
 pub use reading::read;
