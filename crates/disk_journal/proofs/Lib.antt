@@ -1,0 +1,5 @@
+mod Adding
+mod Crash
+mod Examples
+mod Readings
+mod Rows

@@ -1,0 +1,69 @@
+-- Which records stand on a disk, whatever a crash may leave of it.
+use Rattle.std.specs.Prelude.{◌≡◌, ◌⊎◌, ℕ, ◌<◌, ◌≤◌, Option, Some, None, List, [], ◌∷◌, ◌++◌, length, drop, Result, Ok, Err}
+use Rattle.disk_model.specs.Disk.{DiskState, IsSettled, KeepsContent, KeepsRest, Leaves, Counts, CountsCalls}
+use Rattle.seata_types.specs.declared.errors.Full.{Full}
+use Rattle.seata_types.specs.declared.limits.TheConstants.{BODY_BYTES}
+use Rattle.disk_journal.specs.Reading.{Closed, Record, Damage, found, reading, row_length, staged}
+use Rattle.disk_journal.specs.declared.errors.JournalError.{JournalError}
+use Rattle.disk_journal.specs.declared.errors.JournalError.TheVariants as why
+use Rattle.disk_journal.specs.declared.errors.AppendError.{AppendError}
+use Rattle.disk_journal.specs.declared.errors.AppendError.TheVariants as error
+
+-- these bytes stand for these records
+abbrev pub StandsFor : List (List ℕ) → List ℕ → Type 0
+StandsFor bodies bytes = reading bytes ≡ Ok bodies
+
+-- the records from before, or these and the new one
+abbrev pub IsBeforeOrAfter : List (List ℕ) → List ℕ → List ℕ → Type 0
+IsBeforeOrAfter bodies body bytes = StandsFor bodies bytes ⊎ StandsFor (bodies ++ body ∷ []) bytes
+
+-- Nothing is pending, and each image stands for these records.
+pub record Holds (disk : DiskState) (bodies : List (List ℕ)) : Type 0 where
+  pub settled : IsSettled disk
+  pub images : (c : List ℕ) → disk.may_leave c → StandsFor bodies c
+
+-- A crash at any moment of the call, or after it, leaves the records from before, or these and the new one.
+pub record AddsAtMost (bodies : List (List ℕ)) (body : List ℕ) (old new : DiskState) : Type 0 where
+  pub leaves : Leaves old new (IsBeforeOrAfter bodies body)
+  pub moments : (c : List ℕ) → new.left_since old.moment c → IsBeforeOrAfter bodies body c
+
+-- What reads in a row leave.
+pub record OnlyReads (old new : DiskState) : Type 0 where
+  pub content : KeepsContent old new
+  pub images : Leaves old new old.may_leave
+  pub rest : KeepsRest old new
+  pub faults : old.counts.faults ≤ new.counts.faults
+  pub own : old.counts.own ≤ new.counts.own
+  pub left : new.counts.left ≡ old.counts.left
+
+-- What an opening finds at a gate is what stands there.
+abbrev pub IsFoundAt : ℕ → List ℕ → Result (Option (List ℕ)) JournalError → Type 0
+IsFoundAt gate c (Ok None) = found (drop gate c) ≡ Closed
+IsFoundAt gate c (Ok (Some body)) = found (drop gate c) ≡ Record body
+IsFoundAt gate c (Err (why.Damaged at)) = (at ≡ gate) × (found (drop gate c) ≡ Damage)
+IsFoundAt gate c (Err why.Failed) = Unit {0}
+IsFoundAt gate c (Err why.NoMemory) = Unit {0}
+
+-- A damage is reported where these bytes have it.
+abbrev pub IsDamageIn : List ℕ → JournalError → Type 0
+IsDamageIn c (why.Damaged at) = reading c ≡ Err at
+IsDamageIn c why.Failed = Unit {0}
+IsDamageIn c why.NoMemory = Unit {0}
+
+-- A record would end behind the disk's last byte.
+pub record IsFull (needed size : ℕ) (full : Full) : Type 0 where
+  pub past_end : size < needed
+  pub needed_is : full.needed ≡ needed
+  pub size_is : full.size ≡ size
+
+-- These bytes, to be written behind the gate at this offset, make a record of this body behind those others.
+pub record Stages (gate : ℕ) (bytes : List ℕ) (bodies : List (List ℕ)) (body : List ℕ) : Type 0 where
+  pub gate_is : gate ≡ row_length bodies
+  pub bytes_are : bytes ≡ staged body
+  pub small : length body ≤ BODY_BYTES
+
+-- A record that doesn't fit makes no call, and any other makes two writes, each with a sync.
+abbrev pub CountsAppend : Result (Unit {0}) AppendError → Counts → Counts → Type 0
+CountsAppend (Err (error.Full full)) old new = new ≡ old
+CountsAppend (Err error.Failed) old new = CountsCalls {T = Unit {0}} 4 (Err error.Failed) old new
+CountsAppend (Ok x) old new = CountsCalls {E = AppendError} 4 (Ok x) old new

@@ -1,0 +1,13 @@
+//! A journal on a disk: a record that was acknowledged is in every image that a crash may leave, and a record in flight
+//! is there whole or not at all. No checksum is needed, since a record counts from the write of one byte, its gate.
+#![tactic(auto)]
+
+mod device;
+mod errors;
+mod journal;
+mod opening;
+#[cfg(test)]
+mod tests;
+
+pub use errors::{AppendError, JournalError};
+pub use journal::Journal;
