@@ -10,6 +10,8 @@ pub mod nodes;
 pub mod notes;
 pub mod parts;
 pub mod steps;
+#[cfg(test)]
+mod tests;
 
 pub use entries::{Cause, Entry, Names, Sent};
 pub use lines::{put_entry, put_note, write_entry};

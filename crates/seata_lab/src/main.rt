@@ -20,16 +20,24 @@ mod words;
 use seata_types::Text;
 use standard::{StdSink, StdSource};
 use std::env;
+use std::io::ErrorKind;
 use std::process::ExitCode;
 use tops::{MEMORY, top};
 
 fn main(rt: HostRuntime) -> ExitCode {
     let mut words = Vec::new(rt.alloc());
-    // Where the words can't be had there are none, and the usage line answers that.
-    if let Ok(given) = env::args(&rt) {
-        // The first word is the program's own name.
-        for word in given.skip(1) {
-            if words.push(Text::of(word)).is_err() {
+    match env::args(&rt) {
+        Ok(given) => {
+            // The first word is the program's own name.
+            for word in given.skip(1) {
+                if words.push(Text::of(word)).is_err() {
+                    return ExitCode::from(MEMORY);
+                }
+            }
+        }
+        // Where the words can't be read there are none, and the usage line answers that.
+        Err(error) => {
+            if error.kind() == ErrorKind::OutOfMemory {
                 return ExitCode::from(MEMORY);
             }
         }
