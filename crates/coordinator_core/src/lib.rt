@@ -5,6 +5,8 @@
 pub mod nodes;
 pub mod sessions;
 mod table;
+#[cfg(test)]
+mod tests;
 
 pub use nodes::Coordinator;
 pub use sessions::Session;
