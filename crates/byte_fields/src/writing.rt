@@ -1,0 +1,62 @@
+//! Each field appended to bytes. After want of memory a part of it may stand there.
+ghost use Rattle.std.specs.Prelude.{◌≡◌, ◌++◌, OnOk, OnErr};
+ghost use Rattle.std.specs.Int.{w16, w32, to_be_bytes};
+ghost use Rattle.byte_fields.specs.Layout.{FitsText, FitsValue, FitsKey, text_bytes, value_bytes, key_bytes, ticket_bytes};
+ghost use Rattle.byte_fields.specs.Appending.{Keeps};
+
+use seata_types::{NoMemory, RowKey, Ticket, Value};
+
+pub(crate) fn bytes(out: &mut Vec<u8>, bytes: &[u8]) -> Result<(), NoMemory>
+    ensures ok { OnOk result (out.new.items ≡ out.old.items ++ bytes.now) }
+    ensures err { OnErr result (out.new.items ≡ out.old.items) }
+    ensures kept { Keeps out.old.items out.new.items }
+{
+    out.extend_from_slice(bytes).map_err(|_| NoMemory)
+}
+
+pub(crate) fn text(out: &mut Vec<u8>, value: &str) -> Result<(), NoMemory>
+    requires { FitsText value.now }
+    ensures ok { OnOk result (out.new.items ≡ out.old.items ++ text_bytes value.now) }
+    ensures kept { Keeps out.old.items out.new.items }
+{
+    bytes(out, &(value.len() as u16).to_be_bytes())?;
+    bytes(out, value.as_bytes())
+}
+
+#[tactic(auto, unfolding(crate::specs::Layout::value_bytes))]
+pub(crate) fn value(out: &mut Vec<u8>, value: &Value) -> Result<(), NoMemory>
+    requires { FitsValue value.now }
+    ensures ok { OnOk result (out.new.items ≡ out.old.items ++ value_bytes value.now) }
+    ensures kept { Keeps out.old.items out.new.items }
+{
+    match value {
+        Value::Int(number) => {
+            bytes(out, &[0])?;
+            bytes(out, &number.cast_unsigned().to_be_bytes())
+        }
+        Value::Text(value) => {
+            bytes(out, &[1])?;
+            text(out, value.as_str())
+        }
+    }
+}
+
+#[tactic(auto, unfolding(crate::specs::Layout::key_bytes))]
+pub(crate) fn key(out: &mut Vec<u8>, key: &RowKey) -> Result<(), NoMemory>
+    requires { FitsKey key.now }
+    ensures ok { OnOk result (out.new.items ≡ out.old.items ++ key_bytes key.now) }
+    ensures kept { Keeps out.old.items out.new.items }
+{
+    bytes(out, &key.resource.to_be_bytes())?;
+    text(out, key.table.as_str())?;
+    value(out, &key.pk)
+}
+
+#[tactic(auto, unfolding(crate::specs::Layout::ticket_bytes))]
+pub(crate) fn ticket(out: &mut Vec<u8>, ticket: Ticket) -> Result<(), NoMemory>
+    ensures ok { OnOk result (out.new.items ≡ out.old.items ++ ticket_bytes ticket) }
+    ensures kept { Keeps out.old.items out.new.items }
+{
+    bytes(out, &ticket.boot.to_be_bytes())?;
+    bytes(out, &ticket.seq.to_be_bytes())
+}
