@@ -1,0 +1,10 @@
+use Rattle.std.proofs.Common.{refl, ◌∙◌, arith}
+use Rattle.byte_fields.proofs.Texts.{is_plain_printable}
+use Rattle.frame_codec.proofs.tests.key.Goals as goal
+
+pub returns-clause-layout : goal.returns-clause-layout
+returns-clause-layout c = record {
+  resource = omega arith;
+  table = rw (c.of-table.ensures ∙ c.in_ok-from_str.ensures.ok) (record { short = omega arith; plain = is_plain_printable _ refl });
+  pk = record { sfits = omega arith };
+}

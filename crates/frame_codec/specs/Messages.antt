@@ -1,0 +1,201 @@
+-- Messages as fields behind a type code.
+use Rattle.std.specs.Prelude.{ℕ, ◌<◌, ◌^◌, ◌+◌, ◌%◌, Bool, is_some, List, [], ◌∷◌, ◌++◌}
+use Rattle.std.specs.Int.{w16, w64, to_be_bytes}
+use Rattle.seata_types.specs.declared.messages.Message.{Message}
+use Rattle.seata_types.specs.declared.messages.Message.TheVariants as message
+use Rattle.seata_types.specs.Statuses.{code_of, branch_code_of}
+use Rattle.byte_fields.specs.Layout.{FitsKeys, FitsTicket, keys_bytes, ticket_bytes}
+use Rattle.byte_fields.specs.Reading.{Reader, ◌>>=◌, gives, number_at, keys_at, ticket_at}
+use Rattle.frame_codec.specs.Tags.{look_up, chosen}
+use Rattle.frame_codec.specs.Parts.{xid_bytes, FitsXid, xid_at, branch_bytes, FitsBranch, branch_at, kind_code, kind_at, status_at, branch_status_at, registered_bytes, FitsRegistered, registered_at, answer_bytes, FitsAnswer, answer_at}
+
+-- the type codes, after Seata's
+abbrev pub type_code : Message → ℕ
+type_code (message.Begin manager timeout) = 1
+type_code (message.Begun xid) = 2
+type_code (message.BranchCommit xid id mode manager call) = 3
+type_code (message.BranchCommitted xid id status stmt) = 4
+type_code (message.BranchRollback xid id mode manager call) = 5
+type_code (message.BranchRollbacked xid id status stmt) = 6
+type_code (message.GlobalCommit xid) = 7
+type_code (message.CommitStatus xid status) = 8
+type_code (message.GlobalRollback xid) = 9
+type_code (message.RollbackStatus xid status) = 10
+type_code (message.Register xid resource call ticket mode hold check) = 11
+type_code (message.RegisterAnswer ticket xid given) = 12
+type_code (message.Call xid manager resource call work) = 201
+type_code (message.Answer xid call given) = 202
+
+-- a request is 0 and an answer 1: messages with odd codes ask, those with even codes answer
+abbrev pub kind_of : ℕ → ℕ
+kind_of code = (code + 1) % 2
+
+-- the parts one after the other
+abbrev pub joined : List (List ℕ) → List ℕ
+joined [] = []
+joined (part ∷ []) = part
+joined (part ∷ next ∷ parts) = part ++ joined (next ∷ parts)
+
+-- the fields behind the code; a call has none yet, since its statements can't be read
+unfoldable pub fields_bytes : Message → List ℕ
+fields_bytes (message.Begin manager timeout) = joined (to_be_bytes w16 manager ∷ to_be_bytes w64 timeout ∷ [])
+fields_bytes (message.Begun xid) = xid_bytes xid
+fields_bytes (message.BranchCommit xid id mode manager call) =
+    joined (xid_bytes xid ∷ branch_bytes id ∷ (kind_code mode ∷ []) ∷ to_be_bytes w16 manager ∷ to_be_bytes w16 call ∷ [])
+fields_bytes (message.BranchCommitted xid id status stmt) =
+    joined (xid_bytes xid ∷ branch_bytes id ∷ (branch_code_of status ∷ []) ∷ to_be_bytes w16 stmt ∷ [])
+fields_bytes (message.BranchRollback xid id mode manager call) =
+    joined (xid_bytes xid ∷ branch_bytes id ∷ (kind_code mode ∷ []) ∷ to_be_bytes w16 manager ∷ to_be_bytes w16 call ∷ [])
+fields_bytes (message.BranchRollbacked xid id status stmt) =
+    joined (xid_bytes xid ∷ branch_bytes id ∷ (branch_code_of status ∷ []) ∷ to_be_bytes w16 stmt ∷ [])
+fields_bytes (message.GlobalCommit xid) = xid_bytes xid
+fields_bytes (message.CommitStatus xid status) = joined (xid_bytes xid ∷ (code_of status ∷ []) ∷ [])
+fields_bytes (message.GlobalRollback xid) = xid_bytes xid
+fields_bytes (message.RollbackStatus xid status) = joined (xid_bytes xid ∷ (code_of status ∷ []) ∷ [])
+fields_bytes (message.Register xid resource call ticket mode hold check) =
+    joined (xid_bytes xid ∷ to_be_bytes w16 resource ∷ to_be_bytes w16 call ∷
+    ticket_bytes ticket ∷ (kind_code mode ∷ []) ∷ keys_bytes hold ∷ keys_bytes check ∷ [])
+fields_bytes (message.RegisterAnswer ticket xid given) =
+    joined (ticket_bytes ticket ∷ xid_bytes xid ∷ registered_bytes given ∷ [])
+fields_bytes (message.Call xid manager resource call work) = []
+fields_bytes (message.Answer xid call given) =
+    joined (xid_bytes xid ∷ to_be_bytes w16 call ∷ answer_bytes given ∷ [])
+
+-- which messages have such fields: numbers within their bytes, and texts and key lists that the layout can hold
+abbrev pub FitsMessage : Message → Type 0
+FitsMessage (message.Begin manager timeout) = (manager < 2 ^ 16) × (timeout < 2 ^ 64)
+FitsMessage (message.Begun xid) = FitsXid xid
+FitsMessage (message.BranchCommit xid id mode manager call) =
+    FitsXid xid × FitsBranch id × (manager < 2 ^ 16) × (call < 2 ^ 16)
+FitsMessage (message.BranchCommitted xid id status stmt) = FitsXid xid × FitsBranch id × (stmt < 2 ^ 16)
+FitsMessage (message.BranchRollback xid id mode manager call) =
+    FitsXid xid × FitsBranch id × (manager < 2 ^ 16) × (call < 2 ^ 16)
+FitsMessage (message.BranchRollbacked xid id status stmt) = FitsXid xid × FitsBranch id × (stmt < 2 ^ 16)
+FitsMessage (message.GlobalCommit xid) = FitsXid xid
+FitsMessage (message.CommitStatus xid status) = FitsXid xid
+FitsMessage (message.GlobalRollback xid) = FitsXid xid
+FitsMessage (message.RollbackStatus xid status) = FitsXid xid
+FitsMessage (message.Register xid resource call ticket mode hold check) =
+    FitsXid xid × (resource < 2 ^ 16) × (call < 2 ^ 16) ×
+    FitsTicket ticket × FitsKeys hold × FitsKeys check
+FitsMessage (message.RegisterAnswer ticket xid given) = FitsTicket ticket × FitsXid xid × FitsRegistered given
+FitsMessage (message.Call xid manager resource call work) = ⊥
+FitsMessage (message.Answer xid call given) = FitsXid xid × (call < 2 ^ 16) × FitsAnswer given
+
+-- ---- the fields of each message
+
+unfoldable pub begin_at : Reader Message
+begin_at = do
+  manager ← number_at w16
+  timeout ← number_at w64
+  gives (message.Begin manager timeout)
+
+unfoldable pub begun_at : Reader Message
+begun_at = do
+  xid ← xid_at
+  gives (message.Begun xid)
+
+unfoldable pub branch_commit_at : Reader Message
+branch_commit_at = do
+  xid ← xid_at
+  id ← branch_at
+  mode ← kind_at
+  manager ← number_at w16
+  call ← number_at w16
+  gives (message.BranchCommit xid id mode manager call)
+
+unfoldable pub branch_committed_at : Reader Message
+branch_committed_at = do
+  xid ← xid_at
+  id ← branch_at
+  status ← branch_status_at
+  stmt ← number_at w16
+  gives (message.BranchCommitted xid id status stmt)
+
+unfoldable pub branch_rollback_at : Reader Message
+branch_rollback_at = do
+  xid ← xid_at
+  id ← branch_at
+  mode ← kind_at
+  manager ← number_at w16
+  call ← number_at w16
+  gives (message.BranchRollback xid id mode manager call)
+
+unfoldable pub branch_rollbacked_at : Reader Message
+branch_rollbacked_at = do
+  xid ← xid_at
+  id ← branch_at
+  status ← branch_status_at
+  stmt ← number_at w16
+  gives (message.BranchRollbacked xid id status stmt)
+
+unfoldable pub global_commit_at : Reader Message
+global_commit_at = do
+  xid ← xid_at
+  gives (message.GlobalCommit xid)
+
+unfoldable pub commit_status_at : Reader Message
+commit_status_at = do
+  xid ← xid_at
+  status ← status_at
+  gives (message.CommitStatus xid status)
+
+unfoldable pub global_rollback_at : Reader Message
+global_rollback_at = do
+  xid ← xid_at
+  gives (message.GlobalRollback xid)
+
+unfoldable pub rollback_status_at : Reader Message
+rollback_status_at = do
+  xid ← xid_at
+  status ← status_at
+  gives (message.RollbackStatus xid status)
+
+unfoldable pub register_at : Reader Message
+register_at = do
+  xid ← xid_at
+  resource ← number_at w16
+  call ← number_at w16
+  ticket ← ticket_at
+  mode ← kind_at
+  hold ← keys_at
+  check ← keys_at
+  gives (message.Register xid resource call ticket mode hold check)
+
+unfoldable pub register_answer_at : Reader Message
+register_answer_at = do
+  ticket ← ticket_at
+  xid ← xid_at
+  given ← registered_at
+  gives (message.RegisterAnswer ticket xid given)
+
+unfoldable pub call_answer_at : Reader Message
+call_answer_at = do
+  xid ← xid_at
+  call ← number_at w16
+  given ← answer_at
+  gives (message.Answer xid call given)
+
+-- the codes that can be read, and the fields behind each
+abbrev pub messages : List (ℕ × Reader Message)
+messages =
+    (1, begin_at) ∷
+    (2, begun_at) ∷
+    (3, branch_commit_at) ∷
+    (4, branch_committed_at) ∷
+    (5, branch_rollback_at) ∷
+    (6, branch_rollbacked_at) ∷
+    (7, global_commit_at) ∷
+    (8, commit_status_at) ∷
+    (9, global_rollback_at) ∷
+    (10, rollback_status_at) ∷
+    (11, register_at) ∷
+    (12, register_answer_at) ∷
+    (202, call_answer_at) ∷
+    []
+
+unfoldable pub is_known : ℕ → Bool
+is_known code = is_some (look_up code messages)
+
+unfoldable pub fields_at : ℕ → Reader Message
+fields_at code start = chosen start.at (look_up code messages) start
