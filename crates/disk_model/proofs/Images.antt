@@ -6,7 +6,8 @@ use Rattle.disk_model.specs.Disk.{put, Pending, SameOutside, SameKind, IsWritten
 use Rattle.disk_model.specs.Memory.{Memory, IsImage, IsSound, new_memory, written, settled, crashed, picked, memory_state}
 use Rattle.std.proofs.lemmas.Option.{same_Some}
 use Rattle.disk_model.specs.Shelf.{IsBlank}
-use Rattle.disk_model.proofs.Bounded.{unmarked_written, none_marked}
+use Rattle.disk_model.proofs.Marks.{none_marked}
+use Rattle.disk_model.proofs.Stored.{unmarked_written}
 use Rattle.disk_model.proofs.Picked.{length-picked, picked_clear}
 use Rattle.disk_model.proofs.Put.{before, within, after, placed, outside, same_before, same_after, length-put, put_before, put_within, put_after}
 

@@ -1,12 +1,8 @@
 -- What a crash picks, place by place.
-use Rattle.std.proofs.Common.{◌≡◌, ℕ, zero, suc, ◌+◌, ◌<◌, ◌≤◌, Bool, true, false, if◌then◌else◌, List, [], ◌∷◌, length, get_or, set, refl, ◌∙◌, inl, inr, arith}
+use Rattle.std.proofs.Common.{◌≡◌, ℕ, zero, suc, ◌+◌, ◌<◌, Bool, false, if◌then◌else◌, List, [], ◌∷◌, length, get_or, set, refl, ◌∙◌, inl, inr, arith}
 use Rattle.std.proofs.lemmas.List.{get_or-set_same, get_or-set_other}
 use Rattle.std.proofs.lemmas.Bool.{cases_eq}
-use Rattle.disk_model.specs.Memory.{picked, picked_byte, MarksWithin}
-
-not_marked : (b : Bool) → (b ≡ true → ⊥) → b ≡ false
-not_marked true not = absurd (not refl)
-not_marked false not = refl
+use Rattle.disk_model.specs.Memory.{picked, picked_byte}
 
 pub length-picked : (pick : ℕ) (marks : List Bool) (stable present : List ℕ) → length marks ≡ length present → length stable ≡ length present → length (picked pick marks stable present) ≡ length present
 length-picked pick [] [] [] marked kept = refl
@@ -24,13 +20,6 @@ picked_at pick [] stable (p ∷ present) marked kept k = absurd (omega arith)
 picked_at pick (m ∷ marks) [] (p ∷ present) marked kept k = absurd (omega arith)
 picked_at pick (m ∷ marks) stable [] marked kept k = absurd (omega arith)
 picked_at pick [] (s ∷ stable) [] marked kept k = absurd (omega arith)
-
--- below the bounds and from their end on nothing is marked
-pub clear_below : (low high : ℕ) (marks : List Bool) → MarksWithin low high marks → (k : ℕ) → k < low → get_or marks k false ≡ false
-clear_below low high marks within k h = not_marked (get_or marks k false) (λ marked. omega (arith, within.from k marked))
-
-pub clear_above : (low high : ℕ) (marks : List Bool) → MarksWithin low high marks → (k : ℕ) → high ≤ k → get_or marks k false ≡ false
-clear_above low high marks within k h = not_marked (get_or marks k false) (λ marked. omega (arith, within.to k marked))
 
 -- what is not marked stays
 pub picked_clear : (pick : ℕ) (marks : List Bool) (stable present : List ℕ) → length marks ≡ length present → length stable ≡ length present → (k : ℕ) → get_or marks k false ≡ false → get_or (picked pick marks stable present) k 0 ≡ get_or present k 0

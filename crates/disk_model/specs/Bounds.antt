@@ -1,19 +1,16 @@
--- How `MemDisk` keeps its disk: the bytes and marks, with bounds on what is pending.
-use Rattle.std.specs.Prelude.{ℕ, ◌^◌, ◌<◌, ◌≤◌, length}
-use Rattle.disk_model.specs.Memory.{Memory, IsSound, MarksWithin}
-use Rattle.disk_model.specs.declared.memory.MemDisk.TheInside.{Inside}
+-- How `PendingBytes` keeps what is pending: as one range, or by marks within it.
+use Rattle.std.specs.Prelude.{◌≡◌, ℕ, ◌-◌, ◌≤◌, Bool, true, false, List, length, replicate}
+use Rattle.disk_model.specs.Disk.{put}
+use Rattle.disk_model.specs.Memory.{MarksWithin}
 
-abbrev pub memory_of : Inside → Memory
-memory_of disk = record {
-  stable = disk.stable.items;
-  present = disk.present.items;
-  pending = disk.pending.items;
-  last_pick = disk.last_pick;
-}
+-- the marks, with all from low to below high set where that is pending as a whole
+abbrev pub marks_with : Bool → ℕ → ℕ → List Bool → List Bool
+marks_with true low high marks = put low (replicate (high - low) true) marks
+marks_with false low high marks = marks
 
-pub record IsBounded (low high : ℕ) (disk : Memory) : Type 0 where
-  pub sound : IsSound disk
-  pub small : length disk.present < 2 ^ 32
+-- what holds of the bounds and the marks that it keeps
+pub record IsBounded (whole : Bool) (low high : ℕ) (marks : List Bool) : Type 0 where
   pub order : low ≤ high
-  pub end : high ≤ length disk.present
-  pub pending : MarksWithin low high disk.pending
+  pub end : high ≤ length marks
+  pub clear : whole ≡ true → marks ≡ replicate (length marks) false
+  pub within : whole ≡ false → MarksWithin low high marks

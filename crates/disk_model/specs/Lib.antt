@@ -1,4 +1,5 @@
 pub mod Bounds
+pub mod Bytes
 pub mod Disk
 pub mod Memory
 pub mod Places

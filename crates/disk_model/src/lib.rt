@@ -5,6 +5,7 @@
 mod disk;
 mod errors;
 mod memory;
+mod pending;
 mod shelf;
 mod stoppable;
 #[cfg(test)]

@@ -1,9 +1,10 @@
-ghost use Rattle.std.specs.Prelude.{◌≡◌, ◌+◌, ◌^◌, ◌<◌, ◌≤◌, false, length, take, drop, replicate, IfOk};
+ghost use Rattle.std.specs.Prelude.{◌≡◌, ◌+◌, ◌^◌, ◌<◌, ◌≤◌, length, take, drop, replicate, IfOk};
 ghost use Rattle.disk_model.specs.Disk.{put};
-ghost use Rattle.disk_model.specs.Memory.{picked, picked_byte, MarksWithin};
+ghost use Rattle.disk_model.specs.Memory.{picked, picked_byte};
 
 use crate::disk::Disk;
 use crate::errors::{Failed, NoMemory};
+use crate::pending::PendingBytes;
 use std::alloc::Global;
 use std::marker::Model;
 
@@ -15,10 +16,7 @@ use std::marker::Model;
 pub struct MemDisk {
     stable: Vec<u8>,
     present: Vec<u8>,
-    pending: Vec<bool>,
-    // All that is pending lies from `low` to below `high`, so that a sync visits no more than that.
-    low: usize,
-    high: usize,
+    pending: PendingBytes,
     last_pick: Option<u16>,
 }
 
@@ -27,11 +25,11 @@ impl Model for MemDisk {
 
     ghost Value = { Memory };
 
-    ghost use Rattle.disk_model.specs.Bounds.{memory_of, IsBounded};
+    ghost use Rattle.disk_model.specs.Bytes.{memory_of, IsStored};
 
     ghost view = { memory_of };
 
-    ghost invariant = { λ m. IsBounded m.low m.high (memory_of m) };
+    ghost invariant = { λ disk. IsStored (memory_of disk) };
 }
 
 impl MemDisk {
@@ -46,9 +44,7 @@ impl MemDisk {
         Ok(MemDisk {
             stable: zeros(alloc, size)?,
             present: zeros(alloc, size)?,
-            pending: no_marks(alloc, size)?,
-            low: 0,
-            high: 0,
+            pending: PendingBytes::new(alloc, size)?,
             last_pick: None,
         })
     }
@@ -70,15 +66,7 @@ impl MemDisk {
     {
         let low = at as usize;
         copy_over(&mut self.present, low, bytes);
-        mark(&mut self.pending, low, bytes.len(), true);
-        let high = low + bytes.len();
-        if self.low == self.high {
-            self.low = low;
-            self.high = high;
-        } else {
-            self.low = self.low.min(low);
-            self.high = self.high.max(high);
-        }
+        self.pending.add(low, low + bytes.len());
     }
 
     /// Makes the present bytes stable.
@@ -86,14 +74,9 @@ impl MemDisk {
         ensures settled { self.new ≡ settled self.old }
         ensures sound { IsSound self.old }
     {
-        copy_over(
-            &mut self.stable,
-            self.low,
-            &self.present[self.low..self.high],
-        );
-        mark(&mut self.pending, self.low, self.high - self.low, false);
-        self.low = 0;
-        self.high = 0;
+        let (low, high) = self.pending.bounds();
+        copy_over(&mut self.stable, low, &self.present[low..high]);
+        self.pending.clear();
     }
 
     /// Comes back after a crash that picks among the images.
@@ -102,14 +85,7 @@ impl MemDisk {
         ensures crashed { self.new ≡ crashed pick self.old }
         ensures sound { IsSound self.old }
     {
-        pick_pending(
-            &mut self.present,
-            &self.stable,
-            &self.pending,
-            self.low,
-            self.high,
-            pick,
-        );
+        pick_pending(&mut self.present, &self.stable, &self.pending, pick);
         self.flush();
         self.last_pick = Some(pick);
     }
@@ -153,12 +129,6 @@ fn zeros(alloc: Global, count: usize) -> Result<Vec<u8>, NoMemory>
     vec![in alloc; 0; count].map_err(|_| NoMemory)
 }
 
-fn no_marks(alloc: Global, count: usize) -> Result<Vec<bool>, NoMemory>
-    ensures { IfOk result (λ marks. marks.items ≡ replicate count false) }
-{
-    vec![in alloc; false; count].map_err(|_| NoMemory)
-}
-
 // Writes these bytes over those from an offset on.
 fn copy_over(into: &mut Vec<u8>, at: usize, bytes: &[u8])
     requires { at + length bytes.now ≤ length into.old.items }
@@ -167,33 +137,16 @@ fn copy_over(into: &mut Vec<u8>, at: usize, bytes: &[u8])
     into[at..at + bytes.len()].copy_from_slice(bytes);
 }
 
-// Sets `count` marks from an offset on.
-fn mark(marks: &mut Vec<bool>, at: usize, count: usize, value: bool)
-    requires { at + count ≤ length marks.old.items }
-    ensures { marks.new.items ≡ put at (replicate count value) marks.old.items }
-{
-    marks[at..at + count].fill(value);
-}
-
-// Picks a value for each pending byte. All of them lie from `low` to below `high`.
-fn pick_pending(
-    present: &mut Vec<u8>,
-    stable: &[u8],
-    pending: &[bool],
-    low: usize,
-    high: usize,
-    pick: u16,
-)
+// Picks a value for each pending byte.
+fn pick_pending(present: &mut Vec<u8>, stable: &[u8], pending: &PendingBytes, pick: u16)
     requires pick { pick ≤ 257 }
     requires stable { length stable.now ≡ length present.old.items }
     requires marks { length pending.now ≡ length present.old.items }
-    requires bounds { MarksWithin low high pending.now }
-    requires order { low ≤ high }
-    requires end { high ≤ length present.old.items }
     ensures { present.new.items ≡ picked pick pending.now stable.now present.old.items }
 {
+    let (low, high) = pending.bounds();
     for k in low..high {
-        if pending[k] {
+        if pending.contains(k) {
             present[k] = picked_byte(pick, stable[k], present[k]);
         }
     }

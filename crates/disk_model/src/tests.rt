@@ -152,6 +152,25 @@ fn ranges_at_both_ends(rt: HostRuntime) -> Result<(), Fail> {
 }
 
 #[test]
+fn only_what_was_written_is_pending(rt: HostRuntime) -> Result<(), Fail> {
+    for (second, expected) in [
+        (0, [9, 0, 0, 9, 0]),
+        (2, [0, 0, 9, 9, 0]),
+        (3, [0, 0, 0, 9, 0]),
+        (4, [0, 0, 0, 9, 9]),
+    ] {
+        let mut disk = MemDisk::new(rt.alloc(), 5)?;
+        disk.write_at(3, &[1])?;
+        disk.write_at(second, &[1])?;
+        disk.restart(11)?;
+        let mut all = [1; 5];
+        disk.read_at(0, &mut all)?;
+        assert_eq!(rt; all, expected, "the second write at {second}");
+    }
+    Ok(())
+}
+
+#[test]
 fn a_disk_of_no_bytes(rt: HostRuntime) -> Result<(), Fail> {
     let mut disk = MemDisk::new(rt.alloc(), 0)?;
     assert_eq!(rt; disk.size(), 0);
