@@ -1,23 +1,8 @@
--- The order of keys: by resource, then table, then primary key. Numbers compare by size, texts by bytes, and a number
--- stands below a text.
+-- The order of a list of keys.
 use Rattle.std.specs.Prelude.{Bool}
-use Rattle.std.specs.declared.cmp.Ordering.{Ordering}
-use Rattle.std.specs.declared.cmp.Ordering.TheVariants.{Less, Greater}
-use Rattle.std.specs.Ordering.{nat_cmp, int_cmp, ordering_then, is_lt}
-use Rattle.std.specs.Cmp.Lexicographic.{slice_cmp}
-use Rattle.seata_types.specs.declared.rows.Value.{Value}
-use Rattle.seata_types.specs.declared.rows.Value.TheVariants as value
+use Rattle.std.specs.Ordering.{is_lt}
+use Rattle.seata_types.specs.Orders.{key_cmp}
 use Rattle.seata_types.specs.declared.rows.RowKey.{RowKey}
-
-abbrev pub value_cmp : Value → Value → Ordering
-value_cmp (value.Int a) (value.Int b) = int_cmp a b
-value_cmp (value.Int a) (value.Text t) = Less
-value_cmp (value.Text s) (value.Int b) = Greater
-value_cmp (value.Text s) (value.Text t) = slice_cmp nat_cmp s t
-
-abbrev pub key_cmp : RowKey → RowKey → Ordering
-key_cmp a b =
-    ordering_then (nat_cmp a.resource b.resource) (ordering_then (slice_cmp nat_cmp a.table b.table) (value_cmp a.pk b.pk))
 
 unfoldable pub is_below : RowKey → RowKey → Bool
 is_below a b = is_lt (key_cmp a b)

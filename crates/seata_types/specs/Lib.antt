@@ -1,3 +1,4 @@
 pub mod Condition
 pub mod ConditionOf
+pub mod Orders
 pub mod Statuses
