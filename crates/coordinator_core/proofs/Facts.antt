@@ -1,8 +1,7 @@
 -- Facts on the coordinator's table over plain variables.
-use Rattle.std.proofs.Common.{zero, suc, length, [], ◌∷◌, ◌++◌, ◌≡◌, ◌≢◌, refl, ◌+◌, ◌<◌, ◌==◌, ◌&&◌, nat_lt, nat_le, ℕ, Bool, true, false, if◌then◌else◌, nat_eq, List, Option, Some, None, option_map, slice_get, ap, sym, subst, ◌∙◌, arith}
+use Rattle.std.proofs.Common.{zero, suc, length, [], ◌∷◌, ◌++◌, ◌≡◌, ◌≢◌, refl, ◌+◌, ◌<◌, ◌==◌, nat_le, ℕ, Bool, true, false, if◌then◌else◌, nat_eq, List, Option, Some, None, option_map, slice_get, ap, sym, subst, ◌∙◌, arith}
 use Rattle.std.proofs.lemmas.Bool.Decides.{nat_tests}
 use Rattle.std.proofs.lemmas.Option.{slice_get-map}
-use Rattle.std.specs.Option.{option_map_or}
 use Rattle.indexmap.specs.IndexMap.{get, keys, index_map_len}
 use Rattle.seata_types.specs.declared.acts.Act.{Act}
 use Rattle.seata_types.specs.declared.acts.Act.TheVariants as act
@@ -14,7 +13,7 @@ use Rattle.seata_types.specs.declared.ids.Place.{Place}
 use Rattle.seata_types.specs.declared.messages.Input.TheVariants as input
 use Rattle.seata_types.specs.declared.messages.Message.TheVariants as message
 use Rattle.history_text.specs.Own.{Event, Given, Own, still, sends}
-use Rattle.history_text.specs.CoordinatorRules.{begun, beginning, status_of, is_begin, is_decided, decided_status, finished_status, due, xid_of, transaction_of, is_late, least, or_this, soonest, sooner, due_by, turn_answer, due_answer, begin_answer, commit_answer, rollback_answer, decides_commit, coordinator_answer}
+use Rattle.history_text.specs.CoordinatorRules.{begun, beginning, status_of, is_begin, is_decided, decided_status, finished_status, due, xid_of, transaction_of, is_late, least, soonest, due_by, turn_answer, due_answer, begin_answer, commit_answer, rollback_answer, decides_commit, coordinator_answer}
 use Rattle.history_text.proofs.Turns.{both_left, least_passes, soonest_is, due_is_decided, due_is_due}
 use Rattle.history_text.specs.Rules.{own_step}
 use Rattle.seata_types.specs.declared.ids.Place.TheVariants as place

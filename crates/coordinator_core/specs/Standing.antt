@@ -1,9 +1,8 @@
 -- What crates above see of a coordinator.
-use Rattle.std.specs.Prelude.{ℕ, List, Option}
+use Rattle.std.specs.Prelude.{ℕ, List}
 use Rattle.history_text.specs.Own.{Own}
 use Rattle.coordinator_core.specs.declared.nodes.Coordinator.{Coordinator}
-use Rattle.coordinator_core.specs.declared.sessions.Session.{Session}
-use Rattle.coordinator_core.specs.Tracks.{Tracks, session_of}
+use Rattle.coordinator_core.specs.Tracks.{Tracks}
 
 -- how many ticks after an unanswered question it asks again
 abbrev pub retry_of : Coordinator → ℕ

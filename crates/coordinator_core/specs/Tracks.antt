@@ -1,10 +1,10 @@
 -- What the coordinator's table keeps of its own entries.
-use Rattle.std.specs.Prelude.{◌++◌, [], ◌∷◌, ◌≡◌, ◌≢◌, ◌+◌, ◌<◌, ◌≤◌, ◌&&◌, ℕ, nat_eq, nat_lt, nat_le, Bool, if◌then◌else◌, List, Option, Some, None, option_map, slice_get}
+use Rattle.std.specs.Prelude.{◌++◌, [], ◌∷◌, ◌≡◌, ◌≢◌, ◌+◌, ◌<◌, ◌≤◌, ℕ, nat_eq, List, Option, Some, None, option_map, slice_get}
 use Rattle.indexmap.specs.IndexMap.{get, keys, index_map_len}
 use Rattle.seata_types.specs.declared.statuses.GlobalStatus.{GlobalStatus}
 use Rattle.seata_types.specs.declared.statuses.GlobalStatus.TheVariants as status
 use Rattle.history_text.specs.Own.{Own}
-use Rattle.history_text.specs.CoordinatorRules.{begun, beginning, manager_of, timeout_of, transaction_of, status_of, due, is_begin, is_decided}
+use Rattle.history_text.specs.CoordinatorRules.{begun, beginning, manager_of, timeout_of, transaction_of, status_of, due}
 use Rattle.coordinator_core.specs.declared.sessions.Session.{Session}
 use Rattle.coordinator_core.specs.declared.table.Table.{Table}
 

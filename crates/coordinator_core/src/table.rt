@@ -31,6 +31,7 @@ impl Table {
     ghost use Rattle.history_text.specs.Own as own;
     ghost use Rattle.history_text.specs.CoordinatorRules as rules;
     ghost use Rattle.history_text.specs.CoordinatorRules.{begun, status_of, is_late, due_by, least, soonest, transaction_of};
+    ghost use Rattle.history_text.specs.Framing.{SendsFramable};
     ghost use Rattle.history_text.specs.Rules.{Coordinator, TakesStep, StandsAsBefore};
     ghost use Rattle.coordinator_core.specs.Tracks.{Tracks, Sets, Adds, IsSame, session_of, numbered};
 
@@ -144,6 +145,7 @@ impl Table {
     pub fn answer(&mut self, input: &Input, now: u64) -> Result<Step, NoMemory>
         requires room { index_map_len self.old.sessions < 2 ^ 32 }
         ensures ok { IfOk result (λ step. TakesStep Tracks (Coordinator self.old.retry) self.old self.new input.now now step) }
+        ensures framable { IfOk result SendsFramable }
         ensures err { OnErr result (StandsAsBefore Tracks self.old self.new) }
         ensures same { self.new.retry ≡ self.old.retry }
         ensures grows { index_map_len self.new.sessions ≤ index_map_len self.old.sessions + 1 }
@@ -159,6 +161,7 @@ impl Table {
     fn hear(&mut self, from: Place, message: &Message, now: u64) -> Result<Step, NoMemory>
         requires room { index_map_len self.old.sessions < 2 ^ 32 }
         ensures ok { IfOk result (λ step. TakesStep Tracks (Coordinator self.old.retry) self.old self.new (input.Message from message.now) now step) }
+        ensures framable { IfOk result SendsFramable }
         ensures err { OnErr result (StandsAsBefore Tracks self.old self.new) }
         ensures same { self.new.retry ≡ self.old.retry }
         ensures grows { index_map_len self.new.sessions ≤ index_map_len self.old.sessions + 1 }
@@ -176,6 +179,7 @@ impl Table {
     fn begin(&mut self, from: Place, manager: u16, timeout: u64, now: u64) -> Result<Step, NoMemory>
         requires room { index_map_len self.old.sessions < 2 ^ 32 }
         ensures ok { IfOk result (λ step. TakesStep Tracks (Coordinator self.old.retry) self.old self.new (input.Message from (message.Begin manager timeout)) now step) }
+        ensures framable { IfOk result SendsFramable }
         ensures err { OnErr result (StandsAsBefore Tracks self.old self.new) }
         ensures same { self.new.retry ≡ self.old.retry }
         ensures grows { index_map_len self.new.sessions ≤ index_map_len self.old.sessions + 1 }
@@ -210,6 +214,7 @@ impl Table {
     /// Answers a GlobalCommit.
     fn commit(&mut self, from: Place, xid: Xid, now: u64) -> Step
         ensures takes { TakesStep Tracks (Coordinator self.old.retry) self.old self.new (input.Message from (message.GlobalCommit xid)) now result }
+        ensures framable { SendsFramable result }
         ensures same { self.new.retry ≡ self.old.retry }
         ensures same_count { index_map_len self.new.sessions ≡ index_map_len self.old.sessions }
     {
@@ -234,6 +239,7 @@ impl Table {
     /// Answers a GlobalRollback.
     fn roll_back(&mut self, from: Place, xid: Xid, now: u64) -> Step
         ensures takes { TakesStep Tracks (Coordinator self.old.retry) self.old self.new (input.Message from (message.GlobalRollback xid)) now result }
+        ensures framable { SendsFramable result }
         ensures same { self.new.retry ≡ self.old.retry }
         ensures same_count { index_map_len self.new.sessions ≡ index_map_len self.old.sessions }
     {
@@ -257,6 +263,7 @@ impl Table {
     /// Takes a turn: decides the least late transaction, or finishes the one that is due first.
     fn turn(&mut self, now: u64) -> Step
         ensures takes { TakesStep Tracks (Coordinator self.old.retry) self.old self.new input.Turn now result }
+        ensures framable { SendsFramable result }
         ensures same { self.new.retry ≡ self.old.retry }
         ensures same_count { index_map_len self.new.sessions ≡ index_map_len self.old.sessions }
     {
@@ -273,6 +280,7 @@ impl Table {
     /// Finishes a decided transaction, whose due moment stays.
     fn finish(&mut self, xid: Xid, due: u64) -> Step
         ensures sets { (owns : List Own) → Tracks self.old owns → Sets self.old self.new xid.0 (rules.finished_status (status_of owns xid.0)) due }
+        ensures framable { SendsFramable result }
         ensures act { (owns : List Own) → Tracks self.old owns → result ≡ own.still (act.Durable (durable.Finished xid (rules.finished_status (status_of owns xid.0)))) }
         ensures same { self.new.retry ≡ self.old.retry }
         ensures same_count { index_map_len self.new.sessions ≡ index_map_len self.old.sessions }

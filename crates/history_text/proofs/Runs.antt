@@ -1,10 +1,9 @@
 -- The definitions, computed on whole runs: what the rules answer is what such a run must print.
-use Rattle.std.proofs.Common.{◌≡◌, ℕ, List, [], ◌∷◌, map, Option, Some, None, refl}
+use Rattle.std.proofs.Common.{◌≡◌, ℕ, List, [], ◌∷◌, map, None, refl}
 use Rattle.seata_types.specs.declared.acts.Act.{Act}
 use Rattle.seata_types.specs.declared.acts.Act.TheVariants as act
 use Rattle.seata_types.specs.declared.acts.Durable.TheVariants as durable
 use Rattle.seata_types.specs.declared.ids.Place.TheVariants as place
-use Rattle.seata_types.specs.declared.ids.Xid.{Xid}
 use Rattle.seata_types.specs.declared.messages.Input.{Input}
 use Rattle.seata_types.specs.declared.messages.Input.TheVariants as input
 use Rattle.seata_types.specs.declared.messages.Message.TheVariants as message

@@ -3,6 +3,7 @@ pub mod Own
 pub mod CoordinatorRules
 pub mod ManagerRules
 pub mod Rules
+pub mod Framing
 pub mod History
 pub mod Lines
 pub mod Report

@@ -8,6 +8,7 @@ pub trait Node {
     ghost use Rattle.std.specs.Prelude.{◌≡◌, ◌+◌, ◌^◌, ◌<◌, ◌≤◌, ℕ, Bool, false, List, IfOk, IfErr};
     ghost use Rattle.seata_types.specs.declared.errors.Full.{Full};
     ghost use Rattle.history_text.specs.Own.{Own};
+    ghost use Rattle.history_text.specs.Framing.{ComesFramable, SendsFramable};
     ghost use Rattle.history_text.specs.Rules.{Role, place_of, Rose, TakesStep, AfterError, HasCause, steps_of, goes_down};
 
     // what it is, with its settings
@@ -39,6 +40,7 @@ pub trait Node {
         requires able { 0 < left self.old }
         requires moment { now ≤ 2 ^ 63 }
         ensures answers { IfOk result (λ step. TakesStep stands_for (role self.old) self.old self.new input now step) }
+        ensures framable { ComesFramable input → IfOk result SendsFramable }
         ensures after { IfErr result (AfterError stands_for (role self.old) self.old self.new input now) }
         ensures cause { IfErr result (HasCause (Rose (faults self.old) (faults self.new)) (overflows self.old)) }
         ensures same { role self.new ≡ role self.old }

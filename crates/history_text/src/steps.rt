@@ -1,19 +1,23 @@
 //! What a step gives.
 ghost use Rattle.std.specs.Prelude.{◌≡◌};
+ghost use Rattle.frame_codec.specs.Limits.{IsFramable};
+ghost use Rattle.history_text.specs.Framing.{SendsFramable};
 ghost use Rattle.history_text.specs.Own as own;
 
 use seata_types::{Act, Message, Outgoing, Place, Step};
 
 /// A step that sends nothing.
 pub fn still(act: Act) -> Step
-    ensures { result ≡ own.still act }
+    ensures value { result ≡ own.still act }
+    ensures framable { SendsFramable result }
 {
     Step { act, sent: None }
 }
 
 /// A step that sends a message.
 pub fn sends(act: Act, to: Place, message: Message) -> Step
-    ensures { result ≡ own.sends act to message }
+    ensures value { result ≡ own.sends act to message }
+    ensures framable { IsFramable message → SendsFramable result }
 {
     Step {
         act,

@@ -1,7 +1,6 @@
 -- That an input is a scenario or has a fault, and not both, and what the bytes that were read say of a longer input.
-use Rattle.std.proofs.Common.{◌≡◌, ◌<◌, ◌≤◌, ℕ, List, length, Option, Some, None, ap, sym, subst, ◌∙◌, arith}
+use Rattle.std.proofs.Common.{◌≡◌, ◌≤◌, ℕ, List, length, Some, None, ap, sym, subst, ◌∙◌, arith}
 use Rattle.std.proofs.lemmas.Option.{same_Some}
-use Rattle.serde_json.specs.Data.{Data}
 use Rattle.scenario_reader.specs.Form.{scenario_of}
 use Rattle.scenario_reader.specs.Reading.{IsScenario, IsFault, IsJson, IsNoJson, IsOtherForm}
 use Rattle.scenario_reader.specs.declared.errors.ScenarioError.{ScenarioError}

@@ -1,5 +1,5 @@
 -- What an input is: a scenario, or the fault that keeps it from being one.
-use Rattle.std.specs.Prelude.{◌≡◌, ◌≤◌, ◌<◌, ℕ, List, length, Option, Some, None, IsUtf8, codes}
+use Rattle.std.specs.Prelude.{◌≡◌, ◌≤◌, ◌<◌, ℕ, List, length, Some, None, IsUtf8, codes}
 use Rattle.serde_json.specs.Data.{Data}
 use Rattle.serde_json.specs.Read.{read}
 use Rattle.scenario_reader.specs.declared.errors.ScenarioError.{ScenarioError}

@@ -4,7 +4,7 @@ ghost use Rattle.std.specs.List.{list_all};
 ghost use Rattle.std.specs.BTreeMap.{keys};
 ghost use Rattle.serde_json.specs.Find.{get, as_array};
 ghost use Rattle.serde_json.specs.View.{view, items_view, members_view};
-ghost use Rattle.scenario_reader.specs.Runnable.{FitsNodes, IsRunnable};
+ghost use Rattle.scenario_reader.specs.Runnable.{FitsNodes, IsTimed, IsRunnable};
 ghost use Rattle.scenario_reader.specs.Form as form;
 ghost use Rattle.scenario_reader.specs.Form.{vec_of};
 
@@ -127,8 +127,10 @@ fn silent_of(value: &Value, name: &str) -> Option<Option<u32>>
 /// A manager, with this timeout where it has none of its own.
 #[tactic(auto, unfolding(crate::specs::Form::manager_of))]
 fn manager_of(alloc: Global, timeout: u64, value: &Value) -> Result<Option<ManagerDef>, NoMemory>
-    requires { timeout ≤ 1000000000 }
-    ensures { IfOk result (λ found. found ≡ form.manager_of timeout (view value.now)) }
+    requires least { 1 ≤ timeout }
+    requires most { timeout ≤ 1000000000 }
+    ensures exact { IfOk result (λ found. found ≡ form.manager_of timeout (view value.now)) }
+    ensures timed { IfOk result (λ found. IfSome found IsTimed) }
 {
     if !has_manager_members(value) || !has_empty_list(value, "calls") {
         return Ok(None);
@@ -159,8 +161,10 @@ fn each_manager(
     timeout: u64,
     values: &[Value],
 ) -> Result<Option<Vec<ManagerDef>>, NoMemory>
-    requires { timeout ≤ 1000000000 }
-    ensures { IfOk result (λ found. option_map vec_of found ≡ form.each (form.manager_of timeout) (items_view values.now)) }
+    requires least { 1 ≤ timeout }
+    requires most { timeout ≤ 1000000000 }
+    ensures exact { IfOk result (λ found. option_map vec_of found ≡ form.each (form.manager_of timeout) (items_view values.now)) }
+    ensures timed { IfOk result (λ found. IfSome found (λ managers. All IsTimed managers.items)) }
 {
     let mut managers = Vec::new(alloc);
     for value in values {
@@ -209,8 +213,10 @@ fn managers_of(
     timeout: u64,
     value: &Value,
 ) -> Result<Option<List<ManagerDef>>, NoMemory>
-    requires { timeout ≤ 1000000000 }
+    requires least { 1 ≤ timeout }
+    requires most { timeout ≤ 1000000000 }
     ensures exact { IfOk result (λ found. found ≡ form.managers_of timeout (get (codes "managers") (view value.now))) }
+    ensures timed { IfOk result (λ found. IfSome found (All IsTimed)) }
     ensures few { IfOk result (λ found. IfSome found (λ managers. length managers ≤ 256)) }
 {
     let Some(values) = value.get("managers").and_then(Value::as_array) else {

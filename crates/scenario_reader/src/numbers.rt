@@ -11,6 +11,7 @@ use serde_json::Value;
 pub fn number_in(value: &Value, least: u64, most: u64) -> Option<u64>
     ensures value { result ≡ numbers.number_in least most (view value.now) }
     ensures within { IfSome result (λ n. n ≤ most) }
+    ensures counted { IfSome result (λ n. least ≤ n) }
 {
     let number = value.as_u64()?;
     if least <= number && number <= most {
@@ -25,6 +26,7 @@ pub fn number_in(value: &Value, least: u64, most: u64) -> Option<u64>
 pub fn number_or(value: &Value, name: &str, default: u64, least: u64, most: u64) -> Option<u64>
     ensures value { result ≡ numbers.number_or default least most (get name.now (view value.now)) }
     ensures within { default ≤ most → IfSome result (λ n. n ≤ most) }
+    ensures counted { least ≤ default → IfSome result (λ n. least ≤ n) }
 {
     match value.get(name) {
         Some(member) => number_in(member, least, most),

@@ -1,28 +1,22 @@
--- What the statuses of a replay say of the whole input.
-use Rattle.std.proofs.Common.{◌≡◌, ◌≢◌, ◌⊎◌, inl, inr, ◌+◌, ◌<◌, ◌≤◌, ℕ, nat_eq, Bool, true, false, List, [], ◌∷◌, ◌++◌, length, Option, Some, None, option_map, refl, ap, sym, subst, ◌∙◌, arith, length-append}
+-- What the status of a call says of the whole input.
+use Rattle.std.proofs.Common.{◌≡◌, ◌≢◌, ◌⊎◌, inl, inr, ◌≤◌, ℕ, nat_eq, Bool, true, false, List, [], ◌∷◌, ◌++◌, length, Option, Some, None, Result, Ok, Err, refl, ap, sym, subst, ◌∙◌, arith, length-append, string_bytes}
 use Rattle.std.proofs.lemmas.Bool.Decides.{nat_tests}
+use Rattle.std.proofs.lemmas.List.{append-nil}
 use Rattle.std.proofs.lemmas.Option.{same_Some}
 use Rattle.std.specs.List.{list_any}
-use Rattle.scenario_reader.proofs.Causes.{scenario_has_no_fault, scenario_is_short, fault_of_whole}
-use Rattle.scenario_reader.specs.Reading.{IsScenario, IsFault}
-use Rattle.scenario_reader.specs.declared.errors.ScenarioError.{ScenarioError}
-use Rattle.scenario_reader.specs.declared.scenarios.Scenario.{Scenario}
-use Rattle.seata_lab.specs.Answers.{IsAnswerTo, IsReportOf, IsFaultOf, Replays, Refuses, CutsShort, IsDone}
-use Rattle.seata_lab.specs.Streams.{Rose, Loses, Ends, Gains, GainsFront, behind, none_left}
+use Rattle.std.specs.Prelude.{IfOk, OnErr}
+use Rattle.seata_types.specs.declared.copies.NoMemory.{NoMemory}
+use Rattle.seata_types.specs.declared.limits.TheConstants.{INPUT_BYTES}
+use Rattle.seata_lab.specs.declared.answers.Answer.{Answer}
+use Rattle.seata_lab.specs.Answers.{IsInput}
+use Rattle.seata_lab.specs.Streams.{Rose, Loses, Ends, Gains, GainsFront}
+
+-- ---- the bytes that were read, and the input
 
 none_some : {A : Type 0} {a : A} → None ≡ Some a → ⊥
 none_some e = cc
 
--- ---- the bytes that were read, and the input
-
--- the input is the bytes that were read and a rest, which is empty where the bytes are short enough
-pub record IsInput (input bytes : List ℕ) (left : Option (List ℕ)) : Type 0 where
-  pub rest : List ℕ
-  pub whole : input ≡ bytes ++ rest
-  pub is_left : left ≡ Some rest
-  pub ended : length bytes ≤ 4194304 → rest ≡ []
-
-pub input_of : (input bytes : List ℕ) (old left : Option (List ℕ)) → Loses old left bytes → (length bytes ≤ 4194304 → Ends left) → old ≡ Some input → IsInput input bytes left
+pub input_of : (input bytes : List ℕ) (old left : Option (List ℕ)) → Loses old left bytes → (length bytes ≤ INPUT_BYTES → Ends left) → old ≡ Some input → IsInput input bytes left
 input_of input bytes old None lost ends is = absurd (none_some (sym (sym is ∙ lost)))
 input_of input bytes old (Some rest) lost ends is = record {
   rest = rest;
@@ -31,133 +25,152 @@ input_of input bytes old (Some rest) lost ends is = record {
   ended = λ short. same_Some _ _ (ends short);
 }
 
-append-nil : (xs : List ℕ) → xs ++ [] ≡ xs
-append-nil [] = refl
-append-nil (x ∷ xs) = ap (λ r. x ∷ r) (append-nil xs)
-
-pub all_read : {input bytes : List ℕ} {left : Option (List ℕ)} → IsInput input bytes left → length bytes ≤ 4194304 → input ≡ bytes
+pub all_read : {input bytes : List ℕ} {left : Option (List ℕ)} → IsInput input bytes left → length bytes ≤ INPUT_BYTES → input ≡ bytes
 all_read {input} {bytes} t short = t.whole ∙ ap (λ r. bytes ++ r) (t.ended short) ∙ append-nil bytes
 
-longer : {input bytes : List ℕ} {left : Option (List ℕ)} → IsInput input bytes left → length bytes ≤ length input
+pub longer : {input bytes : List ℕ} {left : Option (List ℕ)} → IsInput input bytes left → length bytes ≤ length input
 longer {input} {bytes} t = let size = ap length t.whole in omega (arith, size, length-append bytes t.rest)
 
--- a fault of the bytes is one of the input
-fault_of_input : {input bytes : List ℕ} {left : Option (List ℕ)} → IsInput input bytes left → (e : ScenarioError) → IsFault bytes e → IsFault input e
-fault_of_input {input} {bytes} t e f = fault_of_whole bytes input (longer t) (λ short. all_read t short) e f
+read_to_end : {input bytes : List ℕ} {left : Option (List ℕ)} → IsInput input bytes left → length input ≤ INPUT_BYTES → left ≡ Some []
+read_to_end t short = t.is_left ∙ ap (λ r. Some r) (t.ended (omega (arith, longer t, short)))
 
 -- ---- the statuses
 
-module _ (bytes text : List ℕ) (status result : ℕ) (left0 left1 written0 written1 : Option (List ℕ)) (faults0 faults1 : ℕ)
-    (answer : IsAnswerTo bytes text status) (taken : Loses left0 left1 bytes) (ends : length bytes ≤ 4194304 → Ends left1)
-    (whole : result ≢ 5 → (result ≡ status) × Gains written0 written1 text)
-    (front : result ≡ 5 → status ≢ 5 → Rose faults0 faults1 × GainsFront written0 written1 text) where
-  pub done_says : result ≡ 0 → (input : List ℕ) → left0 ≡ Some input → Replays input left1 written0 written1
-  unfolding IsAnswerTo IsReportOf
-  done_says zero input is = by answer
+-- an answer's status is 0 or 3, and an answer to the bytes that were read is one to the input
+pub record IsAnswering (IsAnswer : List ℕ → List ℕ → ℕ → Type 0) : Type 0 where
+  pub status : (bytes text : List ℕ) (n : ℕ) → IsAnswer bytes text n → (n ≡ 0) ⊎ (n ≡ 3)
+  pub whole : (input bytes text : List ℕ) (left : Option (List ℕ)) (n : ℕ) → IsInput input bytes left → IsAnswer bytes text n → IsAnswer input text n
+
+-- the text of the input's answer was written
+pub record Writes (IsAnswer : List ℕ → List ℕ → ℕ → Type 0) (status : ℕ) (input : List ℕ) (left old new : Option (List ℕ)) : Type 0 where
+  pub text : List ℕ
+  pub is_answer : IsAnswer input text status
+  pub printed : Gains old new text
+  pub ended : length input ≤ INPUT_BYTES → left ≡ Some []
+
+-- the front of the text of the input's answer was written
+pub record WritesFront (IsAnswer : List ℕ → List ℕ → ℕ → Type 0) (input : List ℕ) (old new : Option (List ℕ)) : Type 0 where
+  pub text : List ℕ
+  pub status : ℕ
+  pub is_answer : IsAnswer input text status
+  pub printed : GainsFront old new text
+
+-- what the status says once the input was read
+pub record Concludes (IsAnswer : List ℕ → List ℕ → ℕ → Type 0) (result : ℕ) (left0 left1 written0 written1 : Option (List ℕ)) (faults0 faults1 : ℕ) : Type 0 where
+  pub among : ((result ≡ 0) ⊎ (result ≡ 3)) ⊎ ((result ≡ 5) ⊎ (result ≡ 6))
+  pub written : (result ≡ 0) ⊎ (result ≡ 3) → (input : List ℕ) → left0 ≡ Some input → Writes IsAnswer result input left1 written0 written1
+  pub rose : result ≡ 5 → Rose faults0 faults1
+  pub front : result ≡ 5 → (input : List ℕ) → left0 ≡ Some input → WritesFront IsAnswer input written0 written1
+  pub no_memory : result ≡ 6 → written1 ≡ written0
+
+module _ (IsAnswer : List ℕ → List ℕ → ℕ → Type 0) (answering : IsAnswering IsAnswer) (bytes : List ℕ) (result : ℕ)
+    (left0 left1 written0 written1 : Option (List ℕ)) (faults0 faults1 : ℕ)
+    (read : (input : List ℕ) → left0 ≡ Some input → IsInput input bytes left1) where
+  -- the status is that of the text, or the sink failed
+  result_is : (status : ℕ) → (status ≡ 0) ⊎ (status ≡ 3) → (result ≢ 5 → result ≡ status) → ((result ≡ 0) ⊎ (result ≡ 3)) ⊎ ((result ≡ 5) ⊎ (result ≡ 6))
+  result_is status known same = by (nat_eq result 5) refl known
+    where
+      by : (b : Bool) → nat_eq result 5 ≡ b → (status ≡ 0) ⊎ (status ≡ 3) → ((result ≡ 0) ⊎ (result ≡ 3)) ⊎ ((result ≡ 5) ⊎ (result ≡ 6))
+      by true e st = inr (inl (grind (arith, nat_tests)))
+      by false e (inl st) = let other : result ≢ 5 = grind (arith, nat_tests) in inl (inl (same other ∙ st))
+      by false e (inr st) = let other : result ≢ 5 = grind (arith, nat_tests) in inl (inr (same other ∙ st))
+
+  written_is : (text : List ℕ) (status : ℕ) → IsAnswer bytes text status → (result ≢ 5 → (result ≡ status) × Gains written0 written1 text) → (result ≡ 0) ⊎ (result ≡ 3) →
+      (input : List ℕ) → left0 ≡ Some input → Writes IsAnswer result input left1 written0 written1
+  written_is text status is whole known input told = record {
+    text = text;
+    is_answer = subst (λ n. IsAnswer input text n) (sym w.0) (answering.whole input bytes text left1 status t is);
+    printed = w.1;
+    ended = read_to_end t;
+  }
     where
       t : IsInput input bytes left1
-      t = input_of input bytes left0 left1 taken ends is
+      t = read input told
+
+      not_five : (result ≡ 0) ⊎ (result ≡ 3) → result ≢ 5
+      not_five (inl h) = omega (arith, h)
+      not_five (inr h) = omega (arith, h)
 
       w : (result ≡ status) × Gains written0 written1 text
-      w = whole (omega (arith, zero))
+      w = whole (not_five known)
 
-      by : ((status ≡ 0) × IsReportOf bytes text) ⊎ ((status ≡ 3) × IsFaultOf bytes text) → Replays input left1 written0 written1
-      by (inl (st, (s, is_s, ms, run, printed))) =
-          let short = scenario_is_short bytes s is_s in
-          record {
-            read_to_end = t.is_left ∙ ap (λ r. Some r) (t.ended short);
-            scenario = s;
-            is_scenario = subst (λ b. IsScenario b s) (sym (all_read t short)) is_s;
-            history = ms;
-            is_run = run;
-            printed = subst (λ x. Gains written0 written1 x) printed w.1;
-          }
-      by (inr (st, f)) = let same = w.0 in absurd (omega (arith, zero, st, same))
+  not_five : (status : ℕ) → (status ≡ 0) ⊎ (status ≡ 3) → status ≢ 5
+  not_five status (inl h) = omega (arith, h)
+  not_five status (inr h) = omega (arith, h)
 
-  pub refused_says : result ≡ 3 → (input : List ℕ) → left0 ≡ Some input → Refuses input written0 written1
-  unfolding IsAnswerTo IsFaultOf
-  refused_says three input is = by answer
+  not_six : (status : ℕ) → (status ≡ 0) ⊎ (status ≡ 3) → (result ≢ 5 → result ≡ status) → result ≡ 6 → ⊥
+  not_six status known same six = let so = same (omega (arith, six)) in by known so
     where
-      t : IsInput input bytes left1
-      t = input_of input bytes left0 left1 taken ends is
+      by : (status ≡ 0) ⊎ (status ≡ 3) → result ≡ status → ⊥
+      by (inl h) so = absurd (omega (arith, h, so, six))
+      by (inr h) so = absurd (omega (arith, h, so, six))
 
-      w : (result ≡ status) × Gains written0 written1 text
-      w = whole (omega (arith, three))
-
-      by : ((status ≡ 0) × IsReportOf bytes text) ⊎ ((status ≡ 3) × IsFaultOf bytes text) → Refuses input written0 written1
-      by (inl (st, r)) = let same = w.0 in absurd (omega (arith, three, st, same))
-      by (inr (st, (e, f, printed))) = record {
-        cause = e;
-        is_cause = fault_of_input t e f;
-        printed = subst (λ x. Gains written0 written1 x) printed w.1;
+  -- a text was to be written
+  pub concluded_text : (text : List ℕ) (status : ℕ) → IsAnswer bytes text status → (result ≢ 5 → (result ≡ status) × Gains written0 written1 text) →
+      (result ≡ 5 → status ≢ 5 → Rose faults0 faults1 × GainsFront written0 written1 text) → Concludes IsAnswer result left0 left1 written0 written1 faults0 faults1
+  concluded_text text status is whole front =
+      let known = answering.status bytes text status is in
+      record {
+        among = result_is status known (λ other. (whole other).0);
+        written = written_is text status is whole;
+        rose = λ five. (front five (not_five status known)).0;
+        front = λ five input told. record {
+          text = text;
+          status = status;
+          is_answer = answering.whole input bytes text left1 status (read input told) is;
+          printed = (front five (not_five status known)).1;
+        };
+        no_memory = λ six. absurd (not_six status known (λ other. (whole other).0) six);
       }
 
-  -- the status is that of the text, or the sink failed
-  status_is : (status ≡ 0) ⊎ (status ≡ 3)
-  unfolding IsAnswerTo
-  status_is = by answer
+  -- there was no memory for a text
+  concluded_nothing : result ≡ 6 → written1 ≡ written0 → Concludes IsAnswer result left0 left1 written0 written1 faults0 faults1
+  concluded_nothing six same = record {
+    among = inr (inr six);
+    written = λ known. absurd (by known);
+    rose = λ five. absurd (omega (arith, five, six));
+    front = λ five. absurd (omega (arith, five, six));
+    no_memory = λ _. same;
+  }
     where
-      by : ((status ≡ 0) × IsReportOf bytes text) ⊎ ((status ≡ 3) × IsFaultOf bytes text) → (status ≡ 0) ⊎ (status ≡ 3)
-      by (inl (st, r)) = inl st
-      by (inr (st, f)) = inr st
+      by : (result ≡ 0) ⊎ (result ≡ 3) → ⊥
+      by (inl h) = absurd (omega (arith, h, six))
+      by (inr h) = absurd (omega (arith, h, six))
 
-  result_is : (result ≡ 5) ⊎ ((result ≡ 0) ⊎ (result ≡ 3))
-  result_is = by (nat_eq result 5) refl status_is
-    where
-      by : (b : Bool) → nat_eq result 5 ≡ b → (status ≡ 0) ⊎ (status ≡ 3) → (result ≡ 5) ⊎ ((result ≡ 0) ⊎ (result ≡ 3))
-      by true e st = inl (grind (arith, nat_tests))
-      by false e (inl st) = let other : result ≢ 5 = grind (arith, nat_tests) in inr (inl ((whole other).0 ∙ st))
-      by false e (inr st) = let other : result ≢ 5 = grind (arith, nat_tests) in inr (inr ((whole other).0 ∙ st))
+  pub concluded : (answer : Result Answer NoMemory) → IfOk answer (λ a. IsAnswer bytes (string_bytes a.text) a.status) →
+      IfOk answer (λ a. result ≢ 5 → (result ≡ a.status) × Gains written0 written1 (string_bytes a.text)) →
+      IfOk answer (λ a. result ≡ 5 → a.status ≢ 5 → Rose faults0 faults1 × GainsFront written0 written1 (string_bytes a.text)) →
+      OnErr answer ((result ≡ 6) × (written1 ≡ written0)) → Concludes IsAnswer result left0 left1 written0 written1 faults0 faults1
+  concluded (Ok a) is whole front nothing = concluded_text (string_bytes a.text) a.status is whole front
+  concluded (Err e) is whole front nothing = concluded_nothing nothing.0 nothing.1
 
-  pub not_else : (n : ℕ) → n ≢ 5 → n ≢ 0 → n ≢ 3 → result ≡ n → ⊥
-  not_else n five zero three e = by result_is
+-- ---- any call
+
+module _ (IsAnswer : List ℕ → List ℕ → ℕ → Type 0) (result : ℕ) (left0 left1 written0 written1 : Option (List ℕ)) (faults0 faults1 : ℕ)
+    (t : Concludes IsAnswer result left0 left1 written0 written1 faults0 faults1) where
+  pub not_four : result ≡ 4 → ⊥
+  not_four four = by t.among
     where
-      by : (result ≡ 5) ⊎ ((result ≡ 0) ⊎ (result ≡ 3)) → ⊥
-      by (inl h) = five (sym e ∙ h)
-      by (inr (inl h)) = zero (sym e ∙ h)
-      by (inr (inr h)) = three (sym e ∙ h)
+      by : ((result ≡ 0) ⊎ (result ≡ 3)) ⊎ ((result ≡ 5) ⊎ (result ≡ 6)) → ⊥
+      by (inl (inl h)) = absurd (omega (arith, h, four))
+      by (inl (inr h)) = absurd (omega (arith, h, four))
+      by (inr (inl h)) = absurd (omega (arith, h, four))
+      by (inr (inr h)) = absurd (omega (arith, h, four))
 
   pub status_among : list_any (nat_eq result) (0 ∷ 3 ∷ 4 ∷ 5 ∷ 6 ∷ []) ≡ true
-  status_among = by result_is
+  status_among = by t.among
     where
-      by : (result ≡ 5) ⊎ ((result ≡ 0) ⊎ (result ≡ 3)) → list_any (nat_eq result) (0 ∷ 3 ∷ 4 ∷ 5 ∷ 6 ∷ []) ≡ true
-      by (inl h) = rw h refl
+      by : ((result ≡ 0) ⊎ (result ≡ 3)) ⊎ ((result ≡ 5) ⊎ (result ≡ 6)) → list_any (nat_eq result) (0 ∷ 3 ∷ 4 ∷ 5 ∷ 6 ∷ []) ≡ true
+      by (inl (inl h)) = rw h refl
+      by (inl (inr h)) = rw h refl
       by (inr (inl h)) = rw h refl
       by (inr (inr h)) = rw h refl
 
-  not_five : status ≢ 5
-  not_five e = by status_is
+  -- where no device failed, the text was written or memory was refused
+  pub calm : ¬ Rose faults0 faults1 → ((result ≡ 0) ⊎ (result ≡ 3)) ⊎ (result ≡ 6)
+  calm still = by t.among
     where
-      by : (status ≡ 0) ⊎ (status ≡ 3) → ⊥
-      by (inl h) = absurd (omega (arith, e, h))
-      by (inr h) = absurd (omega (arith, e, h))
-
-  pub sink_says : result ≡ 5 → Rose faults0 faults1
-  sink_says five = (front five not_five).0
-
-  pub cut_says : result ≡ 5 → (input : List ℕ) → left0 ≡ Some input → CutsShort input written0 written1
-  unfolding IsAnswerTo IsReportOf IsFaultOf
-  cut_says five input is = record { text = text; status = status; is_answer = whole_answer; printed = (front five not_five).1 }
-    where
-      t : IsInput input bytes left1
-      t = input_of input bytes left0 left1 taken ends is
-
-      whole_answer : IsAnswerTo input text status
-      whole_answer = by answer
-        where
-          by : ((status ≡ 0) × IsReportOf bytes text) ⊎ ((status ≡ 3) × IsFaultOf bytes text) → IsAnswerTo input text status
-          by (inl (st, (s, is_s, ms, run, printed))) =
-              inl (st, (s, subst (λ b. IsScenario b s) (sym (all_read t (scenario_is_short bytes s is_s))) is_s, ms, run, printed))
-          by (inr (st, (e, f, printed))) = inr (st, (e, fault_of_input t e f, printed))
-
-  pub complete_says : (input : List ℕ) (s : Scenario) → left0 ≡ Some input → IsScenario input s → ¬ Rose faults0 faults1 → IsDone result
-  complete_says input s is is_s calm = by result_is
-    where
-      by : (result ≡ 5) ⊎ ((result ≡ 0) ⊎ (result ≡ 3)) → IsDone result
-      by (inl h) = absurd (calm (sink_says h))
-      by (inr (inl h)) = inl h
-      by (inr (inr h)) = let r = refused_says h input is in absurd (scenario_has_no_fault input s r.cause is_s r.is_cause)
-
--- an answer to the same bytes with the same text
-pub answer_by : (b b' t t' : List ℕ) (n : ℕ) → b ≡ b' → t' ≡ t → IsAnswerTo b t n → IsAnswerTo b' t' n
-answer_by b b' t t' n same_bytes same_text h = subst (λ x. IsAnswerTo b' x n) (sym same_text) (subst (λ x. IsAnswerTo x t n) same_bytes h)
+      by : ((result ≡ 0) ⊎ (result ≡ 3)) ⊎ ((result ≡ 5) ⊎ (result ≡ 6)) → ((result ≡ 0) ⊎ (result ≡ 3)) ⊎ (result ≡ 6)
+      by (inl h) = inl h
+      by (inr (inl h)) = absurd (still (t.rose h))
+      by (inr (inr h)) = inr h

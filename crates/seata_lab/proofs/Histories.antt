@@ -1,14 +1,13 @@
 -- Facts on histories that follow a schedule.
-use Rattle.std.proofs.Common.{◌≡◌, ◌≢◌, ◌+◌, ◌<◌, ◌≤◌, ◌==◌, ◌&&◌, ℕ, zero, suc, nat_eq, nat_lt, Bool, true, false, List, [], ◌∷◌, ◌++◌, length, slice_get, Option, Some, None, option_map, refl, ap, sym, subst, ◌∙◌, arith, length-append}
+use Rattle.std.proofs.Common.{◌≡◌, ◌≢◌, ◌+◌, ◌<◌, ◌≤◌, ◌==◌, ℕ, zero, suc, nat_eq, nat_lt, Bool, true, false, List, [], ◌∷◌, ◌++◌, length, slice_get, Option, Some, None, option_map, refl, arith, length-append}
 use Rattle.std.proofs.lemmas.Bool.Decides.{nat_tests}
-use Rattle.std.proofs.lemmas.Option.{same_Some}
 use Rattle.seata_types.specs.declared.ids.Place.{Place}
 use Rattle.seata_types.specs.declared.ids.Place.TheVariants as place
 use Rattle.seata_types.specs.declared.messages.Outgoing.{Outgoing}
 use Rattle.scenario_reader.specs.declared.scenarios.Scenario.{Scenario}
 use Rattle.scenario_reader.specs.declared.scenarios.ScheduleItem.{ScheduleItem}
-use Rattle.history_text.specs.Own.{Event, Own}
-use Rattle.history_text.specs.History.{Moment, own, own_if, same_place, sent_by, sent_at, sent_from, first_sent, last_stamp, clock, owned_clock, Follows, IsStep, ticks_of}
+use Rattle.history_text.specs.Own.{Event}
+use Rattle.history_text.specs.History.{Moment, own, own_if, same_place, sent_by, sent_at, sent_from, first_sent, last_stamp, clock, owned_clock, Follows, IsStep}
 use Rattle.seata_lab.specs.declared.runner.Letter.{Letter}
 use Rattle.seata_lab.specs.Runs.{letters, letter_of, letter_at, the_letter, letter_from}
 
@@ -89,7 +88,7 @@ module _ (s : Scenario) where
   -- what the letters say of a stamp
   abbrev pub Found : ℕ → List Moment → Option Letter → Type 0
   Found k ms None = sent_at k ms ≡ None
-  Found k ms (Some l) = sent_from l.from k ms ≡ Some (record { to = l.to; message = l.message })
+  Found k ms (Some l) = sent_from l.from k ms ≡ Some (record { to = l.to; message = l.packet.message })
 
   abbrev stamped : ℕ → Moment → Bool
   stamped k m = m.stamp == k
@@ -106,7 +105,7 @@ module _ (s : Scenario) where
   found_here : (k : ℕ) (m : Moment) (ms : List Moment) → (m.stamp == k) ≡ true → sent_at k ms ≡ None → Found k (m ∷ ms) (letter_of m)
   found_here k m ms here none = by m.step.sent refl
     where
-      by : (o : Option Outgoing) → m.step.sent ≡ o → Found k (m ∷ ms) (option_map (letter_from m.place) o)
+      by : (o : Option Outgoing) → m.step.sent ≡ o → Found k (m ∷ ms) (option_map (letter_from m.place m.stamp) o)
       by None e = rw (here, e) none
       by (Some out) e = rw (here, same_place-refl m.place, e) refl
 

@@ -1,7 +1,10 @@
 mod Begun
 mod Concluded
 mod Flow
+mod FrameLaws
+mod FramesListed
 mod Histories
 mod Played
+mod Replayed
 mod Spoken
 mod Stepped

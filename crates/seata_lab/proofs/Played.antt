@@ -1,5 +1,5 @@
 -- What a run keeps after each kind of step.
-use Rattle.std.proofs.Common.{◌≡◌, ◌≢◌, ◌+◌, ◌*◌, ◌-◌, ◌<◌, ◌≤◌, ◌==◌, ℕ, zero, suc, nat_eq, nat_lt, Bool, true, false, List, [], ◌∷◌, ◌++◌, length, slice_get, Option, Some, None, option_map, refl, ap, sym, subst, ◌∙◌, arith, length-append, add-one}
+use Rattle.std.proofs.Common.{◌≡◌, ◌+◌, ◌*◌, ◌<◌, ◌≤◌, ℕ, zero, suc, nat_eq, nat_lt, Bool, true, false, List, [], ◌∷◌, ◌++◌, length, slice_get, Option, Some, None, option_map, refl, ap, sym, subst, ◌∙◌, arith, length-append}
 use Rattle.std.proofs.lemmas.Bool.Decides.{nat_tests}
 use Rattle.std.proofs.lemmas.Option.{same_Some}
 use Rattle.seata_types.specs.declared.acts.Act.TheVariants as act
@@ -10,20 +10,19 @@ use Rattle.seata_types.specs.declared.messages.Input.TheVariants as input
 use Rattle.seata_types.specs.declared.messages.Outgoing.{Outgoing}
 use Rattle.seata_types.specs.declared.messages.Step.{Step}
 use Rattle.scenario_reader.specs.Runnable.{IsPlaceAmong}
-use Rattle.scenario_reader.specs.declared.scenarios.ManagerDef.{ManagerDef}
 use Rattle.scenario_reader.specs.declared.scenarios.Scenario.{Scenario}
 use Rattle.scenario_reader.specs.declared.scenarios.ScheduleItem.{ScheduleItem}
 use Rattle.scenario_reader.specs.declared.scenarios.ScheduleItem.TheVariants as item
 use Rattle.history_text.specs.declared.entries.Cause.{Cause}
 use Rattle.history_text.specs.declared.entries.Cause.TheVariants as cause
-use Rattle.history_text.specs.declared.entries.Entry.{Entry}
 use Rattle.history_text.specs.Own.{Event, Given, still}
-use Rattle.history_text.specs.Rules.{Role, Coordinator as CoordinatorRole, Manager as ManagerRole}
-use Rattle.history_text.specs.History.{Moment, ticks_of, IsAnswer, IsDone, Stands, IsStep, IsNamed, ComesToNone, entries, entry_of, own, role_at, manager_role, settings_of, clock, Legal, Follows, brings, delivered, same_place, sent_at, sent_from}
+use Rattle.history_text.specs.Rules.{Coordinator as CoordinatorRole, Manager as ManagerRole}
+use Rattle.history_text.specs.History.{Moment, ticks_of, IsAnswer, IsDone, Stands, IsStep, IsNamed, ComesToNone, entries, entry_of, own, role_at, settings_of, brings, sent_from}
+use Rattle.seata_lab.specs.declared.runner.Delivery.{Delivery}
 use Rattle.seata_lab.specs.declared.runner.Letter.{Letter}
 use Rattle.seata_lab.specs.declared.runner.Run.{Run}
-use Rattle.seata_lab.specs.Runs.{CanStep, Plays, Nodes, AllPost, IsPost, IsNode, IsGiven, Gives, IsRecorded, PlaysOn, letters, letter_of, letter_at, letter_from, the_letter, next, printed_entry}
-use Rattle.seata_lab.proofs.Histories.{last_stamp_is, owned_clock-le, letters_at, Found, same_place-refl, snoc_below, snoc_end, snoc_past, length-letters}
+use Rattle.seata_lab.specs.Runs.{CanStep, Plays, Nodes, AllPost, IsPost, IsNode, IsGiven, Gives, IsRecorded, letters, letter_of, letter_at, letter_from, the_letter, delivery_of, next, printed_entry}
+use Rattle.seata_lab.proofs.Histories.{last_stamp_is, owned_clock-le, letters_at, Found, same_place-refl, snoc_below, snoc_end, snoc_past}
 use Rattle.seata_lab.proofs.Stepped.{nodes_net, StepsAt}
 
 length-entries : (ms : List Moment) → length (entries ms) ≡ length ms
@@ -47,23 +46,32 @@ node_at s (place.Man (suc k)) among =
     let found = item_at s.managers k (let high = among.1 in omega (arith, high)) in
     (ManagerRole (settings_of (suc k) found.0), rw found.1 refl)
 
+-- what is delivered was kept
+pub delivered_from : (o : Option Letter) (d : Delivery) → option_map delivery_of o ≡ Some d → (l : Letter) × (o ≡ Some l) × (delivery_of l ≡ d)
+delivered_from None d e = absurd (let no : None ≡ Some d = e in cc)
+delivered_from (Some l) d e = (l, refl, same_Some (delivery_of l) d e)
+
+pub none_kept : (o : Option Letter) → option_map delivery_of o ≡ None → o ≡ None
+none_kept None e = refl
+none_kept (Some l) e = absurd (let no : Some (delivery_of l) ≡ None = e in cc)
+
 -- a message that was sent goes between nodes
-pub letter_posts : (s : Scenario) (ms : List Moment) → AllPost s ms → (k : ℕ) (l : Letter) → letter_at k (letters ms) ≡ Some l → IsPost s l.from l.to l.message
+pub letter_posts : (s : Scenario) (ms : List Moment) → AllPost s ms → (k : ℕ) (l : Letter) → letter_at k (letters ms) ≡ Some l → IsPost s l.from l.to l.packet.message
 letter_posts s ms post zero l e = absurd (let no : None ≡ Some l = e in cc)
 letter_posts s ms post (suc k) l e = from ms post k e
   where
     here : (m : Moment) → ((out : Outgoing) → m.step.sent ≡ Some out → IsPost s m.place out.to out.message)
-        → (o : Option Outgoing) → m.step.sent ≡ o → option_map (letter_from m.place) o ≡ Some l → IsPost s l.from l.to l.message
+        → (o : Option Outgoing) → m.step.sent ≡ o → option_map (letter_from m.place m.stamp) o ≡ Some l → IsPost s l.from l.to l.packet.message
     here m posts None is h = absurd (let no : None ≡ Some l = h in cc)
-    here m posts (Some out) is h = subst (λ k. IsPost s k.from k.to k.message) (same_Some _ l h) (posts out is)
+    here m posts (Some out) is h = subst (λ k. IsPost s k.from k.to k.packet.message) (same_Some _ l h) (posts out is)
 
-    from : (ms : List Moment) → AllPost s ms → (k : ℕ) → the_letter (slice_get (letters ms) k) ≡ Some l → IsPost s l.from l.to l.message
+    from : (ms : List Moment) → AllPost s ms → (k : ℕ) → the_letter (slice_get (letters ms) k) ≡ Some l → IsPost s l.from l.to l.packet.message
     from [] post k e = absurd (let no : None ≡ Some l = e in cc)
     from (m ∷ ms) post k e = by (nat_lt k (length (letters ms))) refl (nat_eq k (length (letters ms))) refl (from ms post.0 k) e
       where
         by : (b : Bool) → nat_lt k (length (letters ms)) ≡ b → (c : Bool) → nat_eq k (length (letters ms)) ≡ c
-            → (the_letter (slice_get (letters ms) k) ≡ Some l → IsPost s l.from l.to l.message)
-            → the_letter (slice_get (letters ms ++ letter_of m ∷ []) k) ≡ Some l → IsPost s l.from l.to l.message
+            → (the_letter (slice_get (letters ms) k) ≡ Some l → IsPost s l.from l.to l.packet.message)
+            → the_letter (slice_get (letters ms ++ letter_of m ∷ []) k) ≡ Some l → IsPost s l.from l.to l.packet.message
         by true below c is before h =
             let within : k < length (letters ms) = grind (arith, nat_tests) in
             before (sym (ap the_letter (snoc_below (letters ms) (letter_of m) k within)) ∙ h)
@@ -130,7 +138,7 @@ module _ (s : Scenario) (old : Run) (ms : List Moment) (t : Plays s old ms) wher
         m,
         record {
           nodes = g.2;
-          kept = g.4;
+          kept = g.4 ∙ ap (λ n. old.letters.items ++ option_map (letter_from p (n + 1)) g.0.sent ∷ []) size;
           printed = g.5 ∙ ap (λ n. old.entries.items ++ printed_entry n p old.clock why g.0 ∷ []) size;
           clocked = g.6;
           slow = let slow = t.slow in omega (arith, slow);
@@ -188,30 +196,40 @@ module _ (s : Scenario) (old : Run) (ms : List Moment) (t : Plays s old ms) wher
   found stamp r e = subst (λ o. Found s stamp ms o) (ap (letter_at stamp) (sym t.sent) ∙ e) (letters_at s ms t.follows stamp)
 
   pub missing_plays : (new : Run) (stamp : ℕ) → IsRecorded old new place.Net (cause.Missing stamp) (still act.Nothing)
-      → letter_at stamp old.letters.items ≡ None
+      → option_map delivery_of (letter_at stamp old.letters.items) ≡ None
       → slice_get s.schedule (length ms) ≡ Some (item.Deliver stamp) → (m : Moment) × Plays s new (m ∷ ms)
-  missing_plays new stamp rec none at =
+  missing_plays new stamp rec missing at =
+      let none = none_kept (letter_at stamp old.letters.items) missing in
       more new (item.Deliver stamp) at
       (passed_made s old ms t old new (cause.Missing stamp) (item.Deliver stamp) rec refl refl refl refl (omega arith) (omega arith) refl (found stamp None none) refl)
 
-  letter_node : (stamp : ℕ) (l : Letter) → letter_at stamp old.letters.items ≡ Some l → IsPost s l.from l.to l.message
+  letter_node : (stamp : ℕ) (l : Letter) → letter_at stamp old.letters.items ≡ Some l → IsPost s l.from l.to l.packet.message
   letter_node stamp l e = letter_posts s ms t.post stamp l (ap (letter_at stamp) (sym t.sent) ∙ e)
 
-  pub receiver_node : (stamp : ℕ) (l : Letter) → letter_at stamp old.letters.items ≡ Some l → IsNode s l.to
-  receiver_node stamp l e = (letter_node stamp l e).receiver
+  pub receiver_node : (stamp : ℕ) (d : Delivery) → option_map delivery_of (letter_at stamp old.letters.items) ≡ Some d → IsNode s d.to
+  receiver_node stamp d e =
+      let (l, kept, same) = delivered_from (letter_at stamp old.letters.items) d e in
+      subst (λ (k : Delivery). IsNode s k.to) same (letter_node stamp l kept).receiver
 
-  pub deliver_plays : (new : Run) (stamp : ℕ) (l : Letter) → letter_at stamp old.letters.items ≡ Some l
-      → Gives old new l.to (cause.Deliver stamp l.from) (input.Message l.from l.message)
+  kept_plays : (new : Run) (stamp : ℕ) (l : Letter) → letter_at stamp old.letters.items ≡ Some l
+      → Gives old new l.to (cause.Deliver stamp l.from) (input.Message l.from l.packet.message)
       → slice_get s.schedule (length ms) ≡ Some (item.Deliver stamp) → (m : Moment) × Plays s new (m ∷ ms)
-  deliver_plays new stamp l e gives at =
+  kept_plays new stamp l e gives at =
       let post = letter_node stamp l e in
-      let sent : sent_from l.from stamp ms ≡ Some (record { to = l.to; message = l.message }) = found stamp (Some l) e in
+      let sent : sent_from l.from stamp ms ≡ Some (record { to = l.to; message = l.packet.message }) = found stamp (Some l) e in
       more new (item.Deliver stamp) at
-      (given_made s old ms t new l.to (cause.Deliver stamp l.from) (input.Message l.from l.message) (item.Deliver stamp) gives post.receiver
+      (given_made s old ms t new l.to (cause.Deliver stamp l.from) (input.Message l.from l.packet.message) (item.Deliver stamp) gives post.receiver
       (post.sender, post.named) (rw (sent, same_place-refl l.to) refl) (λ m here why. named_by m why) refl)
     where
       named_by : (m : Moment) → m.cause ≡ cause.Deliver stamp l.from → IsNamed (item.Deliver stamp) m.place m.cause
       named_by m why = subst (λ w. IsNamed (item.Deliver stamp) m.place w) (sym why) refl
+
+  pub deliver_plays : (new : Run) (stamp : ℕ) (d : Delivery) → option_map delivery_of (letter_at stamp old.letters.items) ≡ Some d
+      → Gives old new d.to (cause.Deliver stamp d.from) (input.Message d.from d.message)
+      → slice_get s.schedule (length ms) ≡ Some (item.Deliver stamp) → (m : Moment) × Plays s new (m ∷ ms)
+  deliver_plays new stamp d e gives at =
+      let (l, kept, same) = delivered_from (letter_at stamp old.letters.items) d e in
+      kept_plays new stamp l kept (subst (λ (k : Delivery). Gives old new k.to (cause.Deliver stamp k.from) (input.Message k.from k.message)) (sym same) gives) at
 
   -- the clock of a short run
   pub slow_clock : length old.entries.items < 20000 → old.clock ≤ 20000000000000
@@ -234,7 +252,7 @@ pub gives_by : (s : Scenario) (ms : List Moment) (old mid new : Run) (p : Place)
     → (step : Step) × IsAnswer (role_at s p) (own p ms) (Given given) old.clock step
     × Nodes s new.coordinator new.managers.items (next ms p old.clock why (Some (Given given)) step ∷ ms)
     × (IsGiven s given → AllPost s ms → (out : Outgoing) → step.sent ≡ Some out → IsPost s p out.to out.message)
-    × (new.letters.items ≡ old.letters.items ++ option_map (letter_from p) step.sent ∷ [])
+    × (new.letters.items ≡ old.letters.items ++ option_map (letter_from p (length old.entries.items + 1)) step.sent ∷ [])
     × (new.entries.items ≡ old.entries.items ++ printed_entry (length old.entries.items) p old.clock why step ∷ [])
     × (new.clock ≡ old.clock)
 gives_by s ms old mid new p why given step st letters_same entries_same clock_same rec = (
@@ -243,7 +261,8 @@ gives_by s ms old mid new p why given step st letters_same entries_same clock_sa
   subst (λ c. Nodes s c new.managers.items (next ms p old.clock why (Some (Given given)) step ∷ ms)) (sym rec.same_coordinator)
       (subst (λ l. Nodes s mid.coordinator l (next ms p old.clock why (Some (Given given)) step ∷ ms)) (sym (ap (λ v. v.items) rec.same_managers)) st.1),
   st.2,
-  rec.kept ∙ ap (λ v. v.items ++ option_map (letter_from p) step.sent ∷ []) letters_same,
+  rec.kept ∙ ap (λ v. v.items ++ option_map (letter_from p (length mid.entries.items + 1)) step.sent ∷ []) letters_same
+      ∙ ap (λ v. old.letters.items ++ option_map (letter_from p (length v.items + 1)) step.sent ∷ []) entries_same,
   rec.printed ∙ ap (λ v. v.items ++ printed_entry (length v.items) p mid.clock why step ∷ []) entries_same
       ∙ ap (λ n. old.entries.items ++ printed_entry (length old.entries.items) p n why step ∷ []) clock_same,
   rec.same_clock ∙ clock_same,

@@ -1,5 +1,5 @@
 -- What a manager keeps after it sent a message, or would have sent one.
-use Rattle.std.proofs.Common.{◌≡◌, ◌+◌, ℕ, Bool, true, false, if◌then◌else◌, List, ◌∷◌, Option, Some, None, refl, ap, sym, subst, ◌∙◌}
+use Rattle.std.proofs.Common.{◌≡◌, ◌+◌, ℕ, Bool, true, false, if◌then◌else◌, List, ◌∷◌, Some, refl, ap, sym, subst, ◌∙◌}
 use Rattle.seata_types.specs.declared.acts.Act.{Act}
 use Rattle.seata_types.specs.declared.acts.Act.TheVariants as act
 use Rattle.seata_types.specs.declared.ids.Place.TheVariants as place
@@ -14,7 +14,7 @@ use Rattle.history_text.specs.ManagerRules.{sent_count, is_closed, last_sent, cl
 use Rattle.history_text.specs.Rules.{own_step}
 use Rattle.seata_lab.specs.declared.managers.Phase.{Phase}
 use Rattle.seata_lab.specs.declared.managers.Talk.{Talk}
-use Rattle.seata_lab.specs.Talks.{Keeps, Tracks, IsPhase, settings_of, says, ending_phase}
+use Rattle.seata_lab.specs.Talks.{Tracks, IsPhase, settings_of, says, ending_phase}
 
 abbrev Takes : Talk → Talk → List Own → Input → ℕ → Step → Type 0
 Takes m m' owns given now step = (step ≡ manager_answer (settings_of m) owns given) × Tracks m' (own_step given now step ∷ owns)

@@ -1,10 +1,9 @@
 -- What the nodes keep when one of them took a step, and to whom a step sends.
-use Rattle.std.proofs.Common.{◌≡◌, ◌≢◌, ◌+◌, ◌-◌, ◌<◌, ◌≤◌, ◌==◌, ℕ, zero, suc, nat_eq, Bool, true, false, if◌then◌else◌, List, [], ◌∷◌, length, set, length-set, slice_get, Option, Some, None, refl, ap, sym, subst, ◌∙◌, arith, add-one}
+use Rattle.std.proofs.Common.{◌≡◌, ◌≢◌, ◌+◌, ◌-◌, ℕ, zero, suc, nat_eq, Bool, true, false, if◌then◌else◌, List, [], ◌∷◌, set, length-set, slice_get, Option, Some, None, refl, ap, sym, subst, ◌∙◌, arith, add-one}
 use Rattle.std.proofs.lemmas.Bool.Decides.{nat_tests}
 use Rattle.std.proofs.lemmas.Option.{same_Some}
 use Rattle.seata_types.specs.declared.acts.Act.{Act}
 use Rattle.seata_types.specs.declared.acts.Act.TheVariants as act
-use Rattle.seata_types.specs.declared.acts.Durable.TheVariants as durable
 use Rattle.seata_types.specs.declared.ids.Place.{Place}
 use Rattle.seata_types.specs.declared.ids.Place.TheVariants as place
 use Rattle.seata_types.specs.declared.ids.Xid.{Xid}
@@ -24,14 +23,14 @@ use Rattle.scenario_reader.specs.declared.scenarios.Scenario.{Scenario}
 use Rattle.history_text.specs.declared.entries.Cause.{Cause}
 use Rattle.history_text.specs.Own.{Event, Given, Own, still, sends}
 use Rattle.history_text.specs.CoordinatorRules.{is_begin, decided_status, xid_of, least, is_late, begun, soonest, due_by, turn_answer, due_answer, begin_answer, commit_answer, rollback_answer, transaction_of, status_of, coordinator_answer, heard_answer}
-use Rattle.history_text.specs.ManagerRules.{Settings, Awaited, NoAnswer, BeginAnswer, CommitAnswer, RollbackAnswer, answer_to, is_silent, speaks, is_commit_of, is_rollback_of, ending_message, manager_turn, on_begun, hears, manager_hears, manager_answer, sent_count, is_closed, last_sent, sent_last}
+use Rattle.history_text.specs.ManagerRules.{Settings, Awaited, BeginAnswer, answer_to, is_silent, speaks, is_commit_of, is_rollback_of, ending_message, manager_turn, on_begun, hears, manager_hears, manager_answer, sent_count, is_closed, last_sent, sent_last}
 use Rattle.history_text.specs.History.{Moment, IsAnswer, own, own_if, same_place, role_at, manager_role, settings_of}
-use Rattle.history_text.specs.Rules.{Role, Coordinator as CoordinatorRole, Manager as ManagerRole, TakesStep, own_step}
+use Rattle.history_text.specs.Rules.{Role, Coordinator as CoordinatorRole, Manager as ManagerRole, TakesStep}
 use Rattle.coordinator_core.specs.Standing.{StandsFor, retry_of, steps_of}
 use Rattle.coordinator_core.specs.declared.nodes.Coordinator.{Coordinator}
 use Rattle.seata_lab.specs.ManagerStanding.{StandsFor as ManagerStandsFor, settings, steps_of as manager_steps_of}
 use Rattle.seata_lab.specs.declared.managers.Manager.{Manager}
-use Rattle.seata_lab.specs.Runs.{AllPost, StepsManager, IsGiven, IsNode, NamesNode, IsPost, IsManagerOf, HasManager, Nodes, next}
+use Rattle.seata_lab.specs.Runs.{AllPost, StepsManager, IsGiven, IsNode, NamesNode, IsPost, IsManagerOf, Nodes, next}
 
 module _ (s : Scenario) (c : Coordinator) (managers : List Manager) (ms : List Moment) where
   -- nothing happened at a node

@@ -18,10 +18,12 @@ use Rattle.history_text.specs.Notes.{sent_of}
 use Rattle.history_text.specs.Own.{Event, Given}
 use Rattle.history_text.specs.History.{Moment, IsAnswer, entries, own, role_at, clock, Legal, Follows, settings_of}
 use Rattle.history_text.specs.Rules.{Role, Manager as ManagerRole, TakesStep}
+use Rattle.frame_codec.specs.Limits.{IsFramable}
 use Rattle.coordinator_core.specs.Standing.{StandsFor, retry_of, steps_of}
 use Rattle.coordinator_core.specs.declared.nodes.Coordinator.{Coordinator}
 use Rattle.seata_lab.specs.ManagerStanding.{StandsFor as ManagerStandsFor, settings, steps_of as manager_steps_of}
 use Rattle.seata_lab.specs.declared.managers.Manager.{Manager}
+use Rattle.seata_lab.specs.declared.runner.Delivery.{Delivery}
 use Rattle.seata_lab.specs.declared.runner.Letter.{Letter}
 use Rattle.seata_lab.specs.declared.runner.Run.{Run}
 
@@ -40,12 +42,19 @@ pub record IsPost (s : Scenario) (from to : Place) (sent : Message) : Type 0 whe
   pub receiver : IsNode s to
   pub named : NamesNode s sent
 
--- the message of a moment, with the place that sent it
-abbrev pub letter_from : Place → Outgoing → Letter
-letter_from from out = record { from = from; to = out.to; message = out.message }
+-- the message of a moment, as a packet with the moment's stamp, and the places that it goes from and to
+abbrev pub letter_from : Place → ℕ → Outgoing → Letter
+letter_from from stamp out = record { from = from; to = out.to; packet = record { message = out.message; stamp = stamp } }
 
 abbrev pub letter_of : Moment → Option Letter
-letter_of m = option_map (letter_from m.place) m.step.sent
+letter_of m = option_map (letter_from m.place m.stamp) m.step.sent
+
+-- a letter opened
+abbrev pub delivery_of : Letter → Delivery
+delivery_of letter = record { from = letter.from; to = letter.to; message = letter.packet.message }
+
+abbrev pub IsFramableDelivery : Delivery → Type 0
+IsFramableDelivery delivery = IsFramable delivery.message
 
 -- what was sent, oldest first
 abbrev pub letters : List Moment → List (Option Letter)
@@ -107,7 +116,7 @@ printed_entry count at now why step =
 
 -- an entry was added, with the message that it sent
 pub record IsRecorded (old new : Run) (at : Place) (why : Cause) (step : Step) : Type 0 where
-  pub kept : new.letters.items ≡ old.letters.items ++ option_map (letter_from at) step.sent ∷ []
+  pub kept : new.letters.items ≡ old.letters.items ++ option_map (letter_from at (length old.entries.items + 1)) step.sent ∷ []
   pub printed : new.entries.items ≡ old.entries.items ++ printed_entry (length old.entries.items) at old.clock why step ∷ []
   pub same_coordinator : new.coordinator ≡ old.coordinator
   pub same_managers : new.managers ≡ old.managers
@@ -152,7 +161,7 @@ Gives old new at why given =
     → (step : Step) × IsAnswer (role_at s at) (own at ms) (Given given) old.clock step
     × Nodes s new.coordinator new.managers.items (next ms at old.clock why (Some (Given given)) step ∷ ms)
     × (IsGiven s given → AllPost s ms → (out : Outgoing) → step.sent ≡ Some out → IsPost s at out.to out.message)
-    × (new.letters.items ≡ old.letters.items ++ option_map (letter_from at) step.sent ∷ [])
+    × (new.letters.items ≡ old.letters.items ++ option_map (letter_from at (length old.entries.items + 1)) step.sent ∷ [])
     × (new.entries.items ≡ old.entries.items ++ printed_entry (length old.entries.items) at old.clock why step ∷ [])
     × (new.clock ≡ old.clock)
 

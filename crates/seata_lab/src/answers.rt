@@ -1,5 +1,5 @@
 //! What the program writes for an input.
-ghost use Rattle.std.specs.Prelude.{◌≡◌, ◌≢◌, ◌++◌, ℕ, List, false, codes, IfOk, OnOk, string_bytes};
+ghost use Rattle.std.specs.Prelude.{◌≡◌, ◌≢◌, ◌++◌, ℕ, List, true, false, codes, IfOk, OnOk, string_bytes};
 ghost use Rattle.std.specs.Fmt.{decimal};
 ghost use Rattle.history_text.specs.Report.{line};
 ghost use Rattle.scenario_reader.specs.Reading.{IsScenario};
@@ -75,7 +75,8 @@ fn refused(alloc: Global, error: &ScenarioError) -> Result<Answer, NoMemory>
 
 /// Whether memory was refused.
 fn is_memory(error: &ScenarioError) -> bool
-    ensures { result ≡ false → error.now ≢ ScenarioError.NoMemory }
+    ensures memory { result ≡ true → error.now ≡ ScenarioError.NoMemory }
+    ensures other { result ≡ false → error.now ≢ ScenarioError.NoMemory }
 {
     matches!(error, ScenarioError::NoMemory)
 }

@@ -1,7 +1,12 @@
-//! `seata_lab`: reads a scenario from standard input, replays it, and prints the whole history.
+//! `seata_lab`: reads a scenario from standard input, replays it, and prints the whole history; or reads frames and
+//! prints a line for each.
 #![tactic(auto)]
 
 mod answers;
+mod frames;
+#[cfg(test)]
+mod kept;
+mod laws;
 mod managers;
 mod memory;
 mod replays;

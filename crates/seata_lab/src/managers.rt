@@ -1,5 +1,7 @@
 //! A manager as a node. It stands here until managers make calls.
 ghost use Rattle.std.specs.Prelude.{◌+◌, ◌<◌, ◌^◌};
+ghost use Rattle.frame_codec.specs.Limits.{IsCounted};
+ghost use Rattle.seata_types.specs.declared.limits.TheConstants.{MANAGERS, TICKS};
 
 use history_text::{Node, sends, still};
 use seata_types::{Act, Ending, GlobalStatus, Input, Message, NodeError, Place, Step, Xid};
@@ -35,6 +37,9 @@ impl Talk {
     ghost use Rattle.seata_types.specs.declared.ids.Place.TheVariants as place;
     ghost use Rattle.seata_types.specs.declared.messages.Input.TheVariants as input;
     ghost use Rattle.seata_types.specs.declared.messages.Message.TheVariants as message;
+    ghost use Rattle.frame_codec.specs.Limits.{IsFramable, IsCounted};
+    ghost use Rattle.seata_types.specs.declared.limits.TheConstants.{MANAGERS, TICKS};
+    ghost use Rattle.history_text.specs.Framing.{SendsFramable};
     ghost use Rattle.history_text.specs.Own as own;
     ghost use Rattle.history_text.specs.ManagerRules as rules;
     ghost use Rattle.history_text.specs.Rules.{Manager as ManagerRole, TakesStep};
@@ -57,6 +62,9 @@ impl Talk {
         ensures said { rules.is_silent self.old.silent self.old.sent ≡ false
             → (result ≡ own.sends act place.Tc message) × (self.new ≡ says self.old phase) }
         ensures silent { rules.is_silent self.old.silent self.old.sent ≡ true → (result ≡ own.still acts.Silent) × (self.new ≡ self.old) }
+        ensures framable { IsFramable message → SendsFramable result }
+        ensures same { settings_of self.new ≡ settings_of self.old }
+        ensures grows { self.new.sent ≤ self.old.sent + 1 }
     {
         if self.is_silent() {
             drop(act);
@@ -68,9 +76,42 @@ impl Talk {
         sends(act, Place::Tc, message)
     }
 
+    /// Asks for the commit.
+    fn ask_commit(&mut self, act: Act, xid: Xid) -> Step
+        requires { self.old.sent < 4294967295 }
+        ensures said { rules.is_silent self.old.silent self.old.sent ≡ false
+            → (result ≡ own.sends act place.Tc (message.GlobalCommit xid)) × (self.new ≡ says self.old (phase.Committing xid)) }
+        ensures silent { rules.is_silent self.old.silent self.old.sent ≡ true → (result ≡ own.still acts.Silent) × (self.new ≡ self.old) }
+        ensures framable { SendsFramable result }
+        ensures same { settings_of self.new ≡ settings_of self.old }
+        ensures grows { self.new.sent ≤ self.old.sent + 1 }
+    {
+        self.say(act, Message::GlobalCommit { xid }, Phase::Committing(xid))
+    }
+
+    /// Asks for the rollback.
+    fn ask_rollback(&mut self, act: Act, xid: Xid) -> Step
+        requires { self.old.sent < 4294967295 }
+        ensures said { rules.is_silent self.old.silent self.old.sent ≡ false
+            → (result ≡ own.sends act place.Tc (message.GlobalRollback xid)) × (self.new ≡ says self.old (phase.RollingBack xid)) }
+        ensures silent { rules.is_silent self.old.silent self.old.sent ≡ true → (result ≡ own.still acts.Silent) × (self.new ≡ self.old) }
+        ensures framable { SendsFramable result }
+        ensures same { settings_of self.new ≡ settings_of self.old }
+        ensures grows { self.new.sent ≤ self.old.sent + 1 }
+    {
+        self.say(
+            act,
+            Message::GlobalRollback { xid },
+            Phase::RollingBack(xid),
+        )
+    }
+
     /// Takes a turn: starts, repeats the last message, or has nothing to do.
     fn turn(&mut self, now: u64) -> Step
-        requires { self.old.sent < 4294967295 }
+        requires room { self.old.sent < 4294967295 }
+        requires numbered { IsCounted MANAGERS self.old.number }
+        requires timed { IsCounted TICKS self.old.timeout }
+        ensures framable { SendsFramable result }
         ensures takes { TakesStep Tracks (ManagerRole (settings_of self.old)) self.old self.new input.Turn now result }
         ensures same { settings_of self.new ≡ settings_of self.old }
         ensures grows { self.new.sent ≤ self.old.sent + 1 }
@@ -85,13 +126,11 @@ impl Talk {
             Phase::Beginning => self.say(Act::Repeats, begin, Phase::Beginning),
             Phase::Committing(xid) => {
                 drop(begin);
-                let commit = Message::GlobalCommit { xid };
-                self.say(Act::Repeats, commit, Phase::Committing(xid))
+                self.ask_commit(Act::Repeats, xid)
             }
             Phase::RollingBack(xid) => {
                 drop(begin);
-                let rollback = Message::GlobalRollback { xid };
-                self.say(Act::Repeats, rollback, Phase::RollingBack(xid))
+                self.ask_rollback(Act::Repeats, xid)
             }
             Phase::Closed => {
                 drop(begin);
@@ -106,28 +145,22 @@ impl Talk {
         ensures said { rules.is_silent self.old.silent self.old.sent ≡ false
             → (result ≡ own.sends acts.GoesOn place.Tc (rules.ending_message self.old.ending xid)) × (self.new ≡ says self.old (ending_phase self.old.ending xid)) }
         ensures silent { rules.is_silent self.old.silent self.old.sent ≡ true → (result ≡ own.still acts.Silent) × (self.new ≡ self.old) }
+        ensures framable { SendsFramable result }
+        ensures same { settings_of self.new ≡ settings_of self.old }
+        ensures grows { self.new.sent ≤ self.old.sent + 1 }
     {
         match self.ending {
-            Ending::Commit => {
-                self.say(
-                    Act::GoesOn,
-                    Message::GlobalCommit { xid },
-                    Phase::Committing(xid),
-                )
-            }
-            Ending::Rollback => {
-                self.say(
-                    Act::GoesOn,
-                    Message::GlobalRollback { xid },
-                    Phase::RollingBack(xid),
-                )
-            }
+            Ending::Commit => self.ask_commit(Act::GoesOn, xid),
+            Ending::Rollback => self.ask_rollback(Act::GoesOn, xid),
         }
     }
 
     /// Answers a message.
     fn hear(&mut self, from: Place, heard: &Message, now: u64) -> Step
-        requires { self.old.sent < 4294967295 }
+        requires room { self.old.sent < 4294967295 }
+        requires numbered { IsCounted MANAGERS self.old.number }
+        requires timed { IsCounted TICKS self.old.timeout }
+        ensures framable { SendsFramable result }
         ensures takes { TakesStep Tracks (ManagerRole (settings_of self.old)) self.old self.new (input.Message from heard.now) now result }
         ensures same { settings_of self.new ≡ settings_of self.old }
         ensures grows { self.new.sent ≤ self.old.sent + 1 }
@@ -148,6 +181,7 @@ impl Talk {
     fn close(&mut self, asked: Xid, told: Xid, status: GlobalStatus) -> Step
         ensures closed { (asked.0 == told.0) ≡ true → (result ≡ own.still (acts.Closes status)) × (self.new ≡ record self.old { phase = phase.Closed }) }
         ensures ignored { (asked.0 == told.0) ≡ false → (result ≡ own.still acts.Ignored) × (self.new ≡ self.old) }
+        ensures framable { SendsFramable result }
     {
         if asked.0 == told.0 {
             self.phase = Phase::Closed;
@@ -158,7 +192,10 @@ impl Talk {
 
     /// Answers an input.
     fn answer(&mut self, given: &Input, now: u64) -> Step
-        requires { self.old.sent < 4294967295 }
+        requires room { self.old.sent < 4294967295 }
+        requires numbered { IsCounted MANAGERS self.old.number }
+        requires timed { IsCounted TICKS self.old.timeout }
+        ensures framable { SendsFramable result }
         ensures takes { TakesStep Tracks (ManagerRole (settings_of self.old)) self.old self.new given.now now result }
         ensures same { settings_of self.new ≡ settings_of self.old }
         ensures grows { self.new.sent ≤ self.old.sent + 1 }
@@ -176,15 +213,22 @@ pub struct Manager {
     talk: Talk,
     left: u32,
     ghost room: { talk.sent + left < 2 ^ 32 },
+    // So that its Begin can be framed.
+    ghost numbered: { IsCounted MANAGERS talk.number },
+    ghost timed: { IsCounted TICKS talk.timeout },
 }
 
 impl Manager {
     ghost use Rattle.std.specs.Prelude.{◌≡◌, []};
+    ghost use Rattle.frame_codec.specs.Limits.{IsCounted};
+    ghost use Rattle.seata_types.specs.declared.limits.TheConstants.{MANAGERS, TICKS};
     ghost use Rattle.seata_lab.specs.ManagerStanding.{StandsFor, settings, steps_of};
 
     /// A manager that stands for no own entries; takes no memory.
     #[tactic(auto, unfolding(crate::specs::ManagerStanding::StandsFor))]
     pub fn new(number: u16, timeout: u64, ending: Ending, silent: Option<u32>) -> Manager
+        requires numbered { IsCounted MANAGERS number }
+        requires timed { IsCounted TICKS timeout }
         ensures fresh { StandsFor result [] }
         ensures settings { settings result ≡ record { number = number; timeout = timeout; ending = ending; silent = silent } }
         ensures steps { steps_of result ≡ 4294967294 }

@@ -18,12 +18,14 @@ pub struct MemSource {
 
 impl MemSource {
     ghost use Rattle.std.specs.Prelude.{◌≡◌, Some};
-    ghost use Rattle.seata_lab.specs.MemStreams.{bytes_left, source_faults};
+    ghost use Rattle.seata_lab.specs.MemStreams.{bytes_left, source_faults, source_fails, source_calls};
 
     /// A source of these bytes that fails at these calls; takes no memory.
     pub fn new(bytes: Vec<u8>, failing: Vec<u32>) -> MemSource
         ensures bytes { bytes_left result ≡ Some bytes.items }
         ensures faults { source_faults result ≡ 0 }
+        ensures fails { source_fails result ≡ failing.items }
+        ensures calls { source_calls result ≡ 0 }
     {
         MemSource {
             bytes,
@@ -36,13 +38,27 @@ impl MemSource {
 }
 
 impl Source for MemSource {
-    ghost use Rattle.seata_lab.specs.MemStreams.{bytes_left, source_faults};
+    ghost use Rattle.std.specs.Prelude.{◌≡◌, ◌<◌, ◌≤◌, min, take, length, is_err, IfOk, OnErr};
+    ghost use Rattle.seata_lab.specs.Streams.{Rose, Loses, Ends};
+    ghost use Rattle.seata_lab.specs.MemStreams.{bytes_left, left_of, source_faults, source_fails, source_calls, next_call, fails_next};
 
     ghost left = { bytes_left };
 
     ghost faults = { source_faults };
 
-    fn read(&mut self, into: &mut [u8]) -> Result<usize, Failed> {
+    fn read(&mut self, into: &mut [u8]) -> Result<usize, Failed>
+        ensures bound { IfOk result (λ n. n ≤ length into.old) }
+        ensures bytes { IfOk result (λ n. Loses (bytes_left self.old) (bytes_left self.new) (take n into.new)) }
+        ensures end { IfOk result (λ n. n ≡ 0 → 0 < length into.old → Ends (bytes_left self.new)) }
+        ensures failed { OnErr result (bytes_left self.new ≡ bytes_left self.old) }
+        ensures err { OnErr result (Rose (source_faults self.old) (source_faults self.new)) }
+        ensures counted { source_faults self.old ≤ source_faults self.new }
+        // It fails at the calls that it was given, and else reads as much as it can.
+        ensures fails { is_err result ≡ fails_next (source_fails self.old) (source_calls self.old) }
+        ensures most { IfOk result (λ n. n ≡ min (length into.old) (length (left_of self.old))) }
+        ensures same { source_fails self.new ≡ source_fails self.old }
+        ensures calls { source_calls self.new ≡ next_call (source_calls self.old) }
+    {
         self.calls = self.calls.saturating_add(1);
         if self.failing.contains(&self.calls) {
             self.faults = self.faults.saturating_add(1);
@@ -69,12 +85,15 @@ pub struct MemSink {
 
 impl MemSink {
     ghost use Rattle.std.specs.Prelude.{◌≡◌, [], Some, IfOk};
-    ghost use Rattle.seata_lab.specs.MemStreams.{bytes_written, sink_faults};
+    ghost use Rattle.seata_lab.specs.MemStreams.{bytes_written, sink_faults, room_left, sink_fails, sink_calls};
 
     /// A sink with this room, taken now, that fails at these calls.
     pub fn new(alloc: Global, room: usize, failing: Vec<u32>) -> Result<MemSink, NoMemory>
         ensures bytes { IfOk result (λ sink. bytes_written sink ≡ Some []) }
         ensures faults { IfOk result (λ sink. sink_faults sink ≡ 0) }
+        ensures room { IfOk result (λ sink. room_left sink ≡ room) }
+        ensures fails { IfOk result (λ sink. sink_fails sink ≡ failing.items) }
+        ensures calls { IfOk result (λ sink. sink_calls sink ≡ 0) }
     {
         let bytes = Vec::with_capacity(alloc, room).map_err(|_| NoMemory)?;
         Ok(MemSink {
@@ -95,13 +114,28 @@ impl MemSink {
 }
 
 impl Sink for MemSink {
-    ghost use Rattle.seata_lab.specs.MemStreams.{bytes_written, sink_faults};
+    ghost use Rattle.std.specs.Prelude.{◌≡◌, ◌<◌, ◌≤◌, ◌+◌, min, take, length, is_err, IfOk, OnErr};
+    ghost use Rattle.seata_lab.specs.Streams.{Rose, Gains};
+    ghost use Rattle.seata_lab.specs.MemStreams.{bytes_written, sink_faults, room_left, sink_fails, sink_calls, next_call, fails_next};
 
     ghost written = { bytes_written };
 
     ghost faults = { sink_faults };
 
-    fn write(&mut self, bytes: &[u8]) -> Result<usize, Failed> {
+    fn write(&mut self, bytes: &[u8]) -> Result<usize, Failed>
+        ensures bound { IfOk result (λ n. n ≤ length bytes.now) }
+        ensures bytes { IfOk result (λ n. Gains (bytes_written self.old) (bytes_written self.new) (take n bytes.now)) }
+        ensures stuck { IfOk result (λ n. n ≡ 0 → 0 < length bytes.now → Rose (sink_faults self.old) (sink_faults self.new)) }
+        ensures failed { OnErr result (bytes_written self.new ≡ bytes_written self.old) }
+        ensures err { OnErr result (Rose (sink_faults self.old) (sink_faults self.new)) }
+        ensures counted { sink_faults self.old ≤ sink_faults self.new }
+        // It fails at the calls that it was given, and else writes as much as there is room for.
+        ensures fails { is_err result ≡ fails_next (sink_fails self.old) (sink_calls self.old) }
+        ensures most { IfOk result (λ n. n ≡ min (length bytes.now) (room_left self.old)) }
+        ensures room { IfOk result (λ n. room_left self.new + n ≡ room_left self.old) }
+        ensures same { sink_fails self.new ≡ sink_fails self.old }
+        ensures calls { sink_calls self.new ≡ next_call (sink_calls self.old) }
+    {
         self.calls = self.calls.saturating_add(1);
         if self.failing.contains(&self.calls) {
             self.faults = self.faults.saturating_add(1);

@@ -1,6 +1,6 @@
 //! Replaying the whole schedule of a scenario.
-ghost use Rattle.std.specs.Prelude.{◌≡◌, ◌≤◌, [], length, IfOk};
-ghost use Rattle.scenario_reader.specs.Runnable.{IsRunnable};
+ghost use Rattle.std.specs.Prelude.{◌≡◌, ◌≤◌, [], length, All, IfOk};
+ghost use Rattle.scenario_reader.specs.Runnable.{IsTimed, IsRunnable};
 ghost use Rattle.seata_lab.specs.Runs.{Plays, AreManagers, HasPlayed};
 
 use crate::managers::Manager;
@@ -12,7 +12,8 @@ use std::alloc::Global;
 
 /// The managers of a scenario, before they do anything.
 fn new_managers(alloc: Global, managers: &[ManagerDef]) -> Result<Vec<Manager>, NoMemory>
-    requires { length managers.now ≤ 256 }
+    requires few { length managers.now ≤ 256 }
+    requires timed { All IsTimed managers.now }
     ensures { IfOk result (λ made. AreManagers managers.now made.items) }
 {
     let mut made = Vec::new(alloc);
@@ -25,7 +26,7 @@ fn new_managers(alloc: Global, managers: &[ManagerDef]) -> Result<Vec<Manager>, 
 
 /// A run that made nothing yet.
 fn new_run(alloc: Global, scenario: &Scenario) -> Result<Run, NoMemory>
-    requires { length scenario.now.managers ≤ 256 }
+    requires { IsRunnable scenario.now }
     ensures { IfOk result (λ made. Plays scenario.now made []) }
 {
     Ok(Run {

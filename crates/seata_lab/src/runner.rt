@@ -1,17 +1,28 @@
 //! A run of the schedule: the nodes, the messages that were sent, and the history so far.
 ghost use Rattle.std.specs.Prelude.{◌≡◌, IfOk, option_map};
+ghost use Rattle.frame_codec.specs.Limits.{IsFramable};
 ghost use Rattle.history_text.specs.Notes as notes;
+ghost use Rattle.seata_lab.specs.Runs.{delivery_of};
 
 use crate::managers::Manager;
 use coordinator_core::Coordinator;
+use frame_codec::{Packet, encode};
 use history_text::{Cause, Entry, Node, Sent, note_of, still};
 use scenario_reader::ScheduleItem;
-use seata_types::{Act, Duplicate, Input, Message, NoMemory, NodeError, Outgoing, Place, Step};
+use seata_types::{Act, Input, Message, NoMemory, NodeError, Outgoing, Place, Step};
 use std::alloc::Global;
 
-/// A message on its way between two nodes.
+/// A message on its way between two nodes, as its frame.
 #[derive(Drop)]
 pub struct Letter {
+    pub from: Place,
+    pub to: Place,
+    pub packet: Packet,
+}
+
+/// A message that reaches its receiver.
+#[derive(Drop)]
+pub struct Delivery {
     pub from: Place,
     pub to: Place,
     pub message: Message,
@@ -27,14 +38,16 @@ pub struct Run {
     pub clock: u64,
 }
 
-/// A copy of a letter.
-fn copy_letter(alloc: Global, letter: &Letter) -> Result<Letter, NoMemory>
-    ensures { IfOk result (λ copied. copied ≡ letter.now) }
+/// Opens a letter, which may be opened again.
+fn open(alloc: Global, letter: &Letter) -> Result<Delivery, NoMemory>
+    ensures opened { IfOk result (λ delivery. delivery ≡ delivery_of letter.now) }
+    ensures framable { IsFramable letter.now.packet.message }
 {
-    Ok(Letter {
+    let (message, _) = letter.packet.open(alloc)?;
+    Ok(Delivery {
         from: letter.from,
         to: letter.to,
-        message: letter.message.copy(alloc)?,
+        message,
     })
 }
 
@@ -46,10 +59,12 @@ impl Run {
     ghost use Rattle.seata_types.specs.declared.acts.Act.TheVariants as acts;
     ghost use Rattle.seata_types.specs.declared.ids.Place.TheVariants as places;
     ghost use Rattle.scenario_reader.specs.declared.scenarios.Scenario.{Scenario as TheScenario};
+    ghost use Rattle.frame_codec.specs.Limits.{IsFramable};
     ghost use Rattle.history_text.specs.Own.{Given, still as still_step};
+    ghost use Rattle.history_text.specs.Framing.{ComesFramable, SendsFramable, IsFramableTo};
     ghost use Rattle.history_text.specs.History.{Moment, entry_of, own};
     ghost use Rattle.history_text.specs.Rules.{answer};
-    ghost use Rattle.seata_lab.specs.Runs.{Plays, Nodes, next, letter_at, letter_from, letters, IsNode, IsPost, IsGiven, CanStep, IsRecorded, printed_entry, StepsManager, IsStepOf, Gives, CanPlay, Fits, PlaysOn};
+    ghost use Rattle.seata_lab.specs.Runs.{Plays, Nodes, next, letter_at, letter_from, letters, delivery_of, IsFramableDelivery, IsNode, IsPost, IsGiven, CanStep, IsRecorded, printed_entry, StepsManager, IsStepOf, Gives, CanPlay, Fits, PlaysOn};
     ghost use Rattle.scenario_reader.specs.declared.scenarios.ScheduleItem.TheVariants as item;
 
     /// Gives the coordinator an input.
@@ -57,6 +72,7 @@ impl Run {
         requires able { 0 < steps_of self.old.coordinator }
         requires moment { self.old.clock ≤ 2 ^ 63 }
         ensures takes { IfOk result (TakesStep StandsFor (CoordinatorRole (retry_of self.old.coordinator)) self.old.coordinator self.new.coordinator input self.old.clock) }
+        ensures framable { ComesFramable input → IfOk result SendsFramable }
         ensures same { retry_of self.new.coordinator ≡ retry_of self.old.coordinator }
         ensures counted { OnOk result (steps_of self.new.coordinator + 1 ≡ steps_of self.old.coordinator) }
         ensures managers { self.new.managers ≡ self.old.managers }
@@ -77,6 +93,7 @@ impl Run {
         requires able { IfSome (slice_get self.old.managers.items k) (λ m. 0 < manager_steps_of m) }
         requires moment { self.old.clock ≤ 2 ^ 63 }
         ensures takes { IfOk result (StepsManager self.old.managers.items self.new.managers.items k input self.old.clock) }
+        ensures framable { ComesFramable input → IfOk result SendsFramable }
         ensures coordinator { self.new.coordinator ≡ self.old.coordinator }
         ensures rest { (self.new.letters ≡ self.old.letters) × (self.new.entries ≡ self.old.entries) × (self.new.clock ≡ self.old.clock) }
     {
@@ -95,6 +112,7 @@ impl Run {
         requires can { CanStep self.old place }
         requires moment { self.old.clock ≤ 2 ^ 63 }
         ensures done { IfOk result (IsStepOf self.old self.new place input) }
+        ensures framable { ComesFramable input → IfOk result SendsFramable }
         ensures rest { (self.new.letters ≡ self.old.letters) × (self.new.entries ≡ self.old.entries) × (self.new.clock ≡ self.old.clock) }
     {
         match place {
@@ -111,30 +129,34 @@ impl Run {
     }
 
     /// The message that the entry with this stamp sent, if it is there and sent one.
-    fn letter(&self, alloc: Global, stamp: u32) -> Result<Option<Letter>, NoMemory>
-        ensures { IfOk result (λ found. found ≡ letter_at stamp self.now.letters.items) }
+    fn delivery(&self, alloc: Global, stamp: u32) -> Result<Option<Delivery>, NoMemory>
+        ensures found { IfOk result (λ found. found ≡ option_map delivery_of (letter_at stamp self.now.letters.items)) }
+        ensures framable { IfOk result (λ found. IfSome found IsFramableDelivery) }
     {
         if stamp == 0 {
             return Ok(None);
         }
         match self.letters.get(stamp as usize - 1) {
-            Some(Some(letter)) => Ok(Some(copy_letter(alloc, letter)?)),
+            Some(Some(letter)) => Ok(Some(open(alloc, letter)?)),
             _ => Ok(None),
         }
     }
 
     /// Keeps the message of the next entry.
     fn keep(&mut self, alloc: Global, from: Place, sent: &Option<Outgoing>) -> Result<(), NoMemory>
-        ensures kept { OnOk result (self.new.letters.items ≡ self.old.letters.items ++ option_map (letter_from from) sent.now ∷ []) }
+        requires short { length self.old.entries.items < 20000 }
+        requires framable { IfSome sent.now IsFramableTo }
+        ensures kept { OnOk result (self.new.letters.items ≡ self.old.letters.items ++ option_map (letter_from from (length self.old.entries.items + 1)) sent.now ∷ []) }
         ensures entries { self.new.entries ≡ self.old.entries }
         ensures nodes { (self.new.coordinator ≡ self.old.coordinator) × (self.new.managers ≡ self.old.managers) }
         ensures clock { self.new.clock ≡ self.old.clock }
     {
+        let stamp = self.entries.len() as u32 + 1;
         let letter = match sent {
             Some(outgoing) => Some(Letter {
                 from,
                 to: outgoing.to,
-                message: outgoing.message.copy(alloc)?,
+                packet: encode(alloc, &outgoing.message, stamp)?,
             }),
             None => None,
         };
@@ -171,7 +193,8 @@ impl Run {
         cause: Cause,
         step: Step,
     ) -> Result<(), NoMemory>
-        requires { length self.old.entries.items < 20000 }
+        requires short { length self.old.entries.items < 20000 }
+        requires framable { SendsFramable step }
         ensures recorded { OnOk result (IsRecorded self.old self.new place cause step) }
     {
         match self.keep(alloc, place, &step.sent) {
@@ -194,6 +217,7 @@ impl Run {
         requires can { CanStep self.old place }
         requires moment { self.old.clock ≤ 2 ^ 63 }
         requires short { length self.old.entries.items < 20000 }
+        requires framable { ComesFramable input }
         ensures gives { OnOk result (Gives self.old self.new place cause input) }
     {
         let step = self.step(alloc, place, input)?;
@@ -215,11 +239,11 @@ impl Run {
         requires short { length self.old.entries.items < 20000 }
         ensures plays { OnOk result (PlaysOn self.old self.new (item.Deliver stamp)) }
     {
-        let Some(letter) = self.letter(alloc, stamp)? else {
+        let Some(delivery) = self.delivery(alloc, stamp)? else {
             self.pass(alloc, Cause::Missing { stamp })?;
             return Ok(());
         };
-        let Letter { from, to, message } = letter;
+        let Delivery { from, to, message } = delivery;
         let cause = Cause::Deliver { stamp, from };
         self.give(alloc, to, cause, Input::Message { from, message })?;
         Ok(())

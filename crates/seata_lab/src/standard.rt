@@ -10,18 +10,24 @@ pub struct StdSource<R> {
 }
 
 impl<R> StdSource<R> {
-    /// A source over a reader; takes no memory.
-    pub fn new(input: R) -> StdSource<R> {
+    ghost use Rattle.std.specs.Prelude.{◌≡◌};
+    ghost use Rattle.seata_lab.specs.StdStreams.{source_faults};
+
+    /// A source over a reader, of which no fault was counted; takes no memory.
+    pub fn new(input: R) -> StdSource<R>
+        ensures { source_faults result ≡ 0 }
+    {
         StdSource { input, faults: 0 }
     }
 }
 
 impl<R: Read> Source for StdSource<R> {
     ghost use Rattle.std.specs.Prelude.{None};
+    ghost use Rattle.seata_lab.specs.StdStreams.{source_faults};
 
     ghost left = { λ _. None };
 
-    ghost faults = { λ s. s.faults };
+    ghost faults = { source_faults };
 
     fn read(&mut self, into: &mut [u8]) -> Result<usize, Failed> {
         match self.input.read(into) {
@@ -42,18 +48,24 @@ pub struct StdSink<W> {
 }
 
 impl<W> StdSink<W> {
-    /// A sink over a writer; takes no memory.
-    pub fn new(output: W) -> StdSink<W> {
+    ghost use Rattle.std.specs.Prelude.{◌≡◌};
+    ghost use Rattle.seata_lab.specs.StdStreams.{sink_faults};
+
+    /// A sink over a writer, of which no fault was counted; takes no memory.
+    pub fn new(output: W) -> StdSink<W>
+        ensures { sink_faults result ≡ 0 }
+    {
         StdSink { output, faults: 0 }
     }
 }
 
 impl<W: Write> Sink for StdSink<W> {
     ghost use Rattle.std.specs.Prelude.{None};
+    ghost use Rattle.seata_lab.specs.StdStreams.{sink_faults};
 
     ghost written = { λ _. None };
 
-    ghost faults = { λ s. s.faults };
+    ghost faults = { sink_faults };
 
     fn write(&mut self, bytes: &[u8]) -> Result<usize, Failed> {
         match self.output.write(bytes) {

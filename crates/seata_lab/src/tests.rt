@@ -1,6 +1,10 @@
 //! Whole runs of `top` over memory: the words, the input, what is written, and the status.
+ghost use Rattle.std.specs.Prelude.{◌<◌};
+
 use crate::memory::{MemSink, MemSource};
-use crate::rows::{COMMIT_IN_TIME, LATE_ONES, NOTHING, REPEATED_MESSAGES, ROLLBACK, TIMEOUT};
+use crate::rows::{
+    COMMIT_IN_TIME, FRAMES, LATE_ONES, NOTHING, REPEATED_MESSAGES, ROLLBACK, TIMEOUT,
+};
 use crate::tops::top;
 use seata_types::Text;
 use std::alloc::Global;
@@ -67,6 +71,38 @@ fn replays(rt: HostRuntime) -> Result<(), Fail> {
     Ok(())
 }
 
+/// The number that a hexadecimal digit stands for.
+fn digit(code: u8) -> u8
+    ensures { result < 16 }
+{
+    match code {
+        b'0'..=b'9' => code - b'0',
+        b'a'..=b'f' => code - b'a' + 10,
+        _ => 0,
+    }
+}
+
+/// The bytes that hexadecimal digits stand for.
+fn bytes_of(alloc: Global, digits: &str) -> Result<Vec<u8>, Fail> {
+    let mut bytes = Vec::new(alloc);
+    for pair in digits.as_bytes().chunks(2) {
+        if let [high, low] = pair {
+            bytes.push(digit(*high) * 16 + digit(*low))?;
+        }
+    }
+    Ok(bytes)
+}
+
+#[test]
+fn lists_frames(rt: HostRuntime) -> Result<(), Fail> {
+    for [digits, lines] in FRAMES {
+        let input = bytes_of(rt.alloc(), digits)?;
+        let ran = run(rt.alloc(), &["frames"], input.as_slice(), SOUND)?;
+        expect(&rt, &ran, 0, lines);
+    }
+    Ok(())
+}
+
 #[test]
 fn refuses(rt: HostRuntime) -> Result<(), Fail> {
     let usage = "usage: seata_lab replay | run | make | stress | frames\n";
@@ -74,6 +110,9 @@ fn refuses(rt: HostRuntime) -> Result<(), Fail> {
     expect(&rt, &run(alloc, &[], b"", SOUND)?, 2, usage);
     expect(&rt, &run(alloc, &["replay", "--"], b"", SOUND)?, 2, usage);
     expect(&rt, &run(alloc, &["--help"], b"", SOUND)?, 2, usage);
+    expect(&rt, &run(alloc, &["frames", "--"], b"", SOUND)?, 2, usage);
+    let twice = ["frames", "frames"];
+    expect(&rt, &run(alloc, &twice, b"", SOUND)?, 2, usage);
     let not_json = "scenario: NotJson\n";
     expect(&rt, &run(alloc, &["replay"], b"[", SOUND)?, 3, not_json);
     let shape = "scenario: Shape .\n";
@@ -88,6 +127,8 @@ fn refuses_long_input(rt: HostRuntime) -> Result<(), Fail> {
     let long = vec![in rt.alloc(); b' '; 4_194_305]?;
     let ran = run(rt.alloc(), &["replay"], long.as_slice(), SOUND)?;
     expect(&rt, &ran, 3, "scenario: Limit . 4194304\n");
+    let ran = run(rt.alloc(), &["frames"], long.as_slice(), SOUND)?;
+    expect(&rt, &ran, 3, "input: over 4194304 bytes\n");
     Ok(())
 }
 

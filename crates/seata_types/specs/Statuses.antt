@@ -1,5 +1,5 @@
 -- The numbers of the statuses, and the table of their changes.
-use Rattle.std.specs.Prelude.{ℕ, Bool, true, false}
+use Rattle.std.specs.Prelude.{ℕ, Bool}
 use Rattle.seata_types.specs.declared.statuses.GlobalStatus.{GlobalStatus}
 use Rattle.seata_types.specs.declared.statuses.GlobalStatus.TheVariants as global
 use Rattle.seata_types.specs.declared.statuses.BranchStatus.{BranchStatus}

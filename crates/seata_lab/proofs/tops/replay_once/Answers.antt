@@ -1,54 +1,30 @@
-use Rattle.std.proofs.Common.{arith}
-use Rattle.seata_lab.proofs.Concluded.{answer_by, done_says, refused_says, not_else, sink_says, cut_says, status_among, complete_says}
+use Rattle.std.proofs.Common.{subst, string_bytes}
+use Rattle.std.specs.Prelude.{IfOk}
+use Rattle.seata_lab.specs.Answers.{IsAnswerTo}
+use Rattle.seata_lab.proofs.Concluded.{Concludes, concluded, not_four, status_among}
+use Rattle.seata_lab.proofs.Replayed.{replay_answers, done_says, refused_says, cut_says, complete_says}
 use Rattle.seata_lab.proofs.tops.replay_once.Goals as goal
 
-pub returns-in-Ok-answer_to-clause-done : goal.returns-in-Ok-answer_to-clause-done
-returns-in-Ok-answer_to-clause-done g c =
-    done_says c.in-Ok.bytes.items c.as_str.result.now c.in-Ok-answer_to.answer.status c.finish.result (g.S.Source.left c.args.source.now) (g.S.Source.left c.read_all.new.source)
-    (g.K.Sink.written c.args.sink.now) (g.K.Sink.written c.finish.new.sink) (g.K.Sink.faults c.args.sink.now) (g.K.Sink.faults c.finish.new.sink)
-    (answer_by _ _ _ _ _ c.as_slice.ensures.value c.as_str.ensures.value c.in-Ok-answer_to.ensures) c.in-Ok.ensures.bytes c.in-Ok.ensures.end c.finish.ensures.whole c.finish.ensures.front
-
-pub returns-in-Ok-answer_to-clause-refused : goal.returns-in-Ok-answer_to-clause-refused
-returns-in-Ok-answer_to-clause-refused g c =
-    refused_says c.in-Ok.bytes.items c.as_str.result.now c.in-Ok-answer_to.answer.status c.finish.result (g.S.Source.left c.args.source.now) (g.S.Source.left c.read_all.new.source)
-    (g.K.Sink.written c.args.sink.now) (g.K.Sink.written c.finish.new.sink) (g.K.Sink.faults c.args.sink.now) (g.K.Sink.faults c.finish.new.sink)
-    (answer_by _ _ _ _ _ c.as_slice.ensures.value c.as_str.ensures.value c.in-Ok-answer_to.ensures) c.in-Ok.ensures.bytes c.in-Ok.ensures.end c.finish.ensures.whole c.finish.ensures.front
-
-pub returns-in-Ok-answer_to-clause-source_failed : goal.returns-in-Ok-answer_to-clause-source_failed
-returns-in-Ok-answer_to-clause-source_failed g c =
-    λ four. absurd (not_else c.in-Ok.bytes.items c.as_str.result.now c.in-Ok-answer_to.answer.status c.finish.result (g.S.Source.left c.args.source.now) (g.S.Source.left c.read_all.new.source)
-    (g.K.Sink.written c.args.sink.now) (g.K.Sink.written c.finish.new.sink) (g.K.Sink.faults c.args.sink.now) (g.K.Sink.faults c.finish.new.sink)
-    (answer_by _ _ _ _ _ c.as_slice.ensures.value c.as_str.ensures.value c.in-Ok-answer_to.ensures) c.in-Ok.ensures.bytes c.in-Ok.ensures.end c.finish.ensures.whole c.finish.ensures.front
-    4 (omega arith) (omega arith) (omega arith) four)
-
-pub returns-in-Ok-answer_to-clause-sink_failed : goal.returns-in-Ok-answer_to-clause-sink_failed
-returns-in-Ok-answer_to-clause-sink_failed g c =
-    sink_says c.in-Ok.bytes.items c.as_str.result.now c.in-Ok-answer_to.answer.status c.finish.result (g.S.Source.left c.args.source.now) (g.S.Source.left c.read_all.new.source)
-    (g.K.Sink.written c.args.sink.now) (g.K.Sink.written c.finish.new.sink) (g.K.Sink.faults c.args.sink.now) (g.K.Sink.faults c.finish.new.sink)
-    (answer_by _ _ _ _ _ c.as_slice.ensures.value c.as_str.ensures.value c.in-Ok-answer_to.ensures) c.in-Ok.ensures.bytes c.in-Ok.ensures.end c.finish.ensures.whole c.finish.ensures.front
-
-pub returns-in-Ok-answer_to-clause-cut_short : goal.returns-in-Ok-answer_to-clause-cut_short
-returns-in-Ok-answer_to-clause-cut_short g c =
-    cut_says c.in-Ok.bytes.items c.as_str.result.now c.in-Ok-answer_to.answer.status c.finish.result (g.S.Source.left c.args.source.now) (g.S.Source.left c.read_all.new.source)
-    (g.K.Sink.written c.args.sink.now) (g.K.Sink.written c.finish.new.sink) (g.K.Sink.faults c.args.sink.now) (g.K.Sink.faults c.finish.new.sink)
-    (answer_by _ _ _ _ _ c.as_slice.ensures.value c.as_str.ensures.value c.in-Ok-answer_to.ensures) c.in-Ok.ensures.bytes c.in-Ok.ensures.end c.finish.ensures.whole c.finish.ensures.front
-
-pub returns-in-Ok-answer_to-clause-no_memory : goal.returns-in-Ok-answer_to-clause-no_memory
-returns-in-Ok-answer_to-clause-no_memory g c =
-    λ six. absurd (not_else c.in-Ok.bytes.items c.as_str.result.now c.in-Ok-answer_to.answer.status c.finish.result (g.S.Source.left c.args.source.now) (g.S.Source.left c.read_all.new.source)
-    (g.K.Sink.written c.args.sink.now) (g.K.Sink.written c.finish.new.sink) (g.K.Sink.faults c.args.sink.now) (g.K.Sink.faults c.finish.new.sink)
-    (answer_by _ _ _ _ _ c.as_slice.ensures.value c.as_str.ensures.value c.in-Ok-answer_to.ensures) c.in-Ok.ensures.bytes c.in-Ok.ensures.end c.finish.ensures.whole c.finish.ensures.front
-    6 (omega arith) (omega arith) (omega arith) six)
-
-pub returns-in-Ok-answer_to-clause-statuses : goal.returns-in-Ok-answer_to-clause-statuses
-returns-in-Ok-answer_to-clause-statuses g c =
-    status_among c.in-Ok.bytes.items c.as_str.result.now c.in-Ok-answer_to.answer.status c.finish.result (g.S.Source.left c.args.source.now) (g.S.Source.left c.read_all.new.source)
-    (g.K.Sink.written c.args.sink.now) (g.K.Sink.written c.finish.new.sink) (g.K.Sink.faults c.args.sink.now) (g.K.Sink.faults c.finish.new.sink)
-    (answer_by _ _ _ _ _ c.as_slice.ensures.value c.as_str.ensures.value c.in-Ok-answer_to.ensures) c.in-Ok.ensures.bytes c.in-Ok.ensures.end c.finish.ensures.whole c.finish.ensures.front
-
-pub returns-in-Ok-answer_to-clause-complete : goal.returns-in-Ok-answer_to-clause-complete
-returns-in-Ok-answer_to-clause-complete g c =
-    λ input s is is_s source_calm sink_calm. complete_says c.in-Ok.bytes.items c.as_str.result.now c.in-Ok-answer_to.answer.status c.finish.result (g.S.Source.left c.args.source.now) (g.S.Source.left c.read_all.new.source)
-    (g.K.Sink.written c.args.sink.now) (g.K.Sink.written c.finish.new.sink) (g.K.Sink.faults c.args.sink.now) (g.K.Sink.faults c.finish.new.sink)
-    (answer_by _ _ _ _ _ c.as_slice.ensures.value c.as_str.ensures.value c.in-Ok-answer_to.ensures) c.in-Ok.ensures.bytes c.in-Ok.ensures.end c.finish.ensures.whole c.finish.ensures.front
-    input s is is_s sink_calm
+pub returns-in-Ok : goal.returns-in-Ok
+returns-in-Ok g c =
+    let result = c.write_answer.result in
+    let left0 = g.S.Source.left c.args.source.now in
+    let left1 = g.S.Source.left c.read_input.new.source in
+    let written0 = g.K.Sink.written c.args.sink.now in
+    let written1 = g.K.Sink.written c.write_answer.new.sink in
+    let faults0 = g.K.Sink.faults c.args.sink.now in
+    let faults1 = g.K.Sink.faults c.write_answer.new.sink in
+    let is = subst (λ bytes. IfOk c.answer_to.result (λ a. IsAnswerTo bytes (string_bytes a.text) a.status)) c.as_slice.ensures.value c.answer_to.ensures in
+    let t : Concludes IsAnswerTo result left0 left1 written0 written1 faults0 faults1 =
+    concluded IsAnswerTo replay_answers c.in-Ok.bytes.items result left0 left1 written0 written1 faults0 faults1
+    c.in-Ok.ensures.input c.answer_to.result is c.write_answer.ensures.whole c.write_answer.ensures.front c.write_answer.ensures.no_memory in
+    record {
+      done = done_says result left0 left1 written0 written1 faults0 faults1 t;
+      refused = refused_says result left0 left1 written0 written1 faults0 faults1 t;
+      source_failed = λ four. absurd (not_four IsAnswerTo result left0 left1 written0 written1 faults0 faults1 t four);
+      sink_failed = t.rose;
+      cut_short = cut_says result left0 left1 written0 written1 faults0 faults1 t;
+      no_memory = t.no_memory;
+      statuses = status_among IsAnswerTo result left0 left1 written0 written1 faults0 faults1 t;
+      complete = λ input scenario told is_scenario _ still. complete_says result left0 left1 written0 written1 faults0 faults1 t input scenario told is_scenario still;
+    }

@@ -1,4 +1,4 @@
-use Rattle.std.proofs.Common.{◌≡◌, ◌≤◌, ◌-◌, length, vec_len}
+use Rattle.std.proofs.Common.{◌≡◌, ◌≤◌, ◌-◌, vec_len}
 use Rattle.seata_lab.specs.Streams.{Loses}
 use Rattle.seata_lab.proofs.transfer.read_all.Given as goal
 

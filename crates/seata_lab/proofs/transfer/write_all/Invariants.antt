@@ -1,4 +1,4 @@
-use Rattle.std.proofs.Common.{◌≡◌, ◌≤◌, ◌-◌, take, length}
+use Rattle.std.proofs.Common.{◌≤◌, ◌-◌, take, length}
 use Rattle.seata_lab.specs.Streams.{Gains}
 use Rattle.seata_lab.proofs.transfer.write_all.Given as goal
 

@@ -6,4 +6,4 @@ use Rattle.coordinator_core.proofs.table.Table.begin.Goals as goal
 pub returns-clause-ok : goal.returns-clause-ok
 returns-clause-ok c =
     λ owns t. takes_begun owns t c.args.now c.sends-2.result c.args.from c.args.manager c.args.timeout _ (ap (λ n. n + 1) c.len.ensures.len)
-    (grind (arith, common_steps)) c.in_ok-add.ensures.ok c.sends-2.ensures
+    (grind (arith, common_steps)) c.in_ok-add.ensures.ok c.sends-2.ensures.value

@@ -1,10 +1,8 @@
-use Rattle.std.proofs.Common.{refl, false, ap, ◌∙◌, Some, None, Option, Bool}
+use Rattle.std.proofs.Common.{refl}
 use Rattle.seata_types.specs.declared.acts.Act.TheVariants as act
 use Rattle.seata_types.specs.declared.messages.Input.TheVariants as input
 use Rattle.seata_types.specs.declared.messages.Message.TheVariants as message
-use Rattle.history_text.specs.ManagerRules.{sent_count, is_closed, last_sent, manager_turn}
 use Rattle.seata_lab.specs.declared.managers.Phase.TheVariants as phase
-use Rattle.seata_lab.specs.Talks.{IsPhase, settings_of}
 use Rattle.seata_lab.proofs.Spoken.{spoken, phased_as}
 use Rattle.seata_lab.proofs.managers.Talk.turn.Goals as goal
 
@@ -23,11 +21,11 @@ returns-in-Beginning-clause-takes c =
 pub returns-in-Committing-clause-takes : goal.returns-in-Committing-clause-takes
 returns-in-Committing-clause-takes c =
     λ owns t. let p = phased_as c.args.self.now owns (phase.Committing c.in-Committing.xid) t c.in-Committing.is in
-    spoken c.args.self.now owns input.Turn c.args.now act.Repeats (message.GlobalCommit c.in-Committing.xid) (phase.Committing c.in-Committing.xid) c.say-in-Committing.new.self c.say-in-Committing.result t c.say-in-Committing.ensures.said c.say-in-Committing.ensures.silent
+    spoken c.args.self.now owns input.Turn c.args.now act.Repeats (message.GlobalCommit c.in-Committing.xid) (phase.Committing c.in-Committing.xid) c.ask_commit.new.self c.ask_commit.result t c.ask_commit.ensures.said c.ask_commit.ensures.silent
     (rw (p.0, p.1) refl) p.0 (refl, refl)
 
 pub returns-in-RollingBack-clause-takes : goal.returns-in-RollingBack-clause-takes
 returns-in-RollingBack-clause-takes c =
     λ owns t. let p = phased_as c.args.self.now owns (phase.RollingBack c.in-RollingBack.xid) t c.in-RollingBack.is in
-    spoken c.args.self.now owns input.Turn c.args.now act.Repeats (message.GlobalRollback c.in-RollingBack.xid) (phase.RollingBack c.in-RollingBack.xid) c.say-in-RollingBack.new.self c.say-in-RollingBack.result t c.say-in-RollingBack.ensures.said c.say-in-RollingBack.ensures.silent
+    spoken c.args.self.now owns input.Turn c.args.now act.Repeats (message.GlobalRollback c.in-RollingBack.xid) (phase.RollingBack c.in-RollingBack.xid) c.ask_rollback.new.self c.ask_rollback.result t c.ask_rollback.ensures.said c.ask_rollback.ensures.silent
     (rw (p.0, p.1) refl) p.0 (refl, refl)

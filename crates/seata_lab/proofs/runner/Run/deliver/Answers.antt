@@ -4,13 +4,13 @@ use Rattle.seata_lab.proofs.runner.Run.deliver.Goals as goal
 
 pub returns-in_default : goal.returns-in_default
 returns-in_default c =
-    record { plays = λ s ms t at. missing_plays s c.args.self.now ms t c.pass.new.self c.args.stamp c.in_ok-pass.ensures.recorded (sym c.in_ok-letter.ensures ∙ c.in_default.is) at }
+    record { plays = λ s ms t at. missing_plays s c.args.self.now ms t c.pass.new.self c.args.stamp c.in_ok-pass.ensures.recorded (sym c.in_ok-delivery.ensures.found ∙ c.in_default.is) at }
 
 pub give-requires-clause-can : goal.give-requires-clause-can
 give-requires-clause-can c =
     let (s, ms, t) = c.requires.can in
-    can_step s c.args.self.now ms t c.in-Some.letter.to c.requires.short
-    (receiver_node s c.args.self.now ms t c.args.stamp c.in-Some.letter (sym c.in_ok-letter.ensures ∙ c.in-Some.is))
+    can_step s c.args.self.now ms t c.in-Some.delivery.to c.requires.short
+    (receiver_node s c.args.self.now ms t c.args.stamp c.in-Some.delivery (sym c.in_ok-delivery.ensures.found ∙ c.in-Some.is))
 
 pub give-requires-clause-moment : goal.give-requires-clause-moment
 give-requires-clause-moment c =
@@ -21,5 +21,5 @@ give-requires-clause-moment c =
 pub returns : goal.returns
 returns c =
     record {
-      plays = λ s ms t at. deliver_plays s c.args.self.now ms t c.give.new.self c.args.stamp c.in-Some.letter (sym c.in_ok-letter.ensures ∙ c.in-Some.is) c.in_ok-give.ensures.gives at;
+      plays = λ s ms t at. deliver_plays s c.args.self.now ms t c.give.new.self c.args.stamp c.in-Some.delivery (sym c.in_ok-delivery.ensures.found ∙ c.in-Some.is) c.in_ok-give.ensures.gives at;
     }

@@ -1,7 +1,5 @@
-use Rattle.std.proofs.Common.{◌≡◌, Some, sym, subst, ap, refl, ◌∙◌, arith, length}
-use Rattle.std.specs.Prelude.{slice_get}
+use Rattle.std.proofs.Common.{Some, subst, ap, refl, ◌∙◌, arith, length}
 use Rattle.scenario_reader.specs.Runnable.{FitsNodes}
-use Rattle.scenario_reader.specs.declared.scenarios.ScheduleItem.TheVariants as item
 use Rattle.seata_lab.proofs.Played.{turn_plays, wait_plays, run_node, can_step, slow_clock}
 use Rattle.seata_lab.proofs.runner.Run.play.Goals as goal
 

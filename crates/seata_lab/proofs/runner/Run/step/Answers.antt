@@ -1,5 +1,4 @@
 use Rattle.std.proofs.Common.{ap}
-use Rattle.seata_lab.specs.declared.managers.Manager.{Manager}
 use Rattle.seata_lab.proofs.Stepped.{coordinator_steps_at, manager_steps_at}
 use Rattle.seata_lab.proofs.runner.Run.step.Goals as goal
 

@@ -1,7 +1,5 @@
-use Rattle.std.proofs.Common.{◌≡◌, refl, ap}
+use Rattle.std.proofs.Common.{refl}
 use Rattle.std.proofs.lemmas.Option.{slice_get_read}
-use Rattle.history_text.specs.ManagerRules.{Settings}
-use Rattle.history_text.specs.Rules.{Role, Coordinator, Manager as ManagerRole}
 use Rattle.seata_lab.proofs.Stepped.{manager_role-injective}
 use Rattle.seata_lab.proofs.runner.Run.step_manager.Goals as goal
 
