@@ -1,0 +1,72 @@
+-- Tables stay sound where a row with its key is put, and where a row goes.
+use Rattle.std.proofs.Common.{◌≡◌, ℕ, Bool, true, false, cond, List, [], ◌∷◌, find, slice_get, Option, Some, None, option_map, sym, refl, ap, ◌∙◌, subst}
+use Rattle.std.specs.List.Sorted.{IsStrictlySortedBy}
+use Rattle.std.proofs.lemmas.Option.{none-some}
+use Rattle.seata_types.specs.declared.rows.Row.{Row}
+use Rattle.seata_types.specs.declared.rows.RowKey.{RowKey}
+use Rattle.seata_types.specs.declared.rows.Value.{Value}
+use Rattle.local_tables.specs.Rows.{Rows, HasKey, HasRowKey, is_key, is_named, key_in, keyed, with_key, put, row_at, table_named}
+use Rattle.local_tables.specs.Sound.{IsSound}
+use Rattle.local_tables.specs.declared.schemas.Schema.{Schema}
+use Rattle.local_tables.specs.declared.schemas.TableDef.{TableDef}
+use Rattle.local_tables.proofs.KeyLaws.{same_key, same_text_same}
+use Rattle.local_tables.proofs.PutLaws.{map_put, row_at_put}
+
+found_passes : {X : Type 0} (p : X → Bool) (xs : List X) (x : X) → find p xs ≡ Some x → p x ≡ true
+found_passes p [] x e = cc
+found_passes p (y ∷ ys) x e = by (p y) refl e (found_passes p ys x)
+  where
+    by : (b : Bool) → p y ≡ b → cond b (Some y) (find p ys) ≡ Some x → (find p ys ≡ Some x → p x ≡ true) → p x ≡ true
+    by true q f h = let same : y ≡ x = cc in ap p (sym same) ∙ q
+    by false q f h = h f
+
+-- a table has the name by which it was found
+pub named : (schema : Schema) (name : List ℕ) (def : TableDef) → table_named schema name ≡ Some def → def.name ≡ name
+named schema name def e = same_text_same def.name name (found_passes (is_named name) schema.tables def e)
+
+-- one table by one name
+pub same_table : (schema : Schema) (name : List ℕ) (def other : TableDef) → table_named schema name ≡ Some def → table_named schema def.name ≡ Some other → def ≡ other
+same_table schema name def other e f =
+    let same : table_named schema def.name ≡ table_named schema name = ap (table_named schema) (named schema name def e) in
+    cc
+
+keyed_cell : (resource : ℕ) (def : TableDef) (row : Row) (e : RowKey × Row) (o : Option Value) → slice_get row.0 def.key ≡ o → option_map (with_key resource def row) o ≡ Some e
+    → (e.0.resource ≡ resource) × (e.0.table ≡ def.name) × (slice_get e.1.0 def.key ≡ Some e.0.pk)
+keyed_cell resource def row e None o f = cc
+keyed_cell resource def row e (Some pk) o f =
+    let key : key_in resource def pk ≡ e.0 = cc in
+    let same : row ≡ e.1 = cc in
+    (sym (ap (λ (k : RowKey). k.resource) key), sym (ap (λ (k : RowKey). k.table) key), sym (ap (λ (r : Row). slice_get r.0 def.key) same) ∙ o ∙ ap (λ (k : RowKey). Some k.pk) key)
+
+-- what a row is like that was given its key
+pub keyed_has : (resource : ℕ) (def : TableDef) (row : Row) (e : RowKey × Row) → keyed resource def row ≡ Some e
+    → (e.0.resource ≡ resource) × (e.0.table ≡ def.name) × (slice_get e.1.0 def.key ≡ Some e.0.pk)
+keyed_has resource def row e f = keyed_cell resource def row e (slice_get row.0 def.key) refl f
+
+pub has_key_from : (schema : Schema) (name : List ℕ) (def : TableDef) (key : RowKey) (row : Row) → table_named schema name ≡ Some def → key.table ≡ def.name → slice_get row.0 def.key ≡ Some key.pk → HasKey schema key row
+has_key_from schema name def key row e t h other f =
+    let same : def ≡ other = same_table schema name def other e (ap (table_named schema) (sym t) ∙ f) in
+    ap (λ (d : TableDef). slice_get row.0 d.key) (sym same) ∙ h
+
+pub sound_nil : (schema : Schema) → IsSound schema []
+unfolding IsStrictlySortedBy
+sound_nil schema = record { in_order = tt; keyed = λ key row e. absurd (none-some row e) }
+
+put_keyed : (schema : Schema) (rows : Rows) (k q : RowKey) (c : Option Row) (row : Row) (b : Bool) → is_key k q ≡ b → HasRowKey schema k c → (row_at rows q ≡ Some row → HasKey schema q row) → cond b c (row_at rows q) ≡ Some row → HasKey schema q row
+put_keyed schema rows k q (Some new) row true e h old f =
+    let same : new ≡ row = cc in
+    subst (λ (r : Row). HasKey schema q r) same (subst (λ (j : RowKey). HasKey schema j new) (same_key k q e) h)
+put_keyed schema rows k q None row true e h old f = absurd (none-some row f)
+put_keyed schema rows k q c row false e h old f = old f
+
+pub sound_put : (schema : Schema) (rows : Rows) (k : RowKey) (c : Option Row) → IsSound schema rows → HasRowKey schema k c → IsSound schema (put rows k c)
+sound_put schema rows k c s h = record {
+  in_order = map_put rows k c s.in_order;
+  keyed = λ q row e. put_keyed schema rows k q c row (is_key k q) refl h (s.keyed q row) (sym (row_at_put rows k c q s.in_order) ∙ e);
+}
+
+-- an opening row at its key
+pub sound_opened : (resource : ℕ) (schema : Schema) (name : List ℕ) (def : TableDef) (row : Row) (e : RowKey × Row) (rows : Rows) → Some def ≡ table_named schema name → keyed resource def row ≡ Some e → IsSound schema rows → IsSound schema (put rows e.0 (Some e.1))
+sound_opened resource schema name def row e rows t f s =
+    let has = keyed_has resource def row e f in
+    sound_put schema rows e.0 (Some e.1) s (has_key_from schema name def e.0 e.1 (sym t) has.1 has.2)

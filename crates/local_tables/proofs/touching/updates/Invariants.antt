@@ -1,0 +1,6 @@
+use Rattle.std.proofs.Common.{◌≡◌, ◌++◌, map}
+use Rattle.local_tables.specs.Touches.{becomes}
+use Rattle.local_tables.proofs.touching.updates.Given as goal
+
+abbrev pub invariant-loop-key : goal.invariant-loop-key
+invariant-loop-key l = l.changes.items ++ map (becomes l.def l.sets) l.key-iterator ≡ map (becomes l.def l.sets) l.fn.found.entries

@@ -1,0 +1,10 @@
+pub mod Rows
+pub mod Cells
+pub mod Sums
+pub mod Checks
+pub mod Touches
+pub mod Calls
+pub mod Lookups
+pub mod Puts
+pub mod Sound
+pub mod Refusals

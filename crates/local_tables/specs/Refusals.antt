@@ -1,0 +1,60 @@
+-- The errors of a statement one by one: what its table's definition refuses, and what the rows refuse.
+use Rattle.std.specs.Prelude.{◌≡◌, ℕ, nat_le, Bool, if◌then◌else◌, List, find, Option, Some, None, is_none, option_map, Result, Ok, Err}
+use Rattle.std.specs.Map.{keys_of}
+use Rattle.seata_types.specs.declared.errors.StmtError.{StmtError}
+use Rattle.seata_types.specs.declared.errors.StmtError.TheVariants as errors
+use Rattle.seata_types.specs.declared.limits.TheConstants.{CALL_ROWS, RESOURCE_ROWS}
+use Rattle.seata_types.specs.declared.rows.RowKey.{RowKey}
+use Rattle.seata_types.specs.declared.statements.Stmt.{Stmt}
+use Rattle.seata_types.specs.declared.statements.Stmt.TheVariants as stmt
+use Rattle.local_tables.specs.Calls.{Call, Meaning}
+use Rattle.local_tables.specs.Checks.{knows_columns, fills_columns, leaves_key, has_types}
+use Rattle.local_tables.specs.Rows.{Rows, Change}
+use Rattle.local_tables.specs.Touches.{first_taken}
+use Rattle.local_tables.specs.declared.schemas.EffectError.{EffectError}
+use Rattle.local_tables.specs.declared.schemas.EffectError.TheVariants as answer
+use Rattle.local_tables.specs.declared.schemas.TableDef.{TableDef}
+
+-- the first of the errors that the definition alone shows
+abbrev pub refusal : TableDef → Stmt → Option StmtError
+refusal def s =
+    if knows_columns def s then (if fills_columns def s then (if leaves_key def s then (if has_types def s then None
+    else Some errors.TypeMismatch) else Some errors.KeyChanged) else Some errors.Columns) else Some errors.NoColumn
+
+-- ---- by the rows that a statement touches
+
+abbrev pub change_key : Change → RowKey
+change_key c = c.0
+
+abbrev pub is_gone : Change → Bool
+is_gone c = is_none c.1
+
+-- the least row that an UPDATE can't compute
+abbrev pub overflow_in : Stmt → List Change → Option RowKey
+overflow_in (stmt.Update table sets asked) changes = option_map change_key (find is_gone changes)
+overflow_in _ changes = None
+
+-- the first key of an INSERT that is there already, or that stands twice
+abbrev pub duplicate_in : Stmt → Rows → List Change → Option RowKey
+duplicate_in (stmt.Insert table columns tuples) rows changes = first_taken rows (keys_of changes)
+duplicate_in _ rows changes = None
+
+-- ---- after the statement
+
+-- the first of the errors that the rows show: rows seen, rows that can't be computed, keys taken, rows there
+abbrev pub fault : ℕ → Option RowKey → Option RowKey → ℕ → Option StmtError
+fault seen (Some key) taken count = if nat_le seen CALL_ROWS then Some (errors.Overflow key) else Some errors.TooManyRows
+fault seen None (Some key) count = if nat_le seen CALL_ROWS then Some (errors.Duplicate key) else Some errors.TooManyRows
+fault seen None None count =
+    if nat_le seen CALL_ROWS then (if nat_le count RESOURCE_ROWS then None else Some errors.TableFull) else Some errors.TooManyRows
+
+-- the call as it is after a statement, where nothing refuses it
+abbrev pub answer_of : Option StmtError → Call → Meaning Call
+answer_of None after = Ok after
+answer_of (Some why) after = Err why
+
+-- what the statements of a call come to, and what the run of them answers; want of memory is free
+abbrev pub Runs : Result Call (ℕ × StmtError) → Result Call EffectError → Type 0
+Runs meaning (Ok after) = meaning ≡ Ok after
+Runs meaning (Err (answer.At index why)) = meaning ≡ Err (index, why)
+Runs meaning (Err answer.NoMemory) = Unit {0}

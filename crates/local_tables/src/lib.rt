@@ -1,0 +1,25 @@
+//! The tables of a resource, what statements do to them, and images put on them. A statement's effect says what a call
+//! would do and changes nothing; `Tables::apply` then puts its images, or takes them back.
+#![tactic(auto)]
+
+mod applying;
+mod checking;
+mod conditions;
+mod effects;
+mod expressions;
+pub mod laws;
+mod matching;
+mod refusing;
+pub mod schemas;
+#[cfg(test)]
+mod scripts;
+mod state;
+mod steps;
+mod tables;
+#[cfg(test)]
+mod tests;
+mod touching;
+mod typing;
+
+pub use schemas::{ColType, Effect, EffectError, Schema, TableDef, Way};
+pub use tables::Tables;

@@ -1,0 +1,199 @@
+//! The rows of a table of which a condition holds, under the changes of a call so far.
+ghost use Rattle.std.specs.Prelude.{◌≡◌, map, IfOk, OnOk, OnErr};
+ghost use Rattle.std.specs.Option.{option_copied};
+ghost use Rattle.std.specs.BTreeMap.{insert_entry};
+ghost use Rattle.seata_types.specs.Orders.{key_cmp};
+ghost use Rattle.local_tables.specs.Rows.{is_in, key_in, row_at, put, put_all, IsMap};
+ghost use Rattle.local_tables.specs.Touches.{is_matched, matched};
+ghost use Rattle.local_tables.specs.Calls.{insert_all};
+ghost use Rattle.local_tables.specs.Checks.{is_place};
+ghost use Rattle.local_tables.specs.Lookups.{IsRising, HasKeysOf, over, change_at, kept, is_equality, key_literal, only};
+ghost use Rattle.local_tables.specs.Cells.{place_of};
+
+use crate::conditions::{place_of, selects};
+use crate::schemas::TableDef;
+use seata_types::{Cond, CondNode, Duplicate, NoMemory, Op, Row, RowKey, Text, Value};
+use std::alloc::Global;
+use std::collections::BTreeMap;
+
+/// Puts a value at a key. Without memory all is as before.
+pub fn insert<V: Drop>(map: &mut BTreeMap<RowKey, V>, key: RowKey, value: V) -> Result<(), NoMemory>
+    ensures ok { OnOk result (map.new.entries ≡ insert_entry key_cmp map.old.entries key value) }
+    ensures err { OnErr result (map.new.entries ≡ map.old.entries) }
+    ensures in_order { IsRising map.new.entries }
+{
+    map.insert(key, value).map_err(|_| NoMemory)?;
+    Ok(())
+}
+
+/// What stands at a key under the changes.
+pub fn present<'a>(
+    rows: &'a BTreeMap<RowKey, Row>,
+    changes: &'a BTreeMap<RowKey, Option<Row>>,
+    key: &RowKey,
+) -> Option<&'a Row>
+    ensures { option_copied result ≡ over (row_at rows.now.entries key.now) (change_at changes.now.entries key.now) }
+{
+    match changes.get(key) {
+        Some(Some(row)) => Some(row),
+        Some(None) => None,
+        None => rows.get(key),
+    }
+}
+
+/// Whether a row is of a table and a condition holds of it.
+fn is_matched(resource: u16, def: &TableDef, cond: &Option<Cond>, key: &RowKey, row: &Row) -> bool
+    ensures { result ≡ is_matched resource def.now cond.now (key.now, row.now) }
+{
+    if key.resource != resource || key.table != def.name {
+        return false;
+    }
+    selects(def, cond, row)
+}
+
+/// The rows of which the condition holds, without changes: one pass over all.
+fn filtered(
+    alloc: Global,
+    resource: u16,
+    def: &TableDef,
+    cond: &Option<Cond>,
+    rows: &BTreeMap<RowKey, Row>,
+) -> Result<BTreeMap<RowKey, Row>, NoMemory>
+    requires { IsMap rows.now.entries }
+    ensures { IfOk result (λ found. found.entries ≡ matched resource def.now cond.now rows.now.entries) }
+{
+    let mut found = BTreeMap::new(alloc);
+    for (key, row) in rows {
+        if is_matched(resource, def, cond, key, row) {
+            insert(&mut found, key.copy(alloc)?, row.copy(alloc)?)?;
+        }
+    }
+    Ok(found)
+}
+
+/// Lets a change stand among the rows found: its row where the condition holds of it, else no row.
+fn follow(
+    alloc: Global,
+    resource: u16,
+    def: &TableDef,
+    cond: &Option<Cond>,
+    found: &mut BTreeMap<RowKey, Row>,
+    key: &RowKey,
+    change: &Option<Row>,
+) -> Result<(), NoMemory>
+    ensures { OnOk result (found.new.entries ≡ put found.old.entries key.now (kept (is_matched resource def.now cond.now) (key.now, change.now)).1) }
+{
+    if let Some(row) = change
+        && is_matched(resource, def, cond, key, row)
+    {
+        return insert(found, key.copy(alloc)?, row.copy(alloc)?);
+    }
+    found.remove(key);
+    Ok(())
+}
+
+/// The rows of which the condition holds: those without changes, and each change put over them.
+fn passed(
+    alloc: Global,
+    resource: u16,
+    def: &TableDef,
+    cond: &Option<Cond>,
+    rows: &BTreeMap<RowKey, Row>,
+    changes: &BTreeMap<RowKey, Option<Row>>,
+) -> Result<BTreeMap<RowKey, Row>, NoMemory>
+    requires { IsMap rows.now.entries }
+    ensures { IfOk result (λ found. found.entries ≡ matched resource def.now cond.now (put_all rows.now.entries changes.now.entries)) }
+{
+    let mut found = filtered(alloc, resource, def, cond, rows)?;
+    for (key, change) in changes {
+        follow(alloc, resource, def, cond, &mut found, key, change)?;
+    }
+    Ok(found)
+}
+
+/// The literal that the key column equals wherever a condition holds, where the condition says so.
+fn key_literal<'a>(def: &TableDef, cond: &'a Cond) -> Option<&'a Value>
+    ensures { option_copied result ≡ key_literal def.now cond.now }
+{
+    match &cond.node {
+        CondNode::Cmp { column, op, value } => {
+            if !is_equality(*op) || !is_key_column(def, column) {
+                return None;
+            }
+            Some(value)
+        }
+        CondNode::And(left, right) => match key_literal(def, left) {
+            Some(literal) => Some(literal),
+            None => key_literal(def, right),
+        },
+        CondNode::Or(_, _) => None,
+        CondNode::Not(_) => None,
+    }
+}
+
+fn is_equality(op: Op) -> bool
+    ensures { result ≡ is_equality op }
+{
+    matches!(op, Op::Eq)
+}
+
+fn is_key_column(def: &TableDef, name: &Text) -> bool
+    ensures { result ≡ is_place def.now.key (place_of def.now name.now) }
+{
+    match place_of(def, name) {
+        Some(place) => place == usize::from(def.key),
+        None => false,
+    }
+}
+
+/// The one row of which a condition may hold that asks for the key of this value.
+fn looked_up(
+    alloc: Global,
+    resource: u16,
+    def: &TableDef,
+    cond: &Option<Cond>,
+    literal: &Value,
+    rows: &BTreeMap<RowKey, Row>,
+    changes: &BTreeMap<RowKey, Option<Row>>,
+) -> Result<BTreeMap<RowKey, Row>, NoMemory>
+    ensures { let key = key_in resource def.now literal.now in
+        IfOk result (λ found. found.entries ≡ only key
+        (kept (is_matched resource def.now cond.now) (key, over (row_at rows.now.entries key) (change_at changes.now.entries key))).1) }
+{
+    let key = RowKey {
+        resource,
+        table: def.name.copy(alloc)?,
+        pk: literal.copy(alloc)?,
+    };
+    let mut found = BTreeMap::new(alloc);
+    if let Some(row) = present(rows, changes, &key)
+        && is_matched(resource, def, cond, &key, row)
+    {
+        insert(&mut found, key, row.copy(alloc)?)?;
+    }
+    Ok(found)
+}
+
+/// The rows of a table of which the condition holds, under the changes. Where the condition asks for one key the row is
+/// looked up, else all rows are passed.
+pub fn matched(
+    alloc: Global,
+    resource: u16,
+    def: &TableDef,
+    cond: &Option<Cond>,
+    rows: &BTreeMap<RowKey, Row>,
+    changes: &BTreeMap<RowKey, Option<Row>>,
+) -> Result<BTreeMap<RowKey, Row>, NoMemory>
+    requires in_order { IsMap rows.now.entries }
+    requires rising { IsRising changes.now.entries }
+    requires keyed { HasKeysOf def.now (put_all rows.now.entries changes.now.entries) }
+    ensures { IfOk result (λ found. found.entries ≡ matched resource def.now cond.now (put_all rows.now.entries changes.now.entries)) }
+{
+    if let Some(asked) = cond
+        && let Some(literal) = key_literal(def, asked)
+    {
+        let found = looked_up(alloc, resource, def, cond, literal, rows, changes)?;
+        return Ok(found);
+    }
+    passed(alloc, resource, def, cond, rows, changes)
+}

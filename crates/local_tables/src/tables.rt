@@ -1,0 +1,95 @@
+//! The tables of a resource.
+ghost use Rattle.std.specs.Prelude.{◌≡◌, OnOk};
+ghost use Rattle.local_tables.specs.Rows.{keyed_row};
+ghost use Rattle.local_tables.specs.Sound.{IsSound, with_opened};
+
+use crate::conditions::table_named;
+use crate::matching::insert;
+use crate::schemas::Schema;
+use crate::touching::keyed;
+use seata_types::{List, NoMemory, Row, RowKey, Text};
+use std::alloc::Global;
+use std::collections::BTreeMap;
+use std::marker::Model;
+
+/// The tables of a resource: its number, its schema, and the rows of all its tables by key. Contracts see the three.
+#[derive(Drop)]
+pub struct Tables {
+    pub(crate) resource: u16,
+    pub(crate) schema: Schema,
+    pub(crate) rows: BTreeMap<RowKey, Row>,
+}
+
+impl Model for Tables {
+    ghost use Rattle.local_tables.specs.Rows.{Database};
+    ghost use Rattle.local_tables.specs.Sound.{IsSound};
+
+    ghost Value = { Database };
+
+    ghost view = { λ t. record { resource = t.resource; schema = t.schema; rows = t.rows.entries } };
+
+    ghost invariant = { λ t. IsSound t.schema t.rows.entries };
+}
+
+impl Tables {
+    ghost use Rattle.std.specs.Prelude.{◌≡◌, length, IfOk};
+    ghost use Rattle.std.specs.Option.{option_copied};
+    ghost use Rattle.local_tables.specs.Rows.{IsMap, IsOpening, opened, row_at};
+
+    /// The tables with each opening row, which is given with its table's name, at its key.
+    pub fn new(
+        alloc: Global,
+        resource: u16,
+        schema: Schema,
+        opening: List<(Text, Row)>,
+    ) -> Result<Tables, NoMemory>
+        requires { IsOpening resource schema opening }
+        ensures { IfOk result (λ t. t ≡ opened resource schema opening) }
+    {
+        let mut rows = BTreeMap::new(alloc);
+        for (name, row) in opening.into_vec() {
+            open_row(alloc, resource, &schema, &mut rows, &name, row)?;
+        }
+        Ok(Tables {
+            resource,
+            schema,
+            rows,
+        })
+    }
+
+    /// The row of this key.
+    pub fn get(&self, key: &RowKey) -> Option<&Row>
+        ensures found { option_copied result ≡ row_at self.now.rows key.now }
+        ensures in_order { IsMap self.now.rows }
+    {
+        self.rows.get(key)
+    }
+
+    /// How many rows there are over all tables.
+    pub fn rows(&self) -> usize
+        ensures count { result ≡ length self.now.rows }
+        ensures in_order { IsMap self.now.rows }
+    {
+        self.rows.len()
+    }
+}
+
+/// Puts an opening row at its key, where its table is the schema's and its key column has a value.
+fn open_row(
+    alloc: Global,
+    resource: u16,
+    schema: &Schema,
+    rows: &mut BTreeMap<RowKey, Row>,
+    name: &Text,
+    row: Row,
+) -> Result<(), NoMemory>
+    ensures put { OnOk result (rows.new.entries ≡ with_opened rows.old.entries (keyed_row resource schema.now (name.now, row))) }
+    ensures sound { OnOk result (IsSound schema.now rows.old.entries → IsSound schema.now rows.new.entries) }
+{
+    if let Some(def) = table_named(schema, name)
+        && let Some((key, row)) = keyed(alloc, resource, def, row)?
+    {
+        insert(rows, key, row)?;
+    }
+    Ok(())
+}

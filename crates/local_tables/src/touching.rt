@@ -1,0 +1,186 @@
+//! The rows that a statement touches and reads, under the changes of its call so far.
+ghost use Rattle.std.specs.Prelude.{◌≡◌, map, position, IfOk};
+ghost use Rattle.seata_types.specs.Orders.{same_text};
+ghost use Rattle.std.specs.Option.{option_copied};
+ghost use Rattle.local_tables.specs.Rows.{comes, goes, keyed, put_all, IsMap};
+ghost use Rattle.local_tables.specs.Touches.{value_for, tuple_row, inserted, becomes, touches, readings};
+ghost use Rattle.local_tables.specs.Lookups.{IsRising, HasKeysOf};
+
+use crate::expressions::updated;
+use crate::matching::matched;
+use crate::schemas::{ColType, TableDef};
+use seata_types::{Duplicate, Expr, List, NoMemory, Row, RowKey, Stmt, Text, Value};
+use std::alloc::Global;
+use std::collections::BTreeMap;
+
+/// The place of a column among those that an INSERT names.
+fn place_among(columns: &[Text], name: &Text) -> Option<usize>
+    ensures { result ≡ position (same_text name.now) columns.now }
+{
+    columns.iter().position(|other| *name == *other)
+}
+
+/// The value that a tuple has for a column.
+fn value_for<'a>(
+    columns: &[Text],
+    tuple: &'a [Value],
+    column: &(Text, ColType),
+) -> Option<&'a Value>
+    ensures { option_copied result ≡ value_for columns.now tuple.now column.now }
+{
+    match place_among(columns, &column.0) {
+        Some(place) => tuple.get(place),
+        None => None,
+    }
+}
+
+/// A tuple's values in the order of the table's columns.
+fn tuple_row(
+    alloc: Global,
+    def: &TableDef,
+    columns: &[Text],
+    tuple: &[Value],
+) -> Result<Row, NoMemory>
+    ensures { IfOk result (λ row. row ≡ tuple_row def.now columns.now tuple.now) }
+{
+    let mut cells = Vec::new(alloc);
+    for column in def.columns.as_slice() {
+        if let Some(value) = value_for(columns, tuple, column) {
+            cells.push(value.copy(alloc)?).map_err(|_| NoMemory)?;
+        }
+    }
+    Ok(Row(List::of(cells)))
+}
+
+/// A row of a table with its key.
+pub fn keyed(
+    alloc: Global,
+    resource: u16,
+    def: &TableDef,
+    row: Row,
+) -> Result<Option<(RowKey, Row)>, NoMemory>
+    ensures { IfOk result (λ entry. entry ≡ keyed resource def.now row) }
+{
+    let Some(value) = row.0.as_slice().get(usize::from(def.key)) else {
+        return Ok(None);
+    };
+    let key = RowKey {
+        resource,
+        table: def.name.copy(alloc)?,
+        pk: value.copy(alloc)?,
+    };
+    Ok(Some((key, row)))
+}
+
+/// The rows that an INSERT makes, in the order of its tuples.
+fn insertions(
+    alloc: Global,
+    resource: u16,
+    def: &TableDef,
+    columns: &[Text],
+    tuples: &[List<Value>],
+) -> Result<Vec<(RowKey, Option<Row>)>, NoMemory>
+    ensures { IfOk result (λ changes. changes.items ≡ map comes (inserted resource def.now columns.now tuples.now)) }
+{
+    let mut changes = Vec::new(alloc);
+    for tuple in tuples {
+        let row = tuple_row(alloc, def, columns, tuple.as_slice())?;
+        if let Some((key, row)) = keyed(alloc, resource, def, row)? {
+            changes.push((key, Some(row))).map_err(|_| NoMemory)?;
+        }
+    }
+    Ok(changes)
+}
+
+/// The matched rows as an UPDATE leaves them.
+fn updates(
+    alloc: Global,
+    def: &TableDef,
+    sets: &[(Text, Expr)],
+    found: BTreeMap<RowKey, Row>,
+) -> Result<Vec<(RowKey, Option<Row>)>, NoMemory>
+    ensures { IfOk result (λ changes. changes.items ≡ map (becomes def.now sets.now) found.entries) }
+{
+    let mut changes = Vec::new(alloc);
+    for (key, row) in found {
+        let new = updated(alloc, def, sets, &row)?;
+        changes.push((key, new)).map_err(|_| NoMemory)?;
+    }
+    Ok(changes)
+}
+
+/// The matched rows as a DELETE leaves them.
+fn removals(
+    alloc: Global,
+    found: BTreeMap<RowKey, Row>,
+) -> Result<Vec<(RowKey, Option<Row>)>, NoMemory>
+    ensures { IfOk result (λ changes. changes.items ≡ map goes found.entries) }
+{
+    let mut changes = Vec::new(alloc);
+    for (key, _row) in found {
+        changes.push((key, None)).map_err(|_| NoMemory)?;
+    }
+    Ok(changes)
+}
+
+/// Each row that a statement touches, as it leaves it.
+pub fn touches(
+    alloc: Global,
+    resource: u16,
+    def: &TableDef,
+    stmt: &Stmt,
+    rows: &BTreeMap<RowKey, Row>,
+    changes: &BTreeMap<RowKey, Option<Row>>,
+) -> Result<Vec<(RowKey, Option<Row>)>, NoMemory>
+    requires in_order { IsMap rows.now.entries }
+    requires rising { IsRising changes.now.entries }
+    requires keyed { HasKeysOf def.now (put_all rows.now.entries changes.now.entries) }
+    ensures { IfOk result (λ made. made.items ≡ touches resource def.now stmt.now (put_all rows.now.entries changes.now.entries)) }
+{
+    match stmt {
+        Stmt::Insert {
+            columns,
+            rows: tuples,
+            ..
+        } => {
+            let made = insertions(alloc, resource, def, columns.as_slice(), tuples.as_slice())?;
+            Ok(made)
+        }
+        Stmt::Update { sets, cond, .. } => {
+            let found = matched(alloc, resource, def, cond, rows, changes)?;
+            let made = updates(alloc, def, sets.as_slice(), found)?;
+            Ok(made)
+        }
+        Stmt::Delete { cond, .. } => {
+            let found = matched(alloc, resource, def, cond, rows, changes)?;
+            let made = removals(alloc, found)?;
+            Ok(made)
+        }
+        Stmt::Select { .. } => Ok(Vec::new(alloc)),
+    }
+}
+
+/// Each row that a statement reads.
+pub fn readings(
+    alloc: Global,
+    resource: u16,
+    def: &TableDef,
+    stmt: &Stmt,
+    rows: &BTreeMap<RowKey, Row>,
+    changes: &BTreeMap<RowKey, Option<Row>>,
+) -> Result<BTreeMap<RowKey, Row>, NoMemory>
+    requires in_order { IsMap rows.now.entries }
+    requires rising { IsRising changes.now.entries }
+    requires keyed { HasKeysOf def.now (put_all rows.now.entries changes.now.entries) }
+    ensures { IfOk result (λ found. found.entries ≡ readings resource def.now stmt.now (put_all rows.now.entries changes.now.entries)) }
+{
+    match stmt {
+        Stmt::Select { cond, .. } => {
+            let found = matched(alloc, resource, def, cond, rows, changes)?;
+            Ok(found)
+        }
+        Stmt::Insert { .. } => Ok(BTreeMap::new(alloc)),
+        Stmt::Update { .. } => Ok(BTreeMap::new(alloc)),
+        Stmt::Delete { .. } => Ok(BTreeMap::new(alloc)),
+    }
+}
