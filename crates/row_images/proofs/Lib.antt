@@ -1,0 +1,4 @@
+mod Equals
+mod Merges
+mod Restored
+mod Sequels
