@@ -1,14 +1,12 @@
 -- Images that are done and undone.
-use Rattle.std.proofs.Common.{◌≡◌, Bool, true, false, cond, List, [], ◌∷◌, map, Some, refl, ap, sym, ◌∙◌, subst}
+use Rattle.std.proofs.Common.{◌≡◌, Bool, true, false, cond, List, [], ◌∷◌, map, Some, refl, ap, sym, ◌∙◌}
 use Rattle.std.specs.Prelude.{All}
 use Rattle.std.specs.List.{IsDistinct}
-use Rattle.std.specs.Map.{keys_of}
 use Rattle.std.proofs.lemmas.List.Elements.{All-head, All-tail}
 use Rattle.seata_types.specs.declared.rows.Image.{Image}
 use Rattle.seata_types.specs.declared.rows.RowKey.{RowKey}
 use Rattle.local_tables.specs.Lookups.{over, change_at}
 use Rattle.local_tables.specs.Rows.{Rows, Database, is_key, key_of, row_at, put_all, side, applied, IsMap}
-use Rattle.local_tables.specs.declared.schemas.Way.{Way}
 use Rattle.local_tables.specs.declared.schemas.Way.TheVariants as way
 use Rattle.local_tables.proofs.KeyLaws.{same_key}
 use Rattle.local_tables.proofs.MapLaws.{same_entries}
