@@ -17,6 +17,7 @@ use Rattle.local_tables.specs.declared.schemas.Way.TheVariants as way
 use Rattle.local_tables.proofs.KeyLaws.{is_key_laws, same_key}
 use Rattle.local_tables.proofs.MapLaws.{same_entries}
 use Rattle.local_tables.proofs.PutLaws.{map_put, map_put_all, row_at_put, row_at_put_all}
+use Rattle.local_tables.proofs.SideLaws.{keys-sides}
 use Rattle.local_tables.proofs.SoundLaws.{sound_put}
 
 -- ---- a removal may come last
@@ -42,11 +43,6 @@ put_last rows c cs s d =
     by : (q : RowKey) (b : Bool) → is_key c.0 q ≡ b → cond b c.1 (over (row_at rows q) (change_at cs q)) ≡ over (cond b c.1 (row_at rows q)) (change_at cs q)
     by q true e = sym (ap (over c.1) (change_at_none cs q c.0 d.0 e))
     by q false e = refl
-
-keys_of_sides : (direction : Way) (images : List Image) → keys_of (map (side direction) images) ≡ map key_of images
-keys_of_sides direction [] = refl
-keys_of_sides way.Do (i ∷ is) = ap (λ l. i.key ∷ l) (keys_of_sides way.Do is)
-keys_of_sides way.Undo (i ∷ is) = ap (λ l. i.key ∷ l) (keys_of_sides way.Undo is)
 
 -- ---- a row put back
 
@@ -114,7 +110,7 @@ side_key way.Undo image = refl
 pub removed_last : (rows after last : Rows) (direction : Way) (images : List Image) (image : Image) (rest : List Image) → images ≡ image ∷ rest → IsDistinct is_key (map key_of images) → IsMap rows → (side direction image).1 ≡ None
     → after ≡ put_all rows (map (side direction) rest) → last ≡ put after image.key None → last ≡ put_all rows (map (side direction) images)
 removed_last rows after last direction images image rest e d s none is_after is_last =
-    let keys : map key_of images ≡ keys_of (map (side direction) (image ∷ rest)) = ap (map key_of) e ∙ sym (keys_of_sides direction (image ∷ rest)) in
+    let keys : map key_of images ≡ keys_of (map (side direction) (image ∷ rest)) = ap (map key_of) e ∙ sym (keys-sides direction (image ∷ rest)) in
     let d' : IsDistinct is_key (keys_of (map (side direction) (image ∷ rest))) = subst (λ (ks : List RowKey). IsDistinct is_key ks) keys d in
     is_last
     ∙ ap (λ l. put l image.key None) is_after

@@ -16,6 +16,7 @@ impl Tables {
     ghost use Rattle.local_tables.specs.Rows.{AreImagesOf, applied};
 
     /// Puts every image's after, or with `Way::Undo` every image's before. Without memory the tables stay as they are.
+    /// Recurses as deep as there are images.
     pub fn apply(&mut self, alloc: Global, images: &[Image], way: Way) -> Result<(), NoMemory>
         requires { AreImagesOf self.old images.now }
         ensures done { OnOk result (self.new ≡ applied way images.now self.old) }

@@ -1,13 +1,13 @@
 //! The effect of a call: what its statements do, or the first of them without a meaning.
 ghost use Rattle.std.specs.Prelude.{◌≡◌, map, IfOk};
-ghost use Rattle.std.specs.Option.{option_copied};
 ghost use Rattle.local_tables.specs.Calls.{image_of, read_of};
 ghost use Rattle.local_tables.specs.Lookups.{IsRising};
 
+use crate::maps::copied;
 use crate::schemas::{Effect, EffectError};
 use crate::state::CallState;
 use crate::tables::Tables;
-use seata_types::{Duplicate, Image, List, NoMemory, ReadRow, Row, RowKey, Stmt};
+use seata_types::{Image, List, NoMemory, ReadRow, Row, RowKey, Stmt};
 use std::alloc::Global;
 use std::collections::BTreeMap;
 
@@ -119,14 +119,4 @@ fn reads_of(alloc: Global, rows: BTreeMap<RowKey, Row>) -> Result<List<ReadRow>,
         reads.push(ReadRow { key, row }).map_err(|_| NoMemory)?;
     }
     Ok(List::of(reads))
-}
-
-/// A copy of a row that may be there.
-fn copied(alloc: Global, row: Option<&Row>) -> Result<Option<Row>, NoMemory>
-    ensures { IfOk result (λ copy. copy ≡ option_copied row.entry) }
-{
-    match row {
-        Some(row) => Ok(Some(row.copy(alloc)?)),
-        None => Ok(None),
-    }
 }

@@ -4,6 +4,7 @@ ghost use Rattle.std.specs.Option.{option_copied};
 ghost use Rattle.local_tables.specs.Sums.{joined, term_value, number, term_number, sum_from, sum_value, expr_value, set_at, set_cells, updated};
 
 use crate::conditions::{cell, place_of};
+use crate::maps::copied;
 use crate::schemas::TableDef;
 use seata_types::{Duplicate, Expr, List, NoMemory, Row, Sign, Term, Text, Value};
 use std::alloc::Global;
@@ -67,16 +68,6 @@ fn expr_value(
         return Ok(None);
     };
     Ok(sum_from(def, row, first, rest).map(Value::Int))
-}
-
-/// A copy of a value that may be there.
-fn copied(alloc: Global, value: Option<&Value>) -> Result<Option<Value>, NoMemory>
-    ensures { IfOk result (λ copy. copy ≡ option_copied value.entry) }
-{
-    match value {
-        Some(value) => Ok(Some(value.copy(alloc)?)),
-        None => Ok(None),
-    }
 }
 
 /// The row that an UPDATE makes of an old one; none where a partial sum leaves 64 bits.

@@ -8,6 +8,7 @@ mod conditions;
 mod effects;
 mod expressions;
 pub mod laws;
+mod maps;
 mod matching;
 mod refusing;
 pub mod schemas;

@@ -1,7 +1,6 @@
 //! The rows of a table of which a condition holds, under the changes of a call so far.
 ghost use Rattle.std.specs.Prelude.{◌≡◌, map, IfOk, OnOk, OnErr};
 ghost use Rattle.std.specs.Option.{option_copied};
-ghost use Rattle.std.specs.BTreeMap.{insert_entry};
 ghost use Rattle.seata_types.specs.Orders.{key_cmp};
 ghost use Rattle.local_tables.specs.Rows.{is_in, key_in, row_at, put, put_all, IsMap};
 ghost use Rattle.local_tables.specs.Touches.{is_matched, matched};
@@ -11,35 +10,11 @@ ghost use Rattle.local_tables.specs.Lookups.{IsRising, HasKeysOf, over, change_a
 ghost use Rattle.local_tables.specs.Cells.{place_of};
 
 use crate::conditions::{place_of, selects};
+use crate::maps::{insert, present};
 use crate::schemas::TableDef;
 use seata_types::{Cond, CondNode, Duplicate, NoMemory, Op, Row, RowKey, Text, Value};
 use std::alloc::Global;
 use std::collections::BTreeMap;
-
-/// Puts a value at a key. Without memory all is as before.
-pub fn insert<V: Drop>(map: &mut BTreeMap<RowKey, V>, key: RowKey, value: V) -> Result<(), NoMemory>
-    ensures ok { OnOk result (map.new.entries ≡ insert_entry key_cmp map.old.entries key value) }
-    ensures err { OnErr result (map.new.entries ≡ map.old.entries) }
-    ensures in_order { IsRising map.new.entries }
-{
-    map.insert(key, value).map_err(|_| NoMemory)?;
-    Ok(())
-}
-
-/// What stands at a key under the changes.
-pub fn present<'a>(
-    rows: &'a BTreeMap<RowKey, Row>,
-    changes: &'a BTreeMap<RowKey, Option<Row>>,
-    key: &RowKey,
-) -> Option<&'a Row>
-    ensures { option_copied result ≡ over (row_at rows.now.entries key.now) (change_at changes.now.entries key.now) }
-{
-    match changes.get(key) {
-        Some(Some(row)) => Some(row),
-        Some(None) => None,
-        None => rows.get(key),
-    }
-}
 
 /// Whether a row is of a table and a condition holds of it.
 fn is_matched(resource: u16, def: &TableDef, cond: &Option<Cond>, key: &RowKey, row: &Row) -> bool

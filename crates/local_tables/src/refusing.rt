@@ -8,7 +8,7 @@ ghost use Rattle.local_tables.specs.Refusals.{refusal, change_key, is_gone, over
 ghost use Rattle.local_tables.specs.Lookups.{IsRising};
 
 use crate::checking::{fills_columns, knows_columns, leaves_key};
-use crate::matching::present;
+use crate::maps::present;
 use crate::schemas::TableDef;
 use crate::typing::has_types;
 use seata_types::limits::{CALL_ROWS, RESOURCE_ROWS};

@@ -5,7 +5,7 @@ ghost use Rattle.local_tables.specs.Rows.{put_all, IsMap};
 ghost use Rattle.local_tables.specs.Calls.{insert_all, is_only_read};
 ghost use Rattle.local_tables.specs.Lookups.{IsRising, change_at, stands};
 
-use crate::matching::insert;
+use crate::maps::insert;
 use seata_types::{NoMemory, Row, RowKey};
 use std::alloc::Global;
 use std::collections::BTreeMap;

@@ -1,15 +1,13 @@
 //! The statements of a call, one after the other, on the tables as the earlier ones left them.
-ghost use Rattle.std.specs.Prelude.{◌≡◌, IfOk};
-ghost use Rattle.std.specs.Option.{option_copied};
-
 use crate::checking::table_of;
 use crate::conditions::table_named;
+use crate::maps::copied;
 use crate::refusing::{duplicate_in, fault, overflow_in, refusal};
 use crate::schemas::TableDef;
 use crate::state::{CallState, rows_under};
 use crate::tables::Tables;
 use crate::touching::{readings, touches};
-use seata_types::{Duplicate, NoMemory, RowKey, Stmt, StmtError};
+use seata_types::{NoMemory, Stmt, StmtError};
 use std::alloc::Global;
 
 impl Tables {
@@ -63,15 +61,5 @@ impl Tables {
         call.go_on(made, read)?;
         let count = rows_under(rows, &call.changes);
         Ok(fault(call.rows_seen(), overflow, taken, count))
-    }
-}
-
-/// A copy of a key that may be there.
-fn copied(alloc: Global, key: Option<&RowKey>) -> Result<Option<RowKey>, NoMemory>
-    ensures { IfOk result (λ copy. copy ≡ option_copied key.entry) }
-{
-    match key {
-        Some(key) => Ok(Some(key.copy(alloc)?)),
-        None => Ok(None),
     }
 }

@@ -4,7 +4,7 @@ ghost use Rattle.local_tables.specs.Rows.{keyed_row};
 ghost use Rattle.local_tables.specs.Sound.{IsSound, with_opened};
 
 use crate::conditions::table_named;
-use crate::matching::insert;
+use crate::maps::insert;
 use crate::schemas::Schema;
 use crate::touching::keyed;
 use seata_types::{List, NoMemory, Row, RowKey, Text};

@@ -1,0 +1,46 @@
+//! Maps by the keys of rows, and copies of what may be there.
+ghost use Rattle.std.specs.Prelude.{◌≡◌, IfOk, OnOk, OnErr};
+ghost use Rattle.std.specs.BTreeMap.{insert_entry};
+ghost use Rattle.std.specs.Option.{option_copied};
+ghost use Rattle.seata_types.specs.Orders.{key_cmp};
+ghost use Rattle.local_tables.specs.Lookups.{IsRising, change_at, over};
+ghost use Rattle.local_tables.specs.Rows.{row_at};
+
+use seata_types::{Duplicate, NoMemory, Row, RowKey};
+use std::alloc::Global;
+use std::collections::BTreeMap;
+
+/// A copy of a value that may be there.
+pub fn copied<T: Duplicate>(alloc: Global, value: Option<&T>) -> Result<Option<T>, NoMemory>
+    ensures { IfOk result (λ copy. copy ≡ option_copied value.entry) }
+{
+    match value {
+        Some(value) => Ok(Some(value.copy(alloc)?)),
+        None => Ok(None),
+    }
+}
+
+/// Puts a value at a key. Without memory all is as before.
+pub fn insert<V: Drop>(map: &mut BTreeMap<RowKey, V>, key: RowKey, value: V) -> Result<(), NoMemory>
+    ensures ok { OnOk result (map.new.entries ≡ insert_entry key_cmp map.old.entries key value) }
+    ensures err { OnErr result (map.new.entries ≡ map.old.entries) }
+    ensures in_order { IsRising map.new.entries }
+{
+    map.insert(key, value).map_err(|_| NoMemory)?;
+    Ok(())
+}
+
+/// What stands at a key under the changes.
+pub fn present<'a>(
+    rows: &'a BTreeMap<RowKey, Row>,
+    changes: &'a BTreeMap<RowKey, Option<Row>>,
+    key: &RowKey,
+) -> Option<&'a Row>
+    ensures { option_copied result ≡ over (row_at rows.now.entries key.now) (change_at changes.now.entries key.now) }
+{
+    match changes.get(key) {
+        Some(Some(row)) => Some(row),
+        Some(None) => None,
+        None => rows.get(key),
+    }
+}
