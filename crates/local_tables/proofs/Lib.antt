@@ -11,6 +11,7 @@ mod ListLaws
 pub mod MapLaws
 mod MatchLaws
 mod OpeningLaws
+mod PassLaws
 pub mod PutLaws
 pub mod SideLaws
 mod SoundLaws

@@ -176,7 +176,7 @@ module _ {X : Type 0} where
   kept_below j e fs l h true = (l, h)
   kept_below j e fs l h false = h
 
-  below_filter : (p : RowKey × X → Bool) (j : RowKey) (es : List (RowKey × X)) → IsBelow j es → IsBelow j (filter p es)
+  pub below_filter : (p : RowKey × X → Bool) (j : RowKey) (es : List (RowKey × X)) → IsBelow j es → IsBelow j (filter p es)
   below_filter p j [] b = tt
   below_filter p j (e ∷ es) b = kept_below j e (filter p es) b.0 (below_filter p j es b.1) (p e)
 

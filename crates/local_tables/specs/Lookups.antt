@@ -1,5 +1,7 @@
 -- The rows under a call's changes, key by key, and the key that a condition asks for.
-use Rattle.std.specs.Prelude.{◌≡◌, slice_get, Bool, true, false, ◌&&◌, if◌then◌else◌, List, [], ◌∷◌, Option, Some, None, is_some}
+use Rattle.std.specs.Prelude.{◌≡◌, ℕ, pos, slice_get, Bool, true, false, ◌&&◌, if◌then◌else◌, filter, List, [], ◌∷◌, ◌++◌, Option, Some, None, is_some}
+use Rattle.std.specs.Cmp.Lexicographic.{slice_cmp}
+use Rattle.std.specs.Ordering.{is_lt, nat_cmp, ordering_then}
 use Rattle.std.specs.List.Sorted.{IsStrictlySortedBy}
 use Rattle.std.specs.Map.{lookup, keys_of}
 use Rattle.std.proofs.lemmas.Map.Entries.{option_filter}
@@ -11,6 +13,7 @@ use Rattle.seata_types.specs.declared.conditions.Op.TheVariants as op
 use Rattle.seata_types.specs.declared.rows.Row.{Row}
 use Rattle.seata_types.specs.declared.rows.RowKey.{RowKey}
 use Rattle.seata_types.specs.declared.rows.Value.{Value}
+use Rattle.seata_types.specs.declared.rows.Value.TheVariants as value
 use Rattle.local_tables.specs.Cells.{place_of}
 use Rattle.local_tables.specs.Checks.{is_place}
 use Rattle.local_tables.specs.Rows.{Rows, Change, is_key, row_at}
@@ -63,3 +66,19 @@ key_literal def _ = None
 abbrev pub only : RowKey → Option Row → Rows
 only key None = []
 only key (Some row) = (key, row) ∷ []
+
+-- ---- the rows of a table among those of others
+
+-- a key above all keys of a table
+abbrev pub key_above : ℕ → TableDef → RowKey
+key_above resource def = record { resource = resource; table = def.name ++ 0 ∷ []; pk = value.Int (pos 0) }
+
+-- whether a key is of a table that stands before this one
+abbrev pub is_before : ℕ → TableDef → RowKey → Bool
+is_before resource def key = is_lt (ordering_then (nat_cmp key.resource resource) (slice_cmp nat_cmp key.table def.name))
+
+-- of all rows some are left in front, and of those behind the test keeps these
+pub record Passes (test : RowKey × Row → Bool) (all left found : Rows) : Type 0 where
+  pub done : Rows
+  pub whole : all ≡ left ++ done
+  pub keeps : found ≡ filter test done

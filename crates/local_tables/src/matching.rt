@@ -6,7 +6,7 @@ ghost use Rattle.local_tables.specs.Rows.{is_in, key_in, row_at, put, put_all, I
 ghost use Rattle.local_tables.specs.Touches.{is_matched, matched};
 ghost use Rattle.local_tables.specs.Calls.{insert_all};
 ghost use Rattle.local_tables.specs.Checks.{is_place};
-ghost use Rattle.local_tables.specs.Lookups.{IsRising, HasKeysOf, over, change_at, kept, is_equality, key_literal, only};
+ghost use Rattle.local_tables.specs.Lookups.{IsRising, HasKeysOf, over, change_at, kept, is_equality, key_literal, key_above, is_before, Passes, only};
 ghost use Rattle.local_tables.specs.Cells.{place_of};
 
 use crate::conditions::{place_of, selects};
@@ -16,17 +16,50 @@ use seata_types::{Cond, CondNode, Duplicate, NoMemory, Op, Row, RowKey, Text, Va
 use std::alloc::Global;
 use std::collections::BTreeMap;
 
+/// Whether a key is of a table.
+fn is_in(resource: u16, def: &TableDef, key: &RowKey) -> bool
+    ensures { result ≡ is_in resource def.now key.now }
+{
+    if key.resource != resource {
+        return false;
+    }
+    key.table == def.name
+}
+
 /// Whether a row is of a table and a condition holds of it.
 fn is_matched(resource: u16, def: &TableDef, cond: &Option<Cond>, key: &RowKey, row: &Row) -> bool
     ensures { result ≡ is_matched resource def.now cond.now (key.now, row.now) }
 {
-    if key.resource != resource || key.table != def.name {
+    if !is_in(resource, def, key) {
         return false;
     }
     selects(def, cond, row)
 }
 
-/// The rows of which the condition holds, without changes: one pass over all.
+/// Whether a key is of a table that stands before this one.
+fn is_before(resource: u16, def: &TableDef, key: &RowKey) -> bool
+    ensures { result ≡ is_before resource def.now key.now }
+{
+    if key.resource != resource {
+        return key.resource < resource;
+    }
+    key.table < def.name
+}
+
+/// A key above all keys of a table: one more character makes the next text after its name.
+fn key_above(alloc: Global, resource: u16, def: &TableDef) -> Result<RowKey, NoMemory>
+    ensures { IfOk result (λ key. key ≡ key_above resource def.now) }
+{
+    let mut name = String::from_str(alloc, def.name.as_str()).map_err(|_| NoMemory)?;
+    name.push_str("\0").map_err(|_| NoMemory)?;
+    Ok(RowKey {
+        resource,
+        table: Text::of(name),
+        pk: Value::Int(0),
+    })
+}
+
+/// The rows of a table of which the condition holds. They stand together, so they are passed from the last one back.
 fn filtered(
     alloc: Global,
     resource: u16,
@@ -38,7 +71,11 @@ fn filtered(
     ensures { IfOk result (λ found. found.entries ≡ matched resource def.now cond.now rows.now.entries) }
 {
     let mut found = BTreeMap::new(alloc);
-    for (key, row) in rows {
+    let mut left = rows.range(..key_above(alloc, resource, def)?);
+    while let Some((key, row)) = left.next_back() {
+        if is_before(resource, def, key) {
+            break;
+        }
         if is_matched(resource, def, cond, key, row) {
             insert(&mut found, key.copy(alloc)?, row.copy(alloc)?)?;
         }
@@ -150,7 +187,7 @@ fn looked_up(
 }
 
 /// The rows of a table of which the condition holds, under the changes. Where the condition asks for one key the row is
-/// looked up, else all rows are passed.
+/// looked up, else the rows of the table are passed.
 pub fn matched(
     alloc: Global,
     resource: u16,
