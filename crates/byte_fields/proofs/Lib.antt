@@ -5,4 +5,5 @@ pub mod Numbers
 pub mod Tags
 pub mod Values
 pub mod Sequences
+pub mod KeyLaws
 pub mod Records

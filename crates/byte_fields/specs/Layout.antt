@@ -1,5 +1,5 @@
 -- The bytes of each field, and which values have such bytes. Numbers stand with their high byte first.
-use Rattle.std.specs.Prelude.{ℕ, ◌<◌, ◌≤◌, ◌^◌, Bool, true, not, ◌&&◌, ◌||◌, ◌==◌, nat_lt, IsTrue, All, Option, Some, None, IfSome, List, [], ◌∷◌, ◌++◌, length, FitsSigned}
+use Rattle.std.specs.Prelude.{◌≡◌, ℕ, ◌<◌, ◌≤◌, ◌^◌, Bool, true, not, ◌&&◌, ◌||◌, ◌==◌, nat_lt, IsTrue, All, Option, Some, None, IfSome, List, [], ◌∷◌, ◌++◌, length, FitsSigned}
 use Rattle.std.specs.List.{list_all, flat_map}
 use Rattle.std.specs.Int.{w16, w32, w64, to_be_bytes, cast_unsigned}
 use Rattle.std.specs.Str.{is_utf8}
@@ -11,6 +11,9 @@ use Rattle.seata_types.specs.declared.rows.Row.{Row}
 use Rattle.seata_types.specs.declared.rows.RowKey.{RowKey}
 use Rattle.seata_types.specs.declared.rows.Image.{Image}
 use Rattle.seata_types.specs.declared.rows.ReadRow.{ReadRow}
+use Rattle.seata_types.specs.declared.limits.TheConstants.{KEY_PARTS}
+use Rattle.byte_fields.specs.declared.layouts.KeyLayout.{KeyLayout}
+use Rattle.byte_fields.specs.declared.layouts.KeyLayout.TheVariants as layout
 use Rattle.byte_fields.specs.KeyOrder.{is_below}
 
 -- ---- texts
@@ -81,56 +84,96 @@ unfoldable pub option_row_bytes : Option Row → List ℕ
 option_row_bytes None = 0 ∷ []
 option_row_bytes (Some row) = 1 ∷ row_bytes row
 
--- ---- keys, in rising order where they stand in a list
+-- ---- keys, in rising order where they stand in a list: the values of a key stand with a byte of count, or, in the older
+-- layout, as one value alone
 
-pub record FitsKey (key : RowKey) : Type 0 where
+-- how many values a key of a layout may have
+abbrev pub HasParts : KeyLayout → ℕ → Type 0
+HasParts layout.Counted n = (1 ≤ n) × (n ≤ KEY_PARTS)
+HasParts layout.Single n = n ≡ 1
+
+pub record FitsParts (how : KeyLayout) (pk : List Value) : Type 0 where
+  pub count : HasParts how (length pk)
+  pub each : All FitsValue pk
+
+unfoldable pub parts_bytes : KeyLayout → List Value → List ℕ
+parts_bytes layout.Counted pk = length pk ∷ flat_map value_bytes pk
+parts_bytes layout.Single pk = flat_map value_bytes pk
+
+pub record FitsKeyIn (how : KeyLayout) (key : RowKey) : Type 0 where
   pub resource : key.resource < 2 ^ 16
   pub table : FitsText key.table
-  pub pk : FitsValue key.pk
+  pub pk : FitsParts how key.pk
 
-unfoldable pub key_bytes : RowKey → List ℕ
-key_bytes key = to_be_bytes w16 key.resource ++ (text_bytes key.table ++ value_bytes key.pk)
+unfoldable pub key_bytes_in : KeyLayout → RowKey → List ℕ
+key_bytes_in how key = to_be_bytes w16 key.resource ++ (text_bytes key.table ++ parts_bytes how key.pk)
 
-abbrev pub FitsKeys : List RowKey → Type 0
-FitsKeys keys = FitsList is_below FitsKey keys
+abbrev pub FitsKeysIn : KeyLayout → List RowKey → Type 0
+FitsKeysIn how keys = FitsList is_below (FitsKeyIn how) keys
 
-abbrev pub keys_bytes : List RowKey → List ℕ
-keys_bytes keys = list_bytes key_bytes keys
+abbrev pub keys_bytes_in : KeyLayout → List RowKey → List ℕ
+keys_bytes_in how keys = list_bytes (key_bytes_in how) keys
 
 -- ---- images and reads, in rising order of their keys
 
-pub record FitsImage (image : Image) : Type 0 where
-  pub key : FitsKey image.key
+pub record FitsImageIn (how : KeyLayout) (image : Image) : Type 0 where
+  pub key : FitsKeyIn how image.key
   pub before : FitsOptionRow image.before
   pub after : FitsOptionRow image.after
 
-unfoldable pub image_bytes : Image → List ℕ
-image_bytes image = key_bytes image.key ++ (option_row_bytes image.before ++ option_row_bytes image.after)
+unfoldable pub image_bytes_in : KeyLayout → Image → List ℕ
+image_bytes_in how image = key_bytes_in how image.key ++ (option_row_bytes image.before ++ option_row_bytes image.after)
 
 abbrev pub image_follows : Image → Image → Bool
 image_follows last image = is_below last.key image.key
 
-abbrev pub FitsImages : List Image → Type 0
-FitsImages images = FitsList image_follows FitsImage images
+abbrev pub FitsImagesIn : KeyLayout → List Image → Type 0
+FitsImagesIn how images = FitsList image_follows (FitsImageIn how) images
 
-abbrev pub images_bytes : List Image → List ℕ
-images_bytes images = list_bytes image_bytes images
+abbrev pub images_bytes_in : KeyLayout → List Image → List ℕ
+images_bytes_in how images = list_bytes (image_bytes_in how) images
 
-pub record FitsRead (read : ReadRow) : Type 0 where
-  pub key : FitsKey read.key
+pub record FitsReadIn (how : KeyLayout) (read : ReadRow) : Type 0 where
+  pub key : FitsKeyIn how read.key
   pub row : FitsRow read.row
 
-unfoldable pub read_bytes : ReadRow → List ℕ
-read_bytes read = key_bytes read.key ++ row_bytes read.row
+unfoldable pub read_bytes_in : KeyLayout → ReadRow → List ℕ
+read_bytes_in how read = key_bytes_in how read.key ++ row_bytes read.row
 
 abbrev pub read_follows : ReadRow → ReadRow → Bool
 read_follows last read = is_below last.key read.key
 
+abbrev pub FitsReadsIn : KeyLayout → List ReadRow → Type 0
+FitsReadsIn how reads = FitsList read_follows (FitsReadIn how) reads
+
+abbrev pub reads_bytes_in : KeyLayout → List ReadRow → List ℕ
+reads_bytes_in how reads = list_bytes (read_bytes_in how) reads
+
+-- ---- the layout that is written
+
+abbrev pub FitsKey : RowKey → Type 0
+FitsKey key = FitsKeyIn layout.Counted key
+
+abbrev pub key_bytes : RowKey → List ℕ
+key_bytes key = key_bytes_in layout.Counted key
+
+abbrev pub FitsKeys : List RowKey → Type 0
+FitsKeys keys = FitsKeysIn layout.Counted keys
+
+abbrev pub keys_bytes : List RowKey → List ℕ
+keys_bytes keys = keys_bytes_in layout.Counted keys
+
+abbrev pub FitsImages : List Image → Type 0
+FitsImages images = FitsImagesIn layout.Counted images
+
+abbrev pub images_bytes : List Image → List ℕ
+images_bytes images = images_bytes_in layout.Counted images
+
 abbrev pub FitsReads : List ReadRow → Type 0
-FitsReads reads = FitsList read_follows FitsRead reads
+FitsReads reads = FitsReadsIn layout.Counted reads
 
 abbrev pub reads_bytes : List ReadRow → List ℕ
-reads_bytes reads = list_bytes read_bytes reads
+reads_bytes reads = reads_bytes_in layout.Counted reads
 
 -- ---- tickets
 

@@ -1,7 +1,7 @@
 -- How each field is read from left to right, with the first fault that is met.
-use Rattle.std.specs.Prelude.{◌≡◌, ◌≢◌, ℕ, zero, suc, ◌+◌, Bool, Option, Some, None, List, [], ◌∷◌, length, take, drop, Result, Ok, Err, nat_lt, if◌then◌else◌}
+use Rattle.std.specs.Prelude.{◌≡◌, ◌≢◌, ℕ, zero, suc, ◌+◌, Option, Some, None, List, [], ◌∷◌, length, take, drop, Result, Ok, Err, nat_lt, nat_le, ◌&&◌, option_map, if◌then◌else◌}
 use Rattle.std.specs.Int.{Width, w8, w16, w32, w64, byte_len, from_be_bytes, cast_signed}
-use Rattle.seata_types.specs.declared.limits.TheConstants.{TEXT_BYTES}
+use Rattle.seata_types.specs.declared.limits.TheConstants.{TEXT_BYTES, KEY_PARTS}
 use Rattle.seata_types.specs.declared.ids.Ticket.{Ticket}
 use Rattle.seata_types.specs.declared.rows.Value.{Value}
 use Rattle.seata_types.specs.declared.rows.Value.TheVariants as value
@@ -11,8 +11,10 @@ use Rattle.seata_types.specs.declared.rows.Image.{Image}
 use Rattle.seata_types.specs.declared.rows.ReadRow.{ReadRow}
 use Rattle.byte_fields.specs.declared.errors.FieldError.{FieldError}
 use Rattle.byte_fields.specs.declared.errors.FieldError.TheVariants as errors
+use Rattle.byte_fields.specs.declared.layouts.KeyLayout.{KeyLayout}
+use Rattle.byte_fields.specs.declared.layouts.KeyLayout.TheVariants as layout
 use Rattle.byte_fields.specs.KeyOrder.{is_below}
-use Rattle.byte_fields.specs.Layout.{is_plain, may_come, any_order, image_follows, read_follows}
+use Rattle.byte_fields.specs.Layout.{is_plain, may_come}
 
 -- a place in the bytes: how many stand before it, and those from it on
 pub record Position : Type 0 where
@@ -72,27 +74,27 @@ tagged_value place (suc (suc tag)) = fails (errors.BadTag place)
 unfoldable pub value_at : Reader Value
 value_at start = and_then (number_at w8 start) (tagged_value start.at)
 
--- an item that may follow the one before it, and else is refused at its place
-unfoldable pub next_item : {X : Type 0} → (X → X → Bool) → Reader X → Option X → Reader X
-next_item follows item last start = and_then (item start) (λ x.
-    if may_come follows last x then gives x else fails (errors.BadTag start.at))
-
-unfoldable pub items_at : {X : Type 0} → (X → X → Bool) → Reader X → Option X → ℕ → Reader (List X)
-items_at follows item last zero = gives []
-items_at follows item last (suc n) = do
-  x ← next_item follows item last
-  xs ← items_at follows item (Some x) n
+-- so many items, of which each is read with the one before it in sight
+unfoldable pub items_at : {X : Type 0} → (Option X → Reader X) → Option X → ℕ → Reader (List X)
+items_at item last zero = gives []
+items_at item last (suc n) = do
+  x ← item last
+  xs ← items_at item (Some x) n
   gives (x ∷ xs)
 
--- a count, and as many items, each of which may follow the one before it
-unfoldable pub list_at : {X : Type 0} → (X → X → Bool) → Reader X → Reader (List X)
-list_at follows item = do
+-- a count, and as many items
+unfoldable pub list_at : {X : Type 0} → (Option X → Reader X) → Reader (List X)
+list_at item = do
   n ← number_at w16
-  items_at follows item None n
+  items_at item None n
+
+-- a value, whatever stood before it
+abbrev pub any_value : Option Value → Reader Value
+any_value last = value_at
 
 unfoldable pub row_at : Reader Row
 row_at = do
-  values ← list_at any_order value_at
+  values ← list_at any_value
   gives (record { 0 = values })
 
 abbrev pub tagged_row : ℕ → ℕ → Reader (Option Row)
@@ -103,34 +105,65 @@ tagged_row place (suc (suc tag)) = fails (errors.BadTag place)
 unfoldable pub option_row_at : Reader (Option Row)
 option_row_at start = and_then (number_at w8 start) (tagged_row start.at)
 
-unfoldable pub key_at : Reader RowKey
-key_at = do
+-- ---- keys
+
+-- so many values, where a key may have as many
+abbrev pub counted_values : ℕ → ℕ → Reader (List Value)
+counted_values place n = if nat_le 1 n && nat_le n KEY_PARTS then items_at any_value None n else fails (errors.BadTag place)
+
+-- the values of a key
+unfoldable pub parts_at : KeyLayout → Reader (List Value)
+parts_at layout.Counted start = and_then (number_at w8 start) (counted_values start.at)
+parts_at layout.Single start = items_at any_value None 1 start
+
+unfoldable pub key_in : KeyLayout → Reader RowKey
+key_in how = do
   resource ← number_at w16
   table ← text_at
-  pk ← value_at
+  pk ← parts_at how
   gives (record { resource = resource; table = table; pk = pk })
 
-unfoldable pub image_at : Reader Image
-image_at = do
-  key ← key_at
+-- a key that stands above the one before it, and else is refused at its place
+unfoldable pub next_key : KeyLayout → Option RowKey → Reader RowKey
+next_key how last start = and_then (key_in how start) (λ key.
+    if may_come is_below last key then gives key else fails (errors.BadTag start.at))
+
+-- the rows of an image or a read stand behind its key, and so are met after its order
+unfoldable pub next_image : KeyLayout → Option Image → Reader Image
+next_image how last = do
+  key ← next_key how (option_map (λ (i : Image). i.key) last)
   before ← option_row_at
   after ← option_row_at
   gives (record { key = key; before = before; after = after })
 
-unfoldable pub read_at : Reader ReadRow
-read_at = do
-  key ← key_at
+unfoldable pub next_read : KeyLayout → Option ReadRow → Reader ReadRow
+next_read how last = do
+  key ← next_key how (option_map (λ (r : ReadRow). r.key) last)
   row ← row_at
   gives (record { key = key; row = row })
 
+abbrev pub keys_in : KeyLayout → Reader (List RowKey)
+keys_in how = list_at (next_key how)
+
+abbrev pub images_in : KeyLayout → Reader (List Image)
+images_in how = list_at (next_image how)
+
+abbrev pub reads_in : KeyLayout → Reader (List ReadRow)
+reads_in how = list_at (next_read how)
+
+-- ---- in the layout that is written
+
+abbrev pub key_at : Reader RowKey
+key_at = key_in layout.Counted
+
 abbrev pub keys_at : Reader (List RowKey)
-keys_at = list_at is_below key_at
+keys_at = keys_in layout.Counted
 
 abbrev pub images_at : Reader (List Image)
-images_at = list_at image_follows image_at
+images_at = images_in layout.Counted
 
 abbrev pub reads_at : Reader (List ReadRow)
-reads_at = list_at read_follows read_at
+reads_at = reads_in layout.Counted
 
 unfoldable pub ticket_at : Reader Ticket
 ticket_at = do

@@ -1,13 +1,14 @@
 //! The public reader: one field after the other.
 ghost use Rattle.std.specs.Prelude.{◌≡◌, ◌+◌, ◌<◌, ◌^◌, [], ◌∷◌, length};
 ghost use Rattle.std.specs.Int.{w8, w16, w32, w64, to_be_bytes};
-ghost use Rattle.byte_fields.specs.Layout.{FitsText, FitsValue, FitsRow, FitsOptionRow, FitsKey, FitsKeys, FitsImages, FitsReads, FitsTicket, text_bytes, value_bytes, row_bytes, option_row_bytes, key_bytes, keys_bytes, images_bytes, reads_bytes, ticket_bytes};
-ghost use Rattle.byte_fields.specs.Reading.{Takes, number_at, text_at, value_at, row_at, option_row_at, key_at, keys_at, images_at, reads_at, ticket_at};
+ghost use Rattle.byte_fields.specs.Layout.{FitsText, FitsValue, FitsRow, FitsOptionRow, FitsKey, FitsKeys, FitsImages, FitsReads, FitsKeyIn, FitsKeysIn, FitsImagesIn, FitsReadsIn, FitsTicket, text_bytes, value_bytes, row_bytes, option_row_bytes, key_bytes, keys_bytes, images_bytes, reads_bytes, key_bytes_in, keys_bytes_in, images_bytes_in, reads_bytes_in, ticket_bytes};
+ghost use Rattle.byte_fields.specs.Reading.{Takes, number_at, text_at, value_at, row_at, option_row_at, key_at, keys_at, images_at, reads_at, key_in, keys_in, images_in, reads_in, ticket_at};
 ghost use Rattle.byte_fields.specs.Exactness.{ReadsExactly};
 
 use crate::cursor::Cursor;
 use crate::errors::FieldError;
-use crate::{lists, reading, rows};
+use crate::layouts::KeyLayout;
+use crate::{keys, lists, reading, rows};
 use seata_types::{Image, List, ReadRow, Row, RowKey, Text, Ticket, Value};
 use std::alloc::Global;
 use std::marker::Model;
@@ -145,50 +146,96 @@ impl<'a> Fields<'a> {
         Ok(row)
     }
 
-    /// Takes a resource of two bytes, a table and a primary key.
-    #[tactic(auto, using(crate::proofs::Records::key_exact))]
+    /// Takes a resource of two bytes, a table, and the count and the values of its key columns, one to
+    /// four.
+    #[tactic(auto, using(crate::proofs::KeyLaws::written_key_exact))]
     pub fn take_key(&mut self, alloc: Global) -> Result<RowKey, FieldError>
         ensures exact { Takes key_at self.old self.new result }
         ensures layout { ReadsExactly key_at key_bytes FitsKey }
     {
-        let (key, after) = reading::key(alloc, self.cursor)?;
+        let (found, after) = keys::key(alloc, KeyLayout::Counted, self.cursor)?;
         self.cursor = after;
-        Ok(key)
+        Ok(found)
     }
 
     /// Takes two bytes of count, and as many keys in rising order.
-    #[tactic(auto, using(crate::proofs::Records::keys_exact))]
+    #[tactic(auto, using(crate::proofs::Records::written_keys_exact))]
     pub fn take_keys(&mut self, alloc: Global) -> Result<List<RowKey>, FieldError>
         ensures exact { Takes keys_at self.old self.new result }
         ensures layout { ReadsExactly keys_at keys_bytes FitsKeys }
     {
-        let (keys, after) = lists::list::<RowKey>(alloc, self.cursor)?;
+        let (found, after) = lists::list::<RowKey>(alloc, KeyLayout::Counted, self.cursor)?;
         self.cursor = after;
-        Ok(keys)
+        Ok(found)
     }
 
     /// Takes two bytes of count, and as many images in rising order of their keys: of each the key,
-    /// the row before and the row after, each of which may be absent.
-    #[tactic(auto, using(crate::proofs::Records::images_exact))]
+    /// the row before and the row after, each of which may be absent. A key out of order is met
+    /// before its rows.
+    #[tactic(auto, using(crate::proofs::Records::written_images_exact))]
     pub fn take_images(&mut self, alloc: Global) -> Result<List<Image>, FieldError>
         ensures exact { Takes images_at self.old self.new result }
         ensures layout { ReadsExactly images_at images_bytes FitsImages }
     {
-        let (images, after) = lists::list::<Image>(alloc, self.cursor)?;
+        let (found, after) = lists::list::<Image>(alloc, KeyLayout::Counted, self.cursor)?;
         self.cursor = after;
-        Ok(images)
+        Ok(found)
     }
 
     /// Takes two bytes of count, and as many reads in rising order of their keys: of each the key
-    /// and the row.
-    #[tactic(auto, using(crate::proofs::Records::reads_exact))]
+    /// and the row. A key out of order is met before its row.
+    #[tactic(auto, using(crate::proofs::Records::written_reads_exact))]
     pub fn take_reads(&mut self, alloc: Global) -> Result<List<ReadRow>, FieldError>
         ensures exact { Takes reads_at self.old self.new result }
         ensures layout { ReadsExactly reads_at reads_bytes FitsReads }
     {
-        let (reads, after) = lists::list::<ReadRow>(alloc, self.cursor)?;
+        let (found, after) = lists::list::<ReadRow>(alloc, KeyLayout::Counted, self.cursor)?;
         self.cursor = after;
-        Ok(reads)
+        Ok(found)
+    }
+
+    /// Takes a key in the older layout, with one value and no count of them.
+    #[tactic(auto, using(crate::proofs::KeyLaws::key_exact))]
+    pub fn take_old_key(&mut self, alloc: Global) -> Result<RowKey, FieldError>
+        ensures exact { Takes (key_in KeyLayout.Single) self.old self.new result }
+        ensures layout { ReadsExactly (key_in KeyLayout.Single) (key_bytes_in KeyLayout.Single) (FitsKeyIn KeyLayout.Single) }
+    {
+        let (found, after) = keys::key(alloc, KeyLayout::Single, self.cursor)?;
+        self.cursor = after;
+        Ok(found)
+    }
+
+    /// Takes keys as `take_keys` does, in the older layout.
+    #[tactic(auto, using(crate::proofs::Records::keys_exact))]
+    pub fn take_old_keys(&mut self, alloc: Global) -> Result<List<RowKey>, FieldError>
+        ensures exact { Takes (keys_in KeyLayout.Single) self.old self.new result }
+        ensures layout { ReadsExactly (keys_in KeyLayout.Single) (keys_bytes_in KeyLayout.Single) (FitsKeysIn KeyLayout.Single) }
+    {
+        let (found, after) = lists::list::<RowKey>(alloc, KeyLayout::Single, self.cursor)?;
+        self.cursor = after;
+        Ok(found)
+    }
+
+    /// Takes images as `take_images` does, with keys in the older layout.
+    #[tactic(auto, using(crate::proofs::Records::images_exact))]
+    pub fn take_old_images(&mut self, alloc: Global) -> Result<List<Image>, FieldError>
+        ensures exact { Takes (images_in KeyLayout.Single) self.old self.new result }
+        ensures layout { ReadsExactly (images_in KeyLayout.Single) (images_bytes_in KeyLayout.Single) (FitsImagesIn KeyLayout.Single) }
+    {
+        let (found, after) = lists::list::<Image>(alloc, KeyLayout::Single, self.cursor)?;
+        self.cursor = after;
+        Ok(found)
+    }
+
+    /// Takes reads as `take_reads` does, with keys in the older layout.
+    #[tactic(auto, using(crate::proofs::Records::reads_exact))]
+    pub fn take_old_reads(&mut self, alloc: Global) -> Result<List<ReadRow>, FieldError>
+        ensures exact { Takes (reads_in KeyLayout.Single) self.old self.new result }
+        ensures layout { ReadsExactly (reads_in KeyLayout.Single) (reads_bytes_in KeyLayout.Single) (FitsReadsIn KeyLayout.Single) }
+    {
+        let (found, after) = lists::list::<ReadRow>(alloc, KeyLayout::Single, self.cursor)?;
+        self.cursor = after;
+        Ok(found)
     }
 
     /// Takes a boot and the count since it, four bytes each.

@@ -3,9 +3,12 @@
 //! field has its kind and its place.
 #![tactic(auto)]
 
+mod appending;
 mod cursor;
 mod errors;
 mod fields;
+mod keys;
+mod layouts;
 mod lists;
 mod putting;
 mod reading;
@@ -14,10 +17,8 @@ mod writing;
 
 pub use errors::FieldError;
 pub use fields::Fields;
+pub use layouts::KeyLayout;
 pub use putting::{
     put_images, put_key, put_keys, put_option_row, put_reads, put_row, put_text, put_ticket,
     put_u8, put_u16, put_u32, put_u64, put_value,
 };
-
-#[cfg(test)]
-mod tests;

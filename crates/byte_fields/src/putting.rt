@@ -1,22 +1,11 @@
 //! Each field appended to bytes, or the bytes left as they were.
-ghost use Rattle.std.specs.Prelude.{◌≡◌, ◌∷◌, ◌++◌, [], MatchResult, IsOk, IsErr, OnOk, OnErr, take};
+ghost use Rattle.std.specs.Prelude.{◌≡◌, ◌∷◌, ◌++◌, [], OnOk, OnErr};
 ghost use Rattle.std.specs.Int.{w16, w32, w64, to_be_bytes};
 ghost use Rattle.byte_fields.specs.Layout.{FitsText, FitsValue, FitsRow, FitsOptionRow, FitsKey, FitsKeys, FitsImages, FitsReads, text_bytes, value_bytes, row_bytes, option_row_bytes, key_bytes, keys_bytes, images_bytes, reads_bytes, ticket_bytes};
 
-use crate::{lists, rows, writing};
+use crate::appending::{put, put_list, settled};
+use crate::writing;
 use seata_types::{Image, NoMemory, ReadRow, Row, RowKey, Ticket, Value};
-
-// Hands on how appending went; where it failed, cuts off what was appended since `start`.
-fn settled(out: &mut Vec<u8>, start: usize, appended: Result<(), NoMemory>) -> Result<(), NoMemory>
-    ensures ok { OnOk appended (out.new.items ≡ out.old.items) }
-    ensures err { OnErr appended (out.new.items ≡ take start out.old.items) }
-    ensures same { result ≡ appended }
-{
-    if appended.is_err() {
-        out.truncate(start);
-    }
-    appended
-}
 
 /// Appends one byte.
 pub fn put_u8(out: &mut Vec<u8>, value: u8) -> Result<(), NoMemory>
@@ -67,9 +56,7 @@ pub fn put_value(out: &mut Vec<u8>, value: &Value) -> Result<(), NoMemory>
     ensures ok { OnOk result (out.new.items ≡ out.old.items ++ value_bytes value.now) }
     ensures err { OnErr result (out.new.items ≡ out.old.items) }
 {
-    let start = out.len();
-    let appended = writing::value(out, value);
-    settled(out, start, appended)
+    put(out, value)
 }
 
 /// Appends a row: two bytes of count, and its values.
@@ -78,9 +65,7 @@ pub fn put_row(out: &mut Vec<u8>, value: &Row) -> Result<(), NoMemory>
     ensures ok { OnOk result (out.new.items ≡ out.old.items ++ row_bytes value.now) }
     ensures err { OnErr result (out.new.items ≡ out.old.items) }
 {
-    let start = out.len();
-    let appended = rows::append_row(out, value);
-    settled(out, start, appended)
+    put(out, value)
 }
 
 /// Appends 0, or 1 and the row.
@@ -89,20 +74,16 @@ pub fn put_option_row(out: &mut Vec<u8>, value: &Option<Row>) -> Result<(), NoMe
     ensures ok { OnOk result (out.new.items ≡ out.old.items ++ option_row_bytes value.now) }
     ensures err { OnErr result (out.new.items ≡ out.old.items) }
 {
-    let start = out.len();
-    let appended = rows::append_option_row(out, value);
-    settled(out, start, appended)
+    put(out, value)
 }
 
-/// Appends a key: the resource, the table and the primary key.
+/// Appends a key: the resource, the table, and the count and the values of its key columns.
 pub fn put_key(out: &mut Vec<u8>, value: &RowKey) -> Result<(), NoMemory>
     requires { FitsKey value.now }
     ensures ok { OnOk result (out.new.items ≡ out.old.items ++ key_bytes value.now) }
     ensures err { OnErr result (out.new.items ≡ out.old.items) }
 {
-    let start = out.len();
-    let appended = writing::key(out, value);
-    settled(out, start, appended)
+    put(out, value)
 }
 
 /// Appends two bytes of count, and the keys in their rising order.
@@ -111,9 +92,7 @@ pub fn put_keys(out: &mut Vec<u8>, value: &[RowKey]) -> Result<(), NoMemory>
     ensures ok { OnOk result (out.new.items ≡ out.old.items ++ keys_bytes value.now) }
     ensures err { OnErr result (out.new.items ≡ out.old.items) }
 {
-    let start = out.len();
-    let appended = lists::append_list(out, value);
-    settled(out, start, appended)
+    put_list(out, value)
 }
 
 /// Appends two bytes of count, and the images in rising order of their keys: of each the key, the
@@ -123,9 +102,7 @@ pub fn put_images(out: &mut Vec<u8>, value: &[Image]) -> Result<(), NoMemory>
     ensures ok { OnOk result (out.new.items ≡ out.old.items ++ images_bytes value.now) }
     ensures err { OnErr result (out.new.items ≡ out.old.items) }
 {
-    let start = out.len();
-    let appended = lists::append_list(out, value);
-    settled(out, start, appended)
+    put_list(out, value)
 }
 
 /// Appends two bytes of count, and the reads in rising order of their keys: of each the key and
@@ -135,9 +112,7 @@ pub fn put_reads(out: &mut Vec<u8>, value: &[ReadRow]) -> Result<(), NoMemory>
     ensures ok { OnOk result (out.new.items ≡ out.old.items ++ reads_bytes value.now) }
     ensures err { OnErr result (out.new.items ≡ out.old.items) }
 {
-    let start = out.len();
-    let appended = lists::append_list(out, value);
-    settled(out, start, appended)
+    put_list(out, value)
 }
 
 /// Appends a ticket: the boot and the count since it, four bytes each.
@@ -145,7 +120,5 @@ pub fn put_ticket(out: &mut Vec<u8>, value: Ticket) -> Result<(), NoMemory>
     ensures ok { OnOk result (out.new.items ≡ out.old.items ++ ticket_bytes value) }
     ensures err { OnErr result (out.new.items ≡ out.old.items) }
 {
-    let start = out.len();
-    let appended = writing::ticket(out, value);
-    settled(out, start, appended)
+    put(out, &value)
 }

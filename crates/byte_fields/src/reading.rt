@@ -1,15 +1,15 @@
-//! Each field but the lists, read at a cursor.
+//! Each field but rows, keys and lists, read at a cursor.
 ghost use Rattle.std.specs.Prelude.{◌≡◌, List, Ok, true, false, IfOk, IfErr, MatchOption, not};
 ghost use Rattle.std.specs.List.{list_all};
 ghost use Rattle.std.specs.Int.{w8, w16, w32, w64};
 ghost use Rattle.byte_fields.specs.Layout.{is_control, is_plain};
-ghost use Rattle.byte_fields.specs.Reading.{bytes_of, number_at, text_at, short_text_at, value_at, key_at, ticket_at};
+ghost use Rattle.byte_fields.specs.Reading.{bytes_of, number_at, text_at, short_text_at, value_at, ticket_at};
 ghost use Rattle.byte_fields.specs.Cursors.{Reads, Fails, position};
 
 use crate::cursor::Cursor;
 use crate::errors::FieldError;
 use seata_types::limits::TEXT_BYTES;
-use seata_types::{RowKey, Text, Ticket, Value};
+use seata_types::{Text, Ticket, Value};
 use std::alloc::Global;
 
 // `count` bytes of the field that begins at `start`.
@@ -130,23 +130,6 @@ pub(crate) fn value(alloc: Global, from: Cursor) -> Result<(Value, Cursor), Fiel
         }
         _ => Err(FieldError::BadTag { at: from.at }),
     }
-}
-
-#[tactic(auto, unfolding(crate::specs::Reading::key_at))]
-pub(crate) fn key(alloc: Global, from: Cursor) -> Result<(RowKey, Cursor), FieldError>
-    ensures { Reads key_at from.entry result }
-{
-    let (resource, after) = two_bytes(from)?;
-    let (table, after) = text(alloc, after)?;
-    let (pk, after) = value(alloc, after)?;
-    Ok((
-        RowKey {
-            resource,
-            table,
-            pk,
-        },
-        after,
-    ))
 }
 
 #[tactic(auto, unfolding(crate::specs::Reading::ticket_at))]

@@ -1,110 +1,98 @@
-//! Rows, keys, images and reads: read at a cursor, and appended.
-ghost use Rattle.std.specs.Prelude.{◌≡◌, ◌++◌, OnOk};
-ghost use Rattle.byte_fields.specs.KeyOrder.{is_below};
-ghost use Rattle.byte_fields.specs.Layout.{any_order, FitsValue, FitsRow, FitsOptionRow, FitsKey, FitsImage, FitsRead, value_bytes, row_bytes, option_row_bytes, key_bytes, image_bytes, read_bytes, image_follows, read_follows};
-ghost use Rattle.byte_fields.specs.Reading.{value_at, row_at, option_row_at, key_at, image_at, read_at};
+//! Rows, and images and reads in lists: read at a cursor, and appended.
+ghost use Rattle.std.specs.Prelude.{◌≡◌, ◌-◌, option_map, length, slice_get};
+ghost use Rattle.std.specs.Option.{option_copied};
+ghost use Rattle.byte_fields.specs.Layout.{FitsRow, FitsOptionRow, FitsImageIn, FitsReadIn, row_bytes, option_row_bytes, image_bytes_in, read_bytes_in};
+ghost use Rattle.byte_fields.specs.Reading.{row_at, option_row_at, next_image, next_read};
 ghost use Rattle.byte_fields.specs.Cursors.{Reads};
-ghost use Rattle.byte_fields.specs.Appending.{Keeps};
 
+use crate::appending::{Appended, append_list};
 use crate::cursor::Cursor;
 use crate::errors::FieldError;
+use crate::layouts::KeyLayout;
 use crate::lists::{self, Listed};
-use crate::{reading, writing};
+use crate::{keys, reading, writing};
 use seata_types::{Image, NoMemory, ReadRow, Row, RowKey, Value};
 use std::alloc::Global;
 
-#[tactic(auto, unfolding(crate::specs::KeyOrder::is_below))]
-fn is_below(last: &RowKey, key: &RowKey) -> bool
-    ensures { result ≡ is_below last.now key.now }
+/// The key of the last image, if there is one.
+fn last_image_key(images: &[Image]) -> Option<&RowKey>
+    ensures { option_copied result ≡ option_map (λ (i : Image). i.key) (slice_get images.now (length images.now - 1)) }
 {
-    last < key
-}
-
-impl Listed for Value {
-    ghost follows = { any_order };
-
-    ghost item = { value_at };
-
-    ghost fits = { FitsValue };
-
-    ghost bytes = { value_bytes };
-
-    fn follows(&self, _last: &Self) -> bool {
-        true
-    }
-
-    fn read(alloc: Global, from: Cursor) -> Result<(Self, Cursor), FieldError> {
-        reading::value(alloc, from)
-    }
-
-    fn append(&self, out: &mut Vec<u8>) -> Result<(), NoMemory> {
-        writing::value(out, self)
+    match images.last() {
+        Some(last) => Some(&last.key),
+        None => None,
     }
 }
 
-impl Listed for RowKey {
-    ghost follows = { is_below };
+impl Appended for Image {
+    ghost use Rattle.byte_fields.specs.declared.layouts.KeyLayout.TheVariants as layouts;
 
-    ghost item = { key_at };
+    ghost fits = { FitsImageIn layouts.Counted };
 
-    ghost fits = { FitsKey };
+    ghost bytes = { image_bytes_in layouts.Counted };
 
-    ghost bytes = { key_bytes };
-
-    fn follows(&self, last: &Self) -> bool {
-        is_below(last, self)
-    }
-
-    fn read(alloc: Global, from: Cursor) -> Result<(Self, Cursor), FieldError> {
-        reading::key(alloc, from)
-    }
-
+    #[tactic(auto, unfolding(crate::specs::Layout::image_bytes_in))]
     fn append(&self, out: &mut Vec<u8>) -> Result<(), NoMemory> {
-        writing::key(out, self)
+        self.key.append(out)?;
+        self.before.append(out)?;
+        self.after.append(out)
     }
 }
 
 impl Listed for Image {
-    ghost follows = { image_follows };
+    ghost item = { next_image };
 
-    ghost item = { image_at };
-
-    ghost fits = { FitsImage };
-
-    ghost bytes = { image_bytes };
-
-    fn follows(&self, last: &Self) -> bool {
-        is_below(&last.key, &self.key)
+    #[tactic(auto, unfolding(crate::specs::Reading::next_image))]
+    fn next<'a>(
+        alloc: Global,
+        layout: KeyLayout,
+        items: &[Self],
+        from: Cursor<'a>,
+    ) -> Result<(Self, Cursor<'a>), FieldError> {
+        let (key, after) = keys::next_key(alloc, layout, last_image_key(items), from)?;
+        let (before, rest) = option_row(alloc, after)?;
+        let (after, rest) = option_row(alloc, rest)?;
+        Ok((Image { key, before, after }, rest))
     }
+}
 
-    fn read(alloc: Global, from: Cursor) -> Result<(Self, Cursor), FieldError> {
-        image(alloc, from)
+/// The key of the last read, if there is one.
+fn last_read_key(reads: &[ReadRow]) -> Option<&RowKey>
+    ensures { option_copied result ≡ option_map (λ (r : ReadRow). r.key) (slice_get reads.now (length reads.now - 1)) }
+{
+    match reads.last() {
+        Some(last) => Some(&last.key),
+        None => None,
     }
+}
 
+impl Appended for ReadRow {
+    ghost use Rattle.byte_fields.specs.declared.layouts.KeyLayout.TheVariants as layouts;
+
+    ghost fits = { FitsReadIn layouts.Counted };
+
+    ghost bytes = { read_bytes_in layouts.Counted };
+
+    #[tactic(auto, unfolding(crate::specs::Layout::read_bytes_in))]
     fn append(&self, out: &mut Vec<u8>) -> Result<(), NoMemory> {
-        append_image(out, self)
+        self.key.append(out)?;
+        self.row.append(out)
     }
 }
 
 impl Listed for ReadRow {
-    ghost follows = { read_follows };
+    ghost item = { next_read };
 
-    ghost item = { read_at };
-
-    ghost fits = { FitsRead };
-
-    ghost bytes = { read_bytes };
-
-    fn follows(&self, last: &Self) -> bool {
-        is_below(&last.key, &self.key)
-    }
-
-    fn read(alloc: Global, from: Cursor) -> Result<(Self, Cursor), FieldError> {
-        read_row(alloc, from)
-    }
-
-    fn append(&self, out: &mut Vec<u8>) -> Result<(), NoMemory> {
-        append_read(out, self)
+    #[tactic(auto, unfolding(crate::specs::Reading::next_read))]
+    fn next<'a>(
+        alloc: Global,
+        layout: KeyLayout,
+        items: &[Self],
+        from: Cursor<'a>,
+    ) -> Result<(Self, Cursor<'a>), FieldError> {
+        let (key, after) = keys::next_key(alloc, layout, last_read_key(items), from)?;
+        let (row, after) = row(alloc, after)?;
+        Ok((ReadRow { key, row }, after))
     }
 }
 
@@ -112,7 +100,7 @@ impl Listed for ReadRow {
 pub(crate) fn row(alloc: Global, from: Cursor) -> Result<(Row, Cursor), FieldError>
     ensures { Reads row_at from.entry result }
 {
-    let (values, after) = lists::list::<Value>(alloc, from)?;
+    let (values, after) = lists::list::<Value>(alloc, KeyLayout::Counted, from)?;
     Ok((Row(values), after))
 }
 
@@ -131,66 +119,30 @@ pub(crate) fn option_row(alloc: Global, from: Cursor) -> Result<(Option<Row>, Cu
     }
 }
 
-#[tactic(auto, unfolding(crate::specs::Reading::image_at))]
-fn image(alloc: Global, from: Cursor) -> Result<(Image, Cursor), FieldError>
-    ensures { Reads image_at from.entry result }
-{
-    let (key, after) = reading::key(alloc, from)?;
-    let (before, rest) = option_row(alloc, after)?;
-    let (after, rest) = option_row(alloc, rest)?;
-    Ok((Image { key, before, after }, rest))
-}
+impl Appended for Row {
+    ghost fits = { FitsRow };
 
-#[tactic(auto, unfolding(crate::specs::Reading::read_at))]
-fn read_row(alloc: Global, from: Cursor) -> Result<(ReadRow, Cursor), FieldError>
-    ensures { Reads read_at from.entry result }
-{
-    let (key, after) = reading::key(alloc, from)?;
-    let (row, after) = row(alloc, after)?;
-    Ok((ReadRow { key, row }, after))
-}
+    ghost bytes = { row_bytes };
 
-#[tactic(auto, unfolding(crate::specs::Layout::row_bytes))]
-pub(crate) fn append_row(out: &mut Vec<u8>, row: &Row) -> Result<(), NoMemory>
-    requires { FitsRow row.now }
-    ensures ok { OnOk result (out.new.items ≡ out.old.items ++ row_bytes row.now) }
-    ensures kept { Keeps out.old.items out.new.items }
-{
-    lists::append_list(out, row.0.as_slice())
-}
-
-#[tactic(auto, unfolding(crate::specs::Layout::option_row_bytes))]
-pub(crate) fn append_option_row(out: &mut Vec<u8>, row: &Option<Row>) -> Result<(), NoMemory>
-    requires { FitsOptionRow row.now }
-    ensures ok { OnOk result (out.new.items ≡ out.old.items ++ option_row_bytes row.now) }
-    ensures kept { Keeps out.old.items out.new.items }
-{
-    match row {
-        None => writing::bytes(out, &[0]),
-        Some(row) => {
-            writing::bytes(out, &[1])?;
-            append_row(out, row)
-        }
+    #[tactic(auto, unfolding(crate::specs::Layout::row_bytes))]
+    fn append(&self, out: &mut Vec<u8>) -> Result<(), NoMemory> {
+        append_list(out, self.0.as_slice())
     }
 }
 
-#[tactic(auto, unfolding(crate::specs::Layout::image_bytes))]
-fn append_image(out: &mut Vec<u8>, image: &Image) -> Result<(), NoMemory>
-    requires { FitsImage image.now }
-    ensures ok { OnOk result (out.new.items ≡ out.old.items ++ image_bytes image.now) }
-    ensures kept { Keeps out.old.items out.new.items }
-{
-    writing::key(out, &image.key)?;
-    append_option_row(out, &image.before)?;
-    append_option_row(out, &image.after)
-}
+impl Appended for Option<Row> {
+    ghost fits = { FitsOptionRow };
 
-#[tactic(auto, unfolding(crate::specs::Layout::read_bytes))]
-fn append_read(out: &mut Vec<u8>, read: &ReadRow) -> Result<(), NoMemory>
-    requires { FitsRead read.now }
-    ensures ok { OnOk result (out.new.items ≡ out.old.items ++ read_bytes read.now) }
-    ensures kept { Keeps out.old.items out.new.items }
-{
-    writing::key(out, &read.key)?;
-    append_row(out, &read.row)
+    ghost bytes = { option_row_bytes };
+
+    #[tactic(auto, unfolding(crate::specs::Layout::option_row_bytes))]
+    fn append(&self, out: &mut Vec<u8>) -> Result<(), NoMemory> {
+        match self {
+            None => writing::bytes(out, &[0]),
+            Some(row) => {
+                writing::bytes(out, &[1])?;
+                row.append(out)
+            }
+        }
+    }
 }

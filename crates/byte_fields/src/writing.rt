@@ -1,10 +1,11 @@
-//! Each field appended to bytes. After want of memory a part of it may stand there.
+//! Each field but rows, keys and lists appended to bytes. After want of memory a part of it may stand there.
 ghost use Rattle.std.specs.Prelude.{◌≡◌, ◌++◌, OnOk, OnErr};
 ghost use Rattle.std.specs.Int.{w16, w32, to_be_bytes};
-ghost use Rattle.byte_fields.specs.Layout.{FitsText, FitsValue, FitsKey, text_bytes, value_bytes, key_bytes, ticket_bytes};
+ghost use Rattle.byte_fields.specs.Layout.{FitsText, FitsValue, text_bytes, value_bytes, FitsTicket, ticket_bytes};
 ghost use Rattle.byte_fields.specs.Appending.{Keeps};
 
-use seata_types::{NoMemory, RowKey, Ticket, Value};
+use crate::appending::Appended;
+use seata_types::{NoMemory, Ticket, Value};
 
 pub(crate) fn bytes(out: &mut Vec<u8>, bytes: &[u8]) -> Result<(), NoMemory>
     ensures ok { OnOk result (out.new.items ≡ out.old.items ++ bytes.now) }
@@ -41,22 +42,14 @@ pub(crate) fn value(out: &mut Vec<u8>, value: &Value) -> Result<(), NoMemory>
     }
 }
 
-#[tactic(auto, unfolding(crate::specs::Layout::key_bytes))]
-pub(crate) fn key(out: &mut Vec<u8>, key: &RowKey) -> Result<(), NoMemory>
-    requires { FitsKey key.now }
-    ensures ok { OnOk result (out.new.items ≡ out.old.items ++ key_bytes key.now) }
-    ensures kept { Keeps out.old.items out.new.items }
-{
-    bytes(out, &key.resource.to_be_bytes())?;
-    text(out, key.table.as_str())?;
-    value(out, &key.pk)
-}
+impl Appended for Ticket {
+    ghost fits = { FitsTicket };
 
-#[tactic(auto, unfolding(crate::specs::Layout::ticket_bytes))]
-pub(crate) fn ticket(out: &mut Vec<u8>, ticket: Ticket) -> Result<(), NoMemory>
-    ensures ok { OnOk result (out.new.items ≡ out.old.items ++ ticket_bytes ticket) }
-    ensures kept { Keeps out.old.items out.new.items }
-{
-    bytes(out, &ticket.boot.to_be_bytes())?;
-    bytes(out, &ticket.seq.to_be_bytes())
+    ghost bytes = { ticket_bytes };
+
+    #[tactic(auto, unfolding(crate::specs::Layout::ticket_bytes))]
+    fn append(&self, out: &mut Vec<u8>) -> Result<(), NoMemory> {
+        bytes(out, &self.boot.to_be_bytes())?;
+        bytes(out, &self.seq.to_be_bytes())
+    }
 }

@@ -1,2 +1,3 @@
 pub mod Tracks
 pub mod Standing
+pub mod Answers

@@ -5,8 +5,6 @@
 pub mod nodes;
 pub mod sessions;
 mod table;
-#[cfg(test)]
-mod tests;
 
-pub use nodes::Coordinator;
+pub use nodes::{Coordinator, NODE_STEPS};
 pub use sessions::Session;

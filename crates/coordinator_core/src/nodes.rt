@@ -8,8 +8,8 @@ use history_text::Node;
 use seata_types::{Input, NoMemory, NodeError, Place, Step, Xid};
 use std::alloc::Global;
 
-/// A node makes fewer than `2^32 - 1` steps.
-const STEPS: u32 = u32::MAX - 1;
+/// How many steps a node can make in all, this project's own.
+pub const NODE_STEPS: u32 = 4_294_967_294;
 
 /// The transaction coordinator, in memory.
 #[derive(Drop)]
@@ -23,6 +23,7 @@ impl Coordinator {
     ghost use Rattle.std.specs.Prelude.{◌≡◌, [], List, ℕ, Option, Some, None, IsSome, ◌↔◌, ◌<◌, ◌≤◌};
     ghost use Rattle.history_text.specs.Own.{Own};
     ghost use Rattle.history_text.specs.CoordinatorRules.{begun};
+    ghost use Rattle.coordinator_core.specs.declared.nodes.TheConstants.{NODE_STEPS};
     ghost use Rattle.coordinator_core.specs.Standing.{StandsFor, retry_of, steps_of};
     ghost use Rattle.coordinator_core.specs.Tracks.{session_of};
 
@@ -31,11 +32,11 @@ impl Coordinator {
     pub fn new(alloc: Global, retry: u64) -> Coordinator
         ensures fresh { StandsFor result [] }
         ensures retry { retry_of result ≡ retry }
-        ensures steps { steps_of result ≡ 4294967294 }
+        ensures steps { steps_of result ≡ NODE_STEPS }
     {
         Coordinator {
             table: Table::new(alloc, retry),
-            left: STEPS,
+            left: NODE_STEPS,
         }
     }
 

@@ -42,10 +42,7 @@ impl Session {
     pub fn is_late(&self, now: u64) -> bool
         ensures { result ≡ (rules.is_begin self.now.status && nat_lt (self.now.begun + self.now.timeout) now) }
     {
-        if is_begin(self.status) {
-            return now.saturating_sub(self.begun) > self.timeout;
-        }
-        false
+        is_begin(self.status) && now.saturating_sub(self.begun) > self.timeout
     }
 
     /// The moment from which it is due, where it is by now.

@@ -32,8 +32,8 @@ impl Table {
     ghost use Rattle.history_text.specs.CoordinatorRules as rules;
     ghost use Rattle.history_text.specs.CoordinatorRules.{begun, status_of, is_late, due_by, least, soonest, transaction_of};
     ghost use Rattle.history_text.specs.Framing.{SendsFramable};
-    ghost use Rattle.history_text.specs.Rules.{Coordinator, TakesStep, StandsAsBefore};
     ghost use Rattle.coordinator_core.specs.Tracks.{Tracks, Sets, Adds, IsSame, session_of, numbered};
+    ghost use Rattle.coordinator_core.specs.Answers.{IsAnswered, Answers};
 
     /// An empty table; takes no memory.
     pub fn new(alloc: Global, retry: u64) -> Table
@@ -144,33 +144,25 @@ impl Table {
     /// Answers an input.
     pub fn answer(&mut self, input: &Input, now: u64) -> Result<Step, NoMemory>
         requires room { index_map_len self.old.sessions < 2 ^ 32 }
-        ensures ok { IfOk result (λ step. TakesStep Tracks (Coordinator self.old.retry) self.old self.new input.now now step) }
-        ensures framable { IfOk result SendsFramable }
-        ensures err { OnErr result (StandsAsBefore Tracks self.old self.new) }
-        ensures same { self.new.retry ≡ self.old.retry }
-        ensures grows { index_map_len self.new.sessions ≤ index_map_len self.old.sessions + 1 }
-        ensures same_count { OnErr result (index_map_len self.new.sessions ≡ index_map_len self.old.sessions) }
+        ensures { Answers self.old self.new input.now now result }
     {
         match input {
             Input::Turn => Ok(self.turn(now)),
             Input::Message { from, message } => self.hear(*from, message, now),
+            Input::Local { .. } | Input::Outside { .. } => Ok(still(Act::Ignored)),
         }
     }
 
     /// Answers a message.
     fn hear(&mut self, from: Place, message: &Message, now: u64) -> Result<Step, NoMemory>
         requires room { index_map_len self.old.sessions < 2 ^ 32 }
-        ensures ok { IfOk result (λ step. TakesStep Tracks (Coordinator self.old.retry) self.old self.new (input.Message from message.now) now step) }
-        ensures framable { IfOk result SendsFramable }
-        ensures err { OnErr result (StandsAsBefore Tracks self.old self.new) }
-        ensures same { self.new.retry ≡ self.old.retry }
-        ensures grows { index_map_len self.new.sessions ≤ index_map_len self.old.sessions + 1 }
-        ensures same_count { OnErr result (index_map_len self.new.sessions ≡ index_map_len self.old.sessions) }
+        ensures { Answers self.old self.new (input.Message from message.now) now result }
     {
         match message {
             Message::Begin { manager, timeout } => self.begin(from, *manager, *timeout, now),
             Message::GlobalCommit { xid } => Ok(self.commit(from, *xid, now)),
             Message::GlobalRollback { xid } => Ok(self.roll_back(from, *xid, now)),
+            Message::GlobalStatus { xid } => Ok(self.tell(from, *xid, now)),
             _ => Ok(still(Act::Ignored)),
         }
     }
@@ -178,12 +170,7 @@ impl Table {
     /// Begins a transaction for a manager, or tells the one that it has.
     fn begin(&mut self, from: Place, manager: u16, timeout: u64, now: u64) -> Result<Step, NoMemory>
         requires room { index_map_len self.old.sessions < 2 ^ 32 }
-        ensures ok { IfOk result (λ step. TakesStep Tracks (Coordinator self.old.retry) self.old self.new (input.Message from (message.Begin manager timeout)) now step) }
-        ensures framable { IfOk result SendsFramable }
-        ensures err { OnErr result (StandsAsBefore Tracks self.old self.new) }
-        ensures same { self.new.retry ≡ self.old.retry }
-        ensures grows { index_map_len self.new.sessions ≤ index_map_len self.old.sessions + 1 }
-        ensures same_count { OnErr result (index_map_len self.new.sessions ≡ index_map_len self.old.sessions) }
+        ensures { Answers self.old self.new (input.Message from (message.Begin manager timeout)) now result }
     {
         let to = Place::Man(manager);
         if let Some(x) = self.transactions.get(&manager) {
@@ -213,10 +200,7 @@ impl Table {
 
     /// Answers a GlobalCommit.
     fn commit(&mut self, from: Place, xid: Xid, now: u64) -> Step
-        ensures takes { TakesStep Tracks (Coordinator self.old.retry) self.old self.new (input.Message from (message.GlobalCommit xid)) now result }
-        ensures framable { SendsFramable result }
-        ensures same { self.new.retry ≡ self.old.retry }
-        ensures same_count { index_map_len self.new.sessions ≡ index_map_len self.old.sessions }
+        ensures { IsAnswered self.old self.new (input.Message from (message.GlobalCommit xid)) now result }
     {
         let status = self.status(xid);
         if !is_begin(status) {
@@ -238,10 +222,7 @@ impl Table {
 
     /// Answers a GlobalRollback.
     fn roll_back(&mut self, from: Place, xid: Xid, now: u64) -> Step
-        ensures takes { TakesStep Tracks (Coordinator self.old.retry) self.old self.new (input.Message from (message.GlobalRollback xid)) now result }
-        ensures framable { SendsFramable result }
-        ensures same { self.new.retry ≡ self.old.retry }
-        ensures same_count { index_map_len self.new.sessions ≡ index_map_len self.old.sessions }
+        ensures { IsAnswered self.old self.new (input.Message from (message.GlobalRollback xid)) now result }
     {
         let status = self.status(xid);
         if !is_begin(status) {
@@ -260,12 +241,21 @@ impl Table {
         )
     }
 
+    /// Answers a question for a status.
+    fn tell(&mut self, from: Place, xid: Xid, now: u64) -> Step
+        ensures { IsAnswered self.old self.new (input.Message from (message.GlobalStatus xid)) now result }
+    {
+        let status = self.status(xid);
+        sends(
+            Act::Told { xid, status },
+            from,
+            Message::StatusAnswer { xid, status },
+        )
+    }
+
     /// Takes a turn: decides the least late transaction, or finishes the one that is due first.
     fn turn(&mut self, now: u64) -> Step
-        ensures takes { TakesStep Tracks (Coordinator self.old.retry) self.old self.new input.Turn now result }
-        ensures framable { SendsFramable result }
-        ensures same { self.new.retry ≡ self.old.retry }
-        ensures same_count { index_map_len self.new.sessions ≡ index_map_len self.old.sessions }
+        ensures { IsAnswered self.old self.new input.Turn now result }
     {
         if let Some(x) = self.least_late(now) {
             self.decide(Xid(x), Decision::Timeout, now);

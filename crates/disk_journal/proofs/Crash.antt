@@ -1,5 +1,5 @@
 -- What the two writes of an append make of a journal's bytes, and what a crash among them leaves.
-use Rattle.std.proofs.Common.{◌≡◌, ◌≢◌, ℕ, ◌+◌, ◌<◌, ◌≤◌, List, [], ◌∷◌, ◌++◌, Ok, length, get_or, take, drop, refl, sym, ◌∙◌, ap, inl, inr, arith, append_assoc, length-drop, take-append-drop}
+use Rattle.std.proofs.Common.{◌≡◌, ◌≢◌, ◌⊎◌, ℕ, ◌+◌, ◌<◌, ◌≤◌, List, [], ◌∷◌, ◌++◌, Ok, length, get_or, take, drop, refl, sym, ◌∙◌, ap, inl, inr, arith, append_assoc, length-drop, take-append-drop}
 use Rattle.std.specs.Int.{w32, to_be_bytes}
 use Rattle.std.proofs.lemmas.List.{drop_at, take-take, drop_more, get_or-take, take-append-le, length-take-le}
 use Rattle.std.proofs.lemmas.Bool.{cases_eq}
@@ -8,7 +8,6 @@ use Rattle.seata_types.specs.declared.limits.TheConstants.{BODY_BYTES}
 use Rattle.disk_model.specs.Disk.{put, SameOutside}
 use Rattle.disk_model.proofs.Put.{put_outside}
 use Rattle.disk_journal.specs.Reading.{found, reading, row_length, staged}
-use Rattle.disk_journal.specs.Keeping.{IsBeforeOrAfter}
 use Rattle.disk_journal.proofs.Rows.{AreRecords, IsRow, found_closed, closed_gate, found_some, spelled_record, one_record, more_records, row_at, row_reads}
 
 -- Behind the gate at the end of these records stand the length and body of one more, and a closed gate.
@@ -51,30 +50,30 @@ staged_put bodies body old fits row =
     }
 
 -- records, and then an open gate before a staged record
-opened : (bodies : List (List ℕ)) (body : List ℕ) → length body ≤ BODY_BYTES → (front rest : List ℕ) → AreRecords bodies front → reading (front ++ 1 ∷ (staged body ++ rest)) ≡ Ok (bodies ++ body ∷ [])
+opened : (from : ℕ) (bodies : List (List ℕ)) (body : List ℕ) → length body ≤ BODY_BYTES → (front rest : List ℕ) → AreRecords bodies front → reading from (front ++ 1 ∷ (staged body ++ rest)) ≡ Ok (bodies ++ body ∷ [])
 unfolding staged
-opened bodies body small front rest are =
+opened from bodies body small front rest are =
     let head = to_be_bytes w32 (length body) in
     let new = one_record body (1 ∷ head ++ body) (spelled_record head body refl (from_be_bytes-to_be_bytes_4 (length body) (omega arith)) small) in
     let split : front ++ 1 ∷ (head ++ body ++ 0 ∷ [] ++ rest) ≡ front ++ (1 ∷ head ++ body) ++ 0 ∷ rest =
     ap (λ (l : List ℕ). front ++ 1 ∷ l) (append_assoc (head ++ body) (0 ∷ []) rest) ∙ sym (append_assoc front (1 ∷ head ++ body) (0 ∷ rest)) in
-    ap reading split ∙ row_reads (bodies ++ body ∷ []) _ (row_at (bodies ++ body ∷ []) (front ++ (1 ∷ head ++ body)) (0 ∷ rest) (more_records bodies (body ∷ []) front (1 ∷ head ++ body) are new) (found_closed 0 rest (omega arith)))
+    ap (reading from) split ∙ row_reads from (bodies ++ body ∷ []) _ (row_at (bodies ++ body ∷ []) (front ++ (1 ∷ head ++ body)) (0 ∷ rest) (more_records bodies (body ∷ []) front (1 ∷ head ++ body) are new) (found_closed 0 rest (omega arith)))
 
 -- A gate that is torn is open, and the record counts, or it is closed, and it doesn't.
-pub torn_gate : (bodies : List (List ℕ)) (body : List ℕ) → length body ≤ BODY_BYTES → (old new : List ℕ) → IsStaged bodies body old → SameOutside (row_length bodies) 1 old new → IsBeforeOrAfter bodies body new
-torn_gate bodies body small old new is same =
+pub torn_gate : (from : ℕ) (bodies : List (List ℕ)) (body : List ℕ) → length body ≤ BODY_BYTES → (old new : List ℕ) → IsStaged bodies body old → SameOutside (row_length bodies) 1 old new → (reading from new ≡ Ok bodies) ⊎ (reading from new ≡ Ok (bodies ++ body ∷ []))
+torn_gate from bodies body small old new is same =
     let n = row_length bodies in
     let gate = get_or new n 0 in
     let behind : drop (n + 1) new ≡ staged body ++ is.rest = same.after ∙ is.behind in
     let tail : drop n new ≡ gate ∷ (staged body ++ is.rest) = drop_more new n 0 (omega (arith, same.size, is.whole)) ∙ ap (λ (l : List ℕ). gate ∷ l) behind in
     let all : new ≡ take n old ++ gate ∷ (staged body ++ is.rest) = sym (take-append-drop n new) ∙ ap (λ (l : List ℕ). l ++ drop n new) same.before ∙ ap (λ (l : List ℕ). take n old ++ l) tail in
     elim (cases_eq gate 1) [
-      | inl open_gate ↦ inr (ap reading all ∙ ap (λ (g : ℕ). reading (take n old ++ g ∷ (staged body ++ is.rest))) open_gate ∙ opened bodies body small (take n old) is.rest is.records)
-      | inr shut ↦ inl (ap reading all ∙ row_reads bodies _ (row_at bodies (take n old) _ is.records (found_closed gate (staged body ++ is.rest) shut)))
+      | inl open_gate ↦ inr (ap (reading from) all ∙ ap (λ (g : ℕ). reading from (take n old ++ g ∷ (staged body ++ is.rest))) open_gate ∙ opened from bodies body small (take n old) is.rest is.records)
+      | inr shut ↦ inl (ap (reading from) all ∙ row_reads from bodies _ (row_at bodies (take n old) _ is.records (found_closed gate (staged body ++ is.rest) shut)))
     ]
 
-pub opened_gate : (bodies : List (List ℕ)) (body : List ℕ) → length body ≤ BODY_BYTES → (old : List ℕ) → IsStaged bodies body old → reading (put (row_length bodies) (1 ∷ []) old) ≡ Ok (bodies ++ body ∷ [])
-opened_gate bodies body small old is =
+pub opened_gate : (from : ℕ) (bodies : List (List ℕ)) (body : List ℕ) → length body ≤ BODY_BYTES → (old : List ℕ) → IsStaged bodies body old → reading from (put (row_length bodies) (1 ∷ []) old) ≡ Ok (bodies ++ body ∷ [])
+opened_gate from bodies body small old is =
     let n = row_length bodies in
     let all : put n (1 ∷ []) old ≡ take n old ++ 1 ∷ (staged body ++ is.rest) = append_assoc (take n old) (1 ∷ []) (drop (n + 1) old) ∙ ap (λ (l : List ℕ). take n old ++ 1 ∷ l) is.behind in
-    ap reading all ∙ opened bodies body small (take n old) is.rest is.records
+    ap (reading from) all ∙ opened from bodies body small (take n old) is.rest is.records

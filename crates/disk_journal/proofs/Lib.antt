@@ -1,5 +1,5 @@
-mod Adding
-mod Crash
-mod Examples
-mod Readings
-mod Rows
+pub mod Adding
+pub mod Crash
+pub mod Examples
+pub mod Readings
+pub mod Rows

@@ -14,7 +14,7 @@ use Rattle.disk_journal.specs.declared.errors.JournalError.TheVariants as why
 
 pub no_reads : (disk : DiskState) → OnlyReads disk disk
 no_reads disk = record {
-  content = record { content = refl; images = λ c left. left };
+  content = record { content = refl; images = λ c left. left; outcomes = λ pick c back. back };
   images = leaves_same (λ c left. left);
   rest = record { kind = record { size = refl; tells_images = refl; tells_moments = refl }; last_pick = refl };
   faults = omega arith;
@@ -24,7 +24,7 @@ no_reads disk = record {
 
 pub reads_then : {first second third : DiskState} → OnlyReads first second → OnlyReads second third → OnlyReads first third
 reads_then one two = record {
-  content = record { content = two.content.content ∙ one.content.content; images = λ c left. two.content.images c (one.content.images c left) };
+  content = record { content = two.content.content ∙ one.content.content; images = λ c left. two.content.images c (one.content.images c left); outcomes = λ pick c back. one.content.outcomes pick c (two.content.outcomes pick c back) };
   images = leaves_then one.images (leaves_weaker two.images one.images.now);
   rest = keeps_rest_then one.rest two.rest;
   faults = omega (arith, one.faults, two.faults);
@@ -73,29 +73,31 @@ module _ (c : List ℕ) (gate : ℕ) (inside : gate < length c) (first : List �
           opened_at ∙ record_whole (drop (gate + 1) c) (omega (arith, count)) (omega (arith, count, length-drop (gate + 1) c)) ∙ ap (λ (l : List ℕ). Record l) body_is
 
 -- One more record was found behind others, or a closed gate, or damage.
-module _ (c : List ℕ) (bodies : List (List ℕ)) (gate : ℕ) (is_gate : gate ≡ row_length bodies) (inside : gate < length c) (are : AreRecords bodies (take (row_length bodies) c)) where
-  pub next_records : (body : List ℕ) → found (drop gate c) ≡ Record body → AreRecords (bodies ++ body ∷ []) (take (row_length (bodies ++ body ∷ [])) c)
+module _ (c : List ℕ) (from : ℕ) (bodies : List (List ℕ)) (gate : ℕ) (is_gate : gate ≡ from + row_length bodies) (inside : gate < length c) (are : AreRecords bodies (take (row_length bodies) (drop from c))) where
+  tail_is : drop gate c ≡ drop (row_length bodies) (drop from c)
+  tail_is = ap (λ (k : ℕ). drop k c) (omega (arith, is_gate)) ∙ sym (drop-drop (row_length bodies) from c)
+
+  pub next_records : (body : List ℕ) → found (drop gate c) ≡ Record body → AreRecords (bodies ++ body ∷ []) (take (row_length (bodies ++ body ∷ [])) (drop from c))
   next_records body is =
       let one = one_record body _ (found_record (drop gate c) body is) in
       let n = row_length bodies in
       let size : row_length (bodies ++ body ∷ []) ≡ n + record_length body = omega (arith, row_length-append bodies (body ∷ [])) in
-      let tail : drop gate c ≡ drop n c = ap (λ (k : ℕ). drop k c) is_gate in
-      rw (size, take_then n (record_length body) c (omega arith), ← tail) (more_records bodies (body ∷ []) _ _ are one)
+      rw (size, take_then n (record_length body) (drop from c) (omega (arith, is_gate, length-drop from c)), ← tail_is) (more_records bodies (body ∷ []) _ _ are one)
 
-  pub end_reads : found (drop gate c) ≡ Closed → reading c ≡ Ok bodies
-  end_reads is = row_reads bodies c (record { records = are; closed = ap (λ (k : ℕ). found (drop k c)) (sym is_gate) ∙ is })
+  pub end_reads : found (drop gate c) ≡ Closed → reading from (drop from c) ≡ Ok bodies
+  end_reads is = row_reads from bodies (drop from c) (record { records = are; closed = ap found (sym tail_is) ∙ is })
 
-  damage_reads : found (drop gate c) ≡ Damage → reading c ≡ Err gate
-  damage_reads is = rw is_gate (damaged_reads bodies c are (omega arith) (ap (λ (k : ℕ). found (drop k c)) (sym is_gate) ∙ is))
+  damage_reads : found (drop gate c) ≡ Damage → reading from (drop from c) ≡ Err gate
+  damage_reads is = rw is_gate (damaged_reads from bodies (drop from c) are (omega (arith, is_gate, length-drop from c)) (ap found (sym tail_is) ∙ is))
 
-  pub damage_in : (e : JournalError) → IsFoundAt gate c (Err e) → IsDamageIn c e
+  pub damage_in : (e : JournalError) → IsFoundAt gate c (Err e) → IsDamageIn from c e
   damage_in (why.Damaged at) is = rw is.0 (damage_reads is.1)
   damage_in (why.Failed) is = tt
   damage_in (why.NoMemory) is = tt
 
 -- reads change neither what stands on a settled disk nor that it is settled
-pub holds_after : {old new : DiskState} (bodies : List (List ℕ)) → IsSettled old → OnlyReads old new → ((c : List ℕ) → present old ≡ Some c → StandsFor bodies c) → Holds new bodies
-holds_after bodies settled reads stands = record {
+pub holds_after : {old new : DiskState} (from : ℕ) (bodies : List (List ℕ)) → IsSettled old → OnlyReads old new → ((c : List ℕ) → present old ≡ Some c → StandsFor from bodies c) → Holds new from bodies
+holds_after from bodies settled reads stands = record {
   settled = λ c left. still_present c reads (settled c (reads.images.now c left));
   images = λ c left. stands c (settled c (reads.images.now c left));
 }

@@ -127,32 +127,32 @@ count_le [] = omega arith
 count_le (b ∷ bodies) = omega (arith, count_le bodies)
 
 -- What is read of bytes that begin with records: these, and what stands at the gate behind them.
-pub reading_is : (bodies : List (List ℕ)) (bytes : List ℕ) → AreRecords bodies (take (row_length bodies) bytes) → row_length bodies < length bytes → (behind : List ℕ → Result (List (List ℕ)) ℕ) × (reading bytes ≡ followed_by bodies (records_by (row_length bodies) (found (drop (row_length bodies) bytes)) behind))
+pub reading_is : (from : ℕ) (bodies : List (List ℕ)) (bytes : List ℕ) → AreRecords bodies (take (row_length bodies) bytes) → row_length bodies < length bytes → (behind : List ℕ → Result (List (List ℕ)) ℕ) × (reading from bytes ≡ followed_by bodies (records_by (from + row_length bodies) (found (drop (row_length bodies) bytes)) behind))
 unfolding reading
-reading_is bodies bytes are whole =
+reading_is from bodies bytes are whole =
     let n = row_length bodies in
     let gates = length bytes - length bodies - 1 in
     let tail = drop n bytes in
     let all : length bytes ≡ length bodies + suc gates = omega (arith, count_le bodies) in (
-      λ body. reading_from gates (n + record_length body) (drop (record_length body) tail),
-      ap (reading_from (length bytes) 0) (sym (take-append-drop n bytes)) ∙ are.read (length bytes) (suc gates) 0 tail (omega (arith, length-drop n bytes)) all
-          ∙ ap (followed_by bodies) (ap (λ (at : ℕ). reading_from (suc gates) at tail) (omega arith) ∙ read_next gates n tail),
+      λ body. reading_from gates (from + n + record_length body) (drop (record_length body) tail),
+      ap (reading_from (length bytes) from) (sym (take-append-drop n bytes)) ∙ are.read (length bytes) (suc gates) from tail (omega (arith, length-drop n bytes)) all
+          ∙ ap (followed_by bodies) (read_next gates (from + n) tail),
     )
 
-pub row_reads : (bodies : List (List ℕ)) (bytes : List ℕ) → IsRow bodies bytes → reading bytes ≡ Ok bodies
-row_reads bodies bytes row =
-    let r = reading_is bodies bytes row.records (omega (arith, found_some _ row.closed, length-drop (row_length bodies) bytes)) in
-    r.1 ∙ ap (λ (f : Found). followed_by bodies (records_by (row_length bodies) f r.0)) row.closed ∙ ap ok_of (append-nil bodies)
+pub row_reads : (from : ℕ) (bodies : List (List ℕ)) (bytes : List ℕ) → IsRow bodies bytes → reading from bytes ≡ Ok bodies
+row_reads from bodies bytes row =
+    let r = reading_is from bodies bytes row.records (omega (arith, found_some _ row.closed, length-drop (row_length bodies) bytes)) in
+    r.1 ∙ ap (λ (f : Found). followed_by bodies (records_by (from + row_length bodies) f r.0)) row.closed ∙ ap ok_of (append-nil bodies)
 
-pub damaged_reads : (bodies : List (List ℕ)) (bytes : List ℕ) → AreRecords bodies (take (row_length bodies) bytes) → row_length bodies < length bytes → found (drop (row_length bodies) bytes) ≡ Damage → reading bytes ≡ Err (row_length bodies)
-damaged_reads bodies bytes are whole damage =
-    let r = reading_is bodies bytes are whole in
-    r.1 ∙ ap (λ (f : Found). followed_by bodies (records_by (row_length bodies) f r.0)) damage
+pub damaged_reads : (from : ℕ) (bodies : List (List ℕ)) (bytes : List ℕ) → AreRecords bodies (take (row_length bodies) bytes) → row_length bodies < length bytes → found (drop (row_length bodies) bytes) ≡ Damage → reading from bytes ≡ Err (from + row_length bodies)
+damaged_reads from bodies bytes are whole damage =
+    let r = reading_is from bodies bytes are whole in
+    r.1 ∙ ap (λ (f : Found). followed_by bodies (records_by (from + row_length bodies) f r.0)) damage
 
-pub empty_reads : (bytes : List ℕ) → length bytes ≡ 0 → reading bytes ≡ Err 0
+pub empty_reads : (from : ℕ) (bytes : List ℕ) → length bytes ≡ 0 → reading from bytes ≡ Err from
 unfolding reading reading_from
-empty_reads [] none = refl
-empty_reads (b ∷ bytes) none = absurd (omega arith)
+empty_reads from [] none = refl
+empty_reads from (b ∷ bytes) none = absurd (omega arith)
 
 pub row_at : (bodies : List (List ℕ)) (x y : List ℕ) → AreRecords bodies x → found y ≡ Closed → IsRow bodies (x ++ y)
 row_at bodies x y are closed = record {
@@ -234,6 +234,6 @@ reads_row zero at bytes bodies is = absurd (cc)
 reads_row (suc gates) at bytes bodies is =
     row_back bytes bodies at (λ body. reading_from gates (at + record_length body) (drop (record_length body) bytes)) (λ body more read. reads_row gates (at + record_length body) (drop (record_length body) bytes) more read) (found bytes) refl is
 
-pub row_of : (bytes : List ℕ) (bodies : List (List ℕ)) → reading bytes ≡ Ok bodies → IsRow bodies bytes
+pub row_of : (from : ℕ) (bytes : List ℕ) (bodies : List (List ℕ)) → reading from bytes ≡ Ok bodies → IsRow bodies bytes
 unfolding reading
-row_of bytes bodies is = reads_row (length bytes) 0 bytes bodies is
+row_of from bytes bodies is = reads_row (length bytes) from bytes bodies is

@@ -16,6 +16,10 @@ disk_of journal = journal.disk
 abbrev pub is_down : {D : Type 0} → Journal D → Bool
 is_down journal = journal.down
 
+-- where its first record begins
+abbrev pub from_of : {D : Type 0} → Journal D → ℕ
+from_of journal = journal.from
+
 -- where its next record begins
 abbrev pub end_of : {D : Type 0} → Journal D → ℕ
 end_of journal = journal.end
@@ -26,8 +30,8 @@ needed_for journal body = end_of journal + body + 6
 
 -- Each image of its disk stands for these records, nothing is pending, and the next record goes behind them.
 pub record Keeps {D : Type 0} (state : D → DiskState) (bodies : List (List ℕ)) (journal : Journal D) : Type 0 where
-  pub disk : Holds (state (disk_of journal)) bodies
-  pub end : end_of journal ≡ row_length bodies
+  pub disk : Holds (state (disk_of journal)) (from_of journal) bodies
+  pub end : end_of journal ≡ from_of journal + row_length bodies
 
 -- the disk that an opening hands on
 abbrev pub disk_after : {D : Type 0} → Result (Journal D × List (List ℕ)) (JournalError × D) → D

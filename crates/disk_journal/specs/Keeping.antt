@@ -1,5 +1,5 @@
 -- Which records stand on a disk, whatever a crash may leave of it.
-use Rattle.std.specs.Prelude.{◌≡◌, ◌⊎◌, ℕ, ◌<◌, ◌≤◌, Option, Some, None, List, [], ◌∷◌, ◌++◌, length, drop, Result, Ok, Err}
+use Rattle.std.specs.Prelude.{◌≡◌, ◌⊎◌, ℕ, ◌+◌, ◌<◌, ◌≤◌, Option, Some, None, List, [], ◌∷◌, ◌++◌, length, take, drop, Result, Ok, Err}
 use Rattle.disk_model.specs.Disk.{DiskState, IsSettled, KeepsContent, KeepsRest, Leaves, Counts, CountsCalls}
 use Rattle.seata_types.specs.declared.errors.Full.{Full}
 use Rattle.seata_types.specs.declared.limits.TheConstants.{BODY_BYTES}
@@ -9,23 +9,27 @@ use Rattle.disk_journal.specs.declared.errors.JournalError.TheVariants as why
 use Rattle.disk_journal.specs.declared.errors.AppendError.{AppendError}
 use Rattle.disk_journal.specs.declared.errors.AppendError.TheVariants as error
 
--- these bytes stand for these records
-abbrev pub StandsFor : List (List ℕ) → List ℕ → Type 0
-StandsFor bodies bytes = reading bytes ≡ Ok bodies
+-- these bytes stand for these records from an offset on
+abbrev pub StandsFor : ℕ → List (List ℕ) → List ℕ → Type 0
+StandsFor from bodies bytes = reading from (drop from bytes) ≡ Ok bodies
 
 -- the records from before, or these and the new one
-abbrev pub IsBeforeOrAfter : List (List ℕ) → List ℕ → List ℕ → Type 0
-IsBeforeOrAfter bodies body bytes = StandsFor bodies bytes ⊎ StandsFor (bodies ++ body ∷ []) bytes
+abbrev pub IsBeforeOrAfter : ℕ → List (List ℕ) → List ℕ → List ℕ → Type 0
+IsBeforeOrAfter from bodies body bytes = StandsFor from bodies bytes ⊎ StandsFor from (bodies ++ body ∷ []) bytes
 
 -- Nothing is pending, and each image stands for these records.
-pub record Holds (disk : DiskState) (bodies : List (List ℕ)) : Type 0 where
+pub record Holds (disk : DiskState) (from : ℕ) (bodies : List (List ℕ)) : Type 0 where
   pub settled : IsSettled disk
-  pub images : (c : List ℕ) → disk.may_leave c → StandsFor bodies c
+  pub images : (c : List ℕ) → disk.may_leave c → StandsFor from bodies c
+
+-- one of these outcomes, as far as the first n bytes go
+abbrev pub SameFront : ℕ → (List ℕ → Type 0) → List ℕ → Type 0
+SameFront n outcomes c = (d : List ℕ) × outcomes d × (take n c ≡ take n d) × (length c ≡ length d)
 
 -- A crash at any moment of the call, or after it, leaves the records from before, or these and the new one.
-pub record AddsAtMost (bodies : List (List ℕ)) (body : List ℕ) (old new : DiskState) : Type 0 where
-  pub leaves : Leaves old new (IsBeforeOrAfter bodies body)
-  pub moments : (c : List ℕ) → new.left_since old.moment c → IsBeforeOrAfter bodies body c
+pub record AddsAtMost (from : ℕ) (bodies : List (List ℕ)) (body : List ℕ) (old new : DiskState) : Type 0 where
+  pub leaves : Leaves old new (IsBeforeOrAfter from bodies body)
+  pub moments : (c : List ℕ) → new.left_since old.moment c → IsBeforeOrAfter from bodies body c
 
 -- What reads in a row leave.
 pub record OnlyReads (old new : DiskState) : Type 0 where
@@ -45,10 +49,10 @@ IsFoundAt gate c (Err why.Failed) = Unit {0}
 IsFoundAt gate c (Err why.NoMemory) = Unit {0}
 
 -- A damage is reported where these bytes have it.
-abbrev pub IsDamageIn : List ℕ → JournalError → Type 0
-IsDamageIn c (why.Damaged at) = reading c ≡ Err at
-IsDamageIn c why.Failed = Unit {0}
-IsDamageIn c why.NoMemory = Unit {0}
+abbrev pub IsDamageIn : ℕ → List ℕ → JournalError → Type 0
+IsDamageIn from c (why.Damaged at) = reading from (drop from c) ≡ Err at
+IsDamageIn from c why.Failed = Unit {0}
+IsDamageIn from c why.NoMemory = Unit {0}
 
 -- A record would end behind the disk's last byte.
 pub record IsFull (needed size : ℕ) (full : Full) : Type 0 where
@@ -57,8 +61,8 @@ pub record IsFull (needed size : ℕ) (full : Full) : Type 0 where
   pub size_is : full.size ≡ size
 
 -- These bytes, to be written behind the gate at this offset, make a record of this body behind those others.
-pub record Stages (gate : ℕ) (bytes : List ℕ) (bodies : List (List ℕ)) (body : List ℕ) : Type 0 where
-  pub gate_is : gate ≡ row_length bodies
+pub record Stages (gate : ℕ) (bytes : List ℕ) (from : ℕ) (bodies : List (List ℕ)) (body : List ℕ) : Type 0 where
+  pub gate_is : gate ≡ from + row_length bodies
   pub bytes_are : bytes ≡ staged body
   pub small : length body ≤ BODY_BYTES
 

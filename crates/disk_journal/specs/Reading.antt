@@ -1,5 +1,5 @@
--- What the bytes of a disk stand for. A journal is a row of records from the first byte on. A record is a gate, the length
--- of its body as four bytes, the body, and then the next record's gate. A gate is open where it is 1, and closed elsewhere.
+-- What the bytes of a disk stand for. A journal is a row of records from an offset on. A record is a gate, the length of its
+-- body as four bytes, the body, and then the next record's gate. A gate is open where it is 1, and closed elsewhere.
 use Rattle.std.specs.Prelude.{ℕ, zero, suc, ◌+◌, ◌==◌, ◌&&◌, nat_lt, nat_le, if◌then◌else◌, List, [], ◌∷◌, ◌++◌, length, take, drop, Result, Ok, Err}
 use Rattle.std.specs.Int.{w32, from_be_bytes, to_be_bytes}
 use Rattle.seata_types.specs.declared.limits.TheConstants.{BODY_BYTES}
@@ -46,9 +46,10 @@ reading_from zero at bytes = Err at
 reading_from (suc gates) at bytes =
     records_by at (found bytes) (λ body. reading_from gates (at + record_length body) (drop (record_length body) bytes))
 
--- The bodies of the records, in order, or the offset of the damage. There are fewer gates than bytes.
-unfoldable pub reading : List ℕ → Result (List (List ℕ)) ℕ
-reading bytes = reading_from (length bytes) 0 bytes
+-- The bodies of the records of these bytes, which begin at an offset, in order; or the offset of the damage. There are
+-- fewer gates than bytes.
+unfoldable pub reading : ℕ → List ℕ → Result (List (List ℕ)) ℕ
+reading from bytes = reading_from (length bytes) from bytes
 
 -- how many bytes these records take
 abbrev pub row_length : List (List ℕ) → ℕ

@@ -5,9 +5,9 @@
 mod device;
 mod errors;
 mod journal;
+mod layout;
 mod opening;
-#[cfg(test)]
-mod tests;
 
+pub use device::{read, write_through};
 pub use errors::{AppendError, JournalError};
 pub use journal::Journal;

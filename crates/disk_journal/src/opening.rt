@@ -6,34 +6,32 @@ ghost use Rattle.disk_journal.specs.Keeping.{StandsFor, OnlyReads, IsFoundAt, Is
 
 use crate::device::read;
 use crate::errors::JournalError;
-use crate::journal::OPEN;
-use disk_model::Disk;
+use crate::layout::{HEAD, OPEN, SHORTEST};
+use disk_model::{Disk, zeros};
 use seata_types::List;
 use seata_types::limits::BODY_BYTES;
 use std::alloc::Global;
-
-// A record of an empty body, with the next gate.
-const SHORTEST: u64 = 6;
 
 /// The records of a disk, and the offset of the closed gate behind them.
 pub fn read_records<D: Disk>(
     alloc: Global,
     disk: &mut D,
+    from: u64,
 ) -> Result<(Vec<List<u8>>, u64), JournalError>
-    ensures records { IfOk result (λ found. (c : List ℕ) → present (D.state disk.old) ≡ Some c → StandsFor found.0.items c) }
-    ensures end { IfOk result (λ found. found.1 ≡ row_length found.0.items) }
+    ensures records { IfOk result (λ found. (c : List ℕ) → present (D.state disk.old) ≡ Some c → StandsFor from found.0.items c) }
+    ensures end { IfOk result (λ found. found.1 ≡ from + row_length found.0.items) }
     ensures small { IfOk result (λ found. found.1 < 2 ^ 32) }
-    ensures damaged { IfErr result (λ error. (c : List ℕ) → present (D.state disk.old) ≡ Some c → IsDamageIn c error) }
+    ensures damaged { IfErr result (λ error. (c : List ℕ) → present (D.state disk.old) ≡ Some c → IsDamageIn from c error) }
     ensures failed { IfErr result (λ error. error ≡ JournalError.Failed → HasCause (D.state disk.old).counts (D.state disk.new).counts) }
     ensures only_reads { OnlyReads (D.state disk.old) (D.state disk.new) }
 {
-    if disk.size() == 0 {
-        return Err(JournalError::Damaged { at: 0 });
+    if from >= disk.size() {
+        return Err(JournalError::Damaged { at: from });
     }
     let mut records = Vec::new(alloc);
-    let mut gate = 0;
+    let mut gate = from;
     while let Some(body) = read_record(alloc, disk, gate)? {
-        gate += body.as_slice().len() as u64 + 5;
+        gate += body.as_slice().len() as u64 + HEAD;
         records.push(body).map_err(|_| JournalError::NoMemory)?;
     }
     Ok((records, gate))
@@ -68,13 +66,6 @@ fn read_record<D: Disk>(
         return Err(JournalError::Damaged { at: gate });
     }
     let mut body = zeros(alloc, count)?;
-    read(disk, gate + 5, &mut body)?;
+    read(disk, gate + HEAD, &mut body)?;
     Ok(Some(List::of(body)))
-}
-
-fn zeros(alloc: Global, count: usize) -> Result<Vec<u8>, JournalError>
-    ensures size { IfOk result (λ made. length made.items ≡ count) }
-    ensures no_memory { IfErr result (λ error. error ≡ JournalError.NoMemory) }
-{
-    vec![in alloc; 0; count].map_err(|_| JournalError::NoMemory)
 }

@@ -99,6 +99,7 @@ counts_then n m {result = Ok y} {first} {second} {third} last one two = record {
   faults = omega (arith, one.faults, two.faults);
   own = omega (arith, one.own, two.own);
   passed = passed_then n m first.left second.left third.left one.passed two.passed;
+  running = two.running ∙ one.running;
   stuck = tt;
   cause = tt;
 }
@@ -106,6 +107,7 @@ counts_then n m {result = Err e} {first} {second} {third} last one two = record 
   faults = omega (arith, one.faults, two.faults);
   own = omega (arith, one.own, two.own);
   passed = tt;
+  running = tt;
   stuck = passed_at_most_more (n + (m - 1)) (n + m - 1) first.left third.left (⊎_elim (λ none. omega arith) (λ some. omega arith) last) (passed_at_most_then n (m - 1) first.left second.left third.left one.passed two.stuck);
   cause = record {
     fault = omega (arith, two.cause.fault, one.faults);
@@ -119,6 +121,7 @@ counts_err n m {first = first} {second} le counts = record {
   faults = counts.faults;
   own = counts.own;
   passed = tt;
+  running = tt;
   stuck = passed_at_most_more (n - 1) (m - 1) first.left second.left (omega arith) counts.stuck;
   cause = counts.cause;
 }

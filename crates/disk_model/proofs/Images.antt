@@ -2,7 +2,7 @@
 use Rattle.std.proofs.Common.{◌≡◌, ◌⊎◌, ℕ, ◌+◌, ◌-◌, ◌<◌, ◌≤◌, true, false, Some, List, length, get_or, take, drop, replicate, refl, sym, ◌∙◌, ap, subst, inl, inr, arith}
 use Rattle.std.proofs.lemmas.Grind.{same_number_lists}
 use Rattle.std.proofs.lemmas.List.{length-replicate, get_or-take, get_or-drop, length-take, length-drop}
-use Rattle.disk_model.specs.Disk.{put, Pending, SameOutside, SameKind, IsWritten, IsSynced, IsSettled, Leaves}
+use Rattle.disk_model.specs.Disk.{put, Pending, SameOutside, SameKind, IsWritten, IsSynced, IsSettled, IsPicked, Leaves}
 use Rattle.disk_model.specs.Memory.{Memory, IsImage, IsSound, new_memory, written, settled, crashed, picked, memory_state}
 use Rattle.std.proofs.lemmas.Option.{same_Some}
 use Rattle.disk_model.specs.Shelf.{IsBlank}
@@ -109,6 +109,9 @@ module _ (pick : ℕ) (disk : Memory) (sound : IsSound disk) where
 
   pub crashed_kind : SameKind (memory_state disk) (memory_state (crashed pick disk))
   crashed_kind = record { size = size; tells_images = refl; tells_moments = refl }
+
+  pub crashed_picked : IsPicked pick (memory_state disk) (memory_state (crashed pick disk))
+  crashed_picked c image = image_settled (hit pick disk) c image
 
   pub crashed_settled : IsSettled (memory_state (crashed pick disk))
   crashed_settled = memory_settled (hit pick disk)

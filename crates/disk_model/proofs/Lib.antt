@@ -1,8 +1,10 @@
 pub mod Calls
 mod Images
 mod Kept
+mod Padded
 mod Marks
 mod Moments
 mod Picked
 pub mod Put
+mod Sides
 mod Stored

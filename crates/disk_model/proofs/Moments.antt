@@ -3,7 +3,7 @@ use Rattle.std.proofs.Common.{◌≡◌, ◌⊎◌, ℕ, ◌+◌, ◌≤◌, Opt
 use Rattle.std.proofs.lemmas.Bool.{cases_lt}
 use Rattle.std.proofs.lemmas.List.{take_all, take-append-le}
 use Rattle.std.proofs.lemmas.List.Sums.{fold-append}
-use Rattle.disk_model.specs.Disk.{Content, SameKind, IsWritten, IsSettled, IsSynced, Leaves}
+use Rattle.disk_model.specs.Disk.{Content, SameKind, IsWritten, IsSettled, IsPicked, IsSynced, Leaves}
 use Rattle.disk_model.specs.Memory.{Memory, IsImage, new_memory, memory_state}
 use Rattle.disk_model.specs.Trace.{Trace, Call, LeftSince, after_call, after_calls, disk_of, with_call, with_fault, trace_state}
 
@@ -60,6 +60,9 @@ module _ (trace : Trace) (call : Call) where
 
   pub trace_settled : IsSettled (memory_state (after_call (disk_of trace) call)) → IsSettled (trace_state (with_call call trace))
   trace_settled is c image = ap (λ (d : Memory). Some d.present) next ∙ is c (subst (λ (d : Memory). IsImage d c) next image)
+
+  pub trace_picked : (pick : ℕ) → IsPicked pick (memory_state (disk_of trace)) (memory_state (after_call (disk_of trace) call)) → IsPicked pick (trace_state trace) (trace_state (with_call call trace))
+  trace_picked pick is c image = is c (subst (λ (d : Memory). IsImage d c) next image)
 
   pub trace_synced : IsSynced (memory_state (disk_of trace)) (memory_state (after_call (disk_of trace) call)) → IsSynced (trace_state trace) (trace_state (with_call call trace))
   unfolding content_of

@@ -1,7 +1,8 @@
 -- What a crash picks, place by place.
-use Rattle.std.proofs.Common.{◌≡◌, ℕ, zero, suc, ◌+◌, ◌<◌, Bool, false, if◌then◌else◌, List, [], ◌∷◌, length, get_or, set, refl, ◌∙◌, inl, inr, arith}
-use Rattle.std.proofs.lemmas.List.{get_or-set_same, get_or-set_other}
-use Rattle.std.proofs.lemmas.Bool.{cases_eq}
+use Rattle.std.proofs.Common.{◌≡◌, ℕ, zero, suc, ◌+◌, ◌-◌, ◌<◌, ◌≤◌, Bool, false, if◌then◌else◌, List, [], ◌∷◌, length, get_or, refl, ◌∙◌, ap, inl, inr, arith}
+use Rattle.std.proofs.lemmas.Bool.{cases_eq, cases_lt}
+use Rattle.disk_model.specs.Disk.{put}
+use Rattle.disk_model.proofs.Put.{put_before, put_within}
 use Rattle.disk_model.specs.Memory.{picked, picked_byte}
 
 pub length-picked : (pick : ℕ) (marks : List Bool) (stable present : List ℕ) → length marks ≡ length present → length stable ≡ length present → length (picked pick marks stable present) ≡ length present
@@ -27,10 +28,11 @@ picked_clear pick marks stable present marked kept k clear = rw (picked_at pick 
 
 -- one more place is done
 module _ (k : ℕ) (now goal : List ℕ) (done : (j : ℕ) → j < k → get_or now j 0 ≡ get_or goal j 0) where
-  pub done_by_set : (v : ℕ) → k < length now → v ≡ get_or goal k 0 → (j : ℕ) → j < k + 1 → get_or (set now k v) j 0 ≡ get_or goal j 0
-  done_by_set v fits value j h = elim (cases_eq j k) [
-    | inl here ↦ rw here (get_or-set_same now k v 0 fits ∙ value)
-    | inr other ↦ get_or-set_other now k j v 0 other ∙ done j (omega arith)
+  pub done_by_write : (v : ℕ) → k + 1 ≤ length now → v ≡ get_or goal k 0 → (j : ℕ) → j < k + 1 → get_or (put k (v ∷ []) now) j 0 ≡ get_or goal j 0
+  done_by_write v fits value j h = elim (cases_lt j k) [
+    | inl below ↦ put_before k (v ∷ []) now fits j 0 below ∙ done j below
+    | inr here ↦ let none : j - k ≡ 0 = omega arith in
+        put_within k (v ∷ []) now fits j 0 here h ∙ ap (λ i. get_or (v ∷ []) i 0) none ∙ value ∙ ap (λ i. get_or goal i 0) (omega arith)
   ]
 
   pub done_already : get_or now k 0 ≡ get_or goal k 0 → (j : ℕ) → j < k + 1 → get_or now j 0 ≡ get_or goal j 0

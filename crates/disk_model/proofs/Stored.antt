@@ -1,13 +1,10 @@
 -- What the calls of `MemDisk` do to its disk.
-use Rattle.std.proofs.Common.{◌≡◌, ◌⊎◌, ℕ, ◌+◌, ◌-◌, ◌^◌, ◌<◌, ◌≤◌, true, false, List, length, get_or, take, drop, replicate, refl, sym, ◌∙◌, ap, inl, inr, arith}
-use Rattle.std.proofs.lemmas.List.{length-replicate, get_or-replicate, get_or-take, get_or-drop, length-take, length-drop}
+use Rattle.std.proofs.Common.{◌≡◌, ◌⊎◌, ℕ, ◌+◌, ◌-◌, ◌^◌, ◌<◌, ◌≤◌, true, false, List, length, get_or, replicate, refl, sym, ◌∙◌, inl, inr, arith}
+use Rattle.std.proofs.lemmas.List.{length-replicate, get_or-replicate}
 use Rattle.std.proofs.lemmas.Bool.{false≢true}
-use Rattle.std.proofs.lemmas.Grind.{same_number_lists}
-use Rattle.disk_model.specs.Disk.{put}
-use Rattle.disk_model.specs.Memory.{Memory, IsSound, MarksWithin, new_memory, written, settled, picked}
+use Rattle.disk_model.specs.Memory.{Memory, IsSound, new_memory, written, settled, picked}
 use Rattle.disk_model.specs.Bytes.{IsStored}
 use Rattle.disk_model.proofs.Put.{before, within, after, placed, length-put, put_before, put_within, put_after}
-use Rattle.disk_model.proofs.Marks.{clear_below, clear_above}
 use Rattle.disk_model.proofs.Picked.{length-picked, picked_clear}
 
 module _ (at : ℕ) (bytes : List ℕ) (disk : Memory) (fits : at + length bytes ≤ length disk.present) (sound : IsSound disk) where
@@ -70,23 +67,3 @@ module _ (disk : Memory) (stored : IsStored disk) where
     where
       same_size : length (picked pick disk.pending disk.stable disk.present) ≡ length disk.present
       same_size = length-picked pick disk.pending disk.stable disk.present stored.sound.marks stored.sound.stable.size
-
-module _ (low high : ℕ) (disk : Memory) (sound : IsSound disk) (bounds : MarksWithin low high disk.pending) (order : low ≤ high) (end : high ≤ length disk.present) where
-  range : List ℕ
-  range = take (high - low) (drop low disk.present)
-
-  length-range : length range ≡ high - low
-  unfolding range
-  length-range = simp (length-take, length-drop) (omega arith)
-
-  range_fits : low + length range ≤ length disk.stable
-  range_fits = omega (arith, length-range, sound.stable.size)
-
-  -- what lies outside the bounds is stable already
-  pub settled_stable : put low (take (high - low) (drop low disk.present)) disk.stable ≡ disk.present
-  unfolding range
-  settled_stable = same_number_lists _ _ (length-put low range disk.stable range_fits ∙ sound.stable.size) (λ k h. elim (placed low (length range) k) [
-    | before l ↦ put_before low range disk.stable range_fits k 0 l ∙ sound.stable.kept k (clear_below low high disk.pending bounds k l)
-    | within g l ↦ put_within low range disk.stable range_fits k 0 g l ∙ get_or-take (high - low) (drop low disk.present) (k - low) 0 (omega (arith, length-range)) ∙ get_or-drop low disk.present (k - low) 0 ∙ ap (λ i. get_or disk.present i 0) (omega arith)
-    | after g ↦ put_after low range disk.stable range_fits k 0 g ∙ sound.stable.kept k (clear_above low high disk.pending bounds k (omega (arith, length-range)))
-  ])

@@ -6,8 +6,8 @@ use Rattle.disk_model.specs.declared.memory.MemDisk.TheInside.{Inside}
 -- the disk that it stands for
 abbrev pub memory_of : Inside → Memory
 memory_of disk = record {
-  stable = disk.stable.items;
-  present = disk.present.items;
+  stable = disk.bytes.stable;
+  present = disk.bytes.present;
   pending = disk.pending;
   last_pick = disk.last_pick;
 }

@@ -11,8 +11,9 @@ pub record Counts : Type 0 where
   -- how often a call failed, and how often it did by the disk's own fault
   pub faults : ℕ
   pub own : ℕ
-  -- how many writes and syncs a stop still lets pass, if one is armed
+  -- how many writes and syncs a stop still lets pass, if one is armed, and whether it has failed a call
   pub left : Option ℕ
+  pub stopped : Bool
 
 pub record DiskState : Type 1 where
   pub size : ℕ
@@ -20,6 +21,8 @@ pub record DiskState : Type 1 where
   pub content : Option Content
   -- A crash now may leave these bytes. They are the disk's images.
   pub may_leave : List ℕ → Type 0
+  -- a restart now that picks by this number may come back as these bytes
+  pub comes_back : ℕ → List ℕ → Type 0
   -- a number that does not fall, and the test that a crash at some moment since then may have left these bytes
   pub moment : ℕ
   pub left_since : ℕ → List ℕ → Type 0
@@ -45,6 +48,8 @@ pub record IsLawful (disk : DiskState) : Type 0 where
   pub only_now : (c : List ℕ) → disk.left_since disk.moment c → disk.may_leave c
   -- the failures of a stop are not the disk's own
   pub own_among_faults : disk.counts.own ≤ disk.counts.faults
+  -- a stop that has failed a call lets none pass
+  pub stopped_lets_none : IsTrue disk.counts.stopped → disk.counts.left ≡ Some 0
 
 -- What no call changes.
 pub record SameKind (old new : DiskState) : Type 0 where
@@ -75,10 +80,11 @@ pub record SameOutside (at n : ℕ) (old new : List ℕ) : Type 0 where
 abbrev pub Pending : ℕ → ℕ → (List ℕ → Type 0) → List ℕ → Type 0
 Pending at n outcomes c = (d : List ℕ) × outcomes d × SameOutside at n d c
 
--- A read changes no byte and no image.
+-- A read changes no byte, no image and no outcome of a restart.
 pub record KeepsContent (old new : DiskState) : Type 0 where
   pub content : new.content ≡ old.content
   pub images : (c : List ℕ) → old.may_leave c → new.may_leave c
+  pub outcomes : (pick : ℕ) (c : List ℕ) → new.comes_back pick c → old.comes_back pick c
 
 -- the present bytes have these from an offset on, and the range is pending beside what was
 pub record IsWritten (at : ℕ) (bytes : List ℕ) (old new : DiskState) : Type 0 where
@@ -88,6 +94,10 @@ pub record IsWritten (at : ℕ) (bytes : List ℕ) (old new : DiskState) : Type 
 -- nothing is pending: the present bytes are the only image
 abbrev pub IsSettled : DiskState → Type 0
 IsSettled disk = (c : List ℕ) → disk.may_leave c → present disk ≡ Some c
+
+-- a restart came back as it may by this pick
+abbrev pub IsPicked : ℕ → DiskState → DiskState → Type 0
+IsPicked pick old new = (c : List ℕ) → new.may_leave c → old.comes_back pick c
 
 pub record IsSynced (old new : DiskState) : Type 0 where
   pub content : new.content ≡ old.content
@@ -121,11 +131,16 @@ pub record HasCause (old new : Counts) : Type 0 where
   pub fault : Rose old.faults new.faults
   pub cause : Rose old.own new.own ⊎ (new.left ≡ Some 0)
 
+-- why a read failed: a stop had failed a call before, or the disk's own fault
+abbrev pub HasReadCause : Counts → Counts → Type 0
+HasReadCause old new = IsTrue old.stopped ⊎ Rose old.own new.own
+
 -- What n writes and syncs in a row do to the counts, with any reads among them before the last. A read alone is the case 0.
 pub record CountsCalls {T E : Type 0} (n : ℕ) (result : Result T E) (old new : Counts) : Type 0 where
   pub faults : old.faults ≤ new.faults
   pub own : old.own ≤ new.own
   pub passed : OnOk result (Passed n old.left new.left)
+  pub running : OnOk result (new.stopped ≡ old.stopped)
   pub stuck : OnErr result (PassedAtMost (n - 1) old.left new.left)
   pub cause : OnErr result (HasCause old new)
 

@@ -1,9 +1,11 @@
 pub mod Bounds
 pub mod Bytes
 pub mod Disk
+pub mod Padding
 pub mod Memory
 pub mod Places
 pub mod Room
 pub mod Shelf
+pub mod Sides
 pub mod Stop
 pub mod Trace

@@ -62,10 +62,11 @@ memory_state disk = record {
   size = length disk.present;
   content = Some (record { present = disk.present; last_pick = disk.last_pick });
   may_leave = IsImage disk;
+  comes_back = λ pick c. c ≡ (crashed pick disk).present;
   moment = 0;
   left_since = λ _ _. ⊥;
   tells_moments = false;
-  counts = record { faults = 0; own = 0; left = None };
+  counts = record { faults = 0; own = 0; left = None; stopped = false };
 }
 
 pub memory_lawful : (disk : Memory) → IsLawful (memory_state disk)
@@ -77,4 +78,5 @@ memory_lawful disk = record {
   counts_now = λ told. absurd (false≢true told);
   only_now = λ c never. absurd never;
   own_among_faults = omega arith;
+  stopped_lets_none = λ never. absurd (false≢true never);
 }

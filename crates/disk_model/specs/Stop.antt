@@ -1,6 +1,7 @@
 -- A stop, and what it makes of the disk below it.
-use Rattle.std.specs.Prelude.{ℕ, zero, suc, ◌+◌, Bool, true, false, Option, Some, None}
-use Rattle.std.proofs.Common.{arith}
+use Rattle.std.specs.Prelude.{◌≡◌, IsTrue, ℕ, zero, suc, ◌+◌, Bool, true, false, Option, Some, None}
+use Rattle.std.proofs.Common.{refl, arith}
+use Rattle.std.proofs.lemmas.Bool.{false≢true}
 use Rattle.disk_model.specs.Disk.{DiskState, IsLawful}
 use Rattle.disk_model.specs.declared.stoppable.Stop.{Stop}
 use Rattle.disk_model.specs.declared.stoppable.Stop.TheVariants.{Off, Armed, Stopped}
@@ -22,6 +23,12 @@ left_of Off = None
 left_of (Armed calls) = Some calls
 left_of Stopped = Some 0
 
+-- it has failed a call
+abbrev pub has_failed : Stop → Bool
+has_failed Off = false
+has_failed (Armed calls) = false
+has_failed Stopped = true
+
 -- the stop after a write or a sync, which answered Ok or not
 abbrev pub next_stop : Bool → Stop → Stop
 next_stop ok Off = Off
@@ -33,11 +40,16 @@ next_stop false (Armed (suc calls)) = Armed (suc calls)
 -- the disk below, with the failures of the stop among its faults
 abbrev pub with_stop : Stop → ℕ → DiskState → DiskState
 with_stop stop failures disk = record disk {
-  counts = record { faults = disk.counts.faults + failures; own = disk.counts.faults; left = left_of stop };
+  counts = record { faults = disk.counts.faults + failures; own = disk.counts.faults; left = left_of stop; stopped = has_failed stop };
 }
 
 abbrev pub state_of : {D : Type 0} → (D → DiskState) → Stoppable D → DiskState
 state_of state disk = with_stop (stop_of disk) (failures_of disk) (state (below disk))
+
+failed_lets_none : (stop : Stop) → IsTrue (has_failed stop) → left_of stop ≡ Some 0
+failed_lets_none Off never = absurd (false≢true never)
+failed_lets_none (Armed calls) never = absurd (false≢true never)
+failed_lets_none Stopped failed = refl
 
 pub stopped_lawful : (stop : Stop) (failures : ℕ) (disk : DiskState) → IsLawful disk → IsLawful (with_stop stop failures disk)
 stopped_lawful stop failures disk lawful = record {
@@ -48,4 +60,5 @@ stopped_lawful stop failures disk lawful = record {
   counts_now = lawful.counts_now;
   only_now = lawful.only_now;
   own_among_faults = omega arith;
+  stopped_lets_none = failed_lets_none stop;
 }

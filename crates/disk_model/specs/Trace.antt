@@ -68,7 +68,7 @@ trace_state trace = record (memory_state (disk_of trace)) {
   moment = length trace.calls;
   left_since = LeftSince trace;
   tells_moments = true;
-  counts = record { faults = trace.faults; own = trace.faults; left = None };
+  counts = record { faults = trace.faults; own = trace.faults; left = None; stopped = false };
 }
 
 pub trace_lawful : (trace : Trace) → IsLawful (trace_state trace)
@@ -80,4 +80,5 @@ trace_lawful trace = record {
   counts_now = λ told t c le image. (length trace.calls, le, omega arith, rw (take_all (length trace.calls) trace.calls (omega arith)) image);
   only_now = λ c left. let all = take_all left.0 trace.calls left.1 in rw all at left.3;
   own_among_faults = omega arith;
+  stopped_lets_none = (memory_lawful (disk_of trace)).stopped_lets_none;
 }

@@ -1,7 +1,11 @@
 ghost use Rattle.std.specs.Prelude.{◌≡◌, ◌+◌, ◌^◌, ◌<◌, ◌≤◌, ℕ, List, Some, option_map, length, OnOk, OnErr};
-ghost use Rattle.disk_model.specs.Disk.{DiskState, IsLawful, SameKind, KeepsRest, KeepsContent, Reads, IsWritten, IsSynced, IsSettled, Leaves, Pending, CountsCalls, CountsRestart, last_pick};
+ghost use Rattle.disk_model.specs.declared.disk.TheConstants.{LAST_PICK};
+ghost use Rattle.disk_model.specs.Disk.{DiskState, IsLawful, SameKind, KeepsRest, KeepsContent, Reads, IsWritten, IsSynced, IsSettled, IsPicked, Leaves, Pending, CountsCalls, CountsRestart, HasReadCause, last_pick};
 
 use crate::errors::Failed;
+
+/// The greatest pick of a restart: 0 and 1, and then one for each byte.
+pub const LAST_PICK: u16 = 257;
 
 /// A disk of bytes. What is written is pending until a sync: a crash may change each pending byte to anything, and
 /// changes no other.
@@ -24,6 +28,7 @@ pub trait Disk {
         ensures unchanged { KeepsContent (state self.old) (state self.new) }
         ensures images { Leaves (state self.old) (state self.new) (state self.old).may_leave }
         ensures counts { CountsCalls 0 result (state self.old).counts (state self.new).counts }
+        ensures missed { OnErr result (HasReadCause (state self.old).counts (state self.new).counts) }
         ensures rest { KeepsRest (state self.old) (state self.new) };
 
     /// Writes over the bytes from an offset on. Until a sync, a crash may leave anything there.
@@ -41,10 +46,11 @@ pub trait Disk {
         ensures counts { CountsCalls 1 result (state self.old).counts (state self.new).counts }
         ensures rest { KeepsRest (state self.old) (state self.new) };
 
-    /// Comes back after a crash, as one of the images. The pick, at most 257, chooses one in a way of the disk's own.
+    /// Comes back after a crash, as one of the images. The pick, at most `LAST_PICK`, chooses one in a way of the disk's own.
     fn restart(&mut self, pick: u16) -> Result<(), Failed>
-        requires { pick ≤ 257 }
+        requires { pick ≤ LAST_PICK }
         ensures settled { OnOk result (IsSettled (state self.new)) }
+        ensures outcome { OnOk result (IsPicked pick (state self.old) (state self.new)) }
         ensures picked { OnOk result (last_pick (state self.new) ≡ option_map (λ _. Some pick) (last_pick (state self.old))) }
         ensures not_picked { OnErr result (last_pick (state self.new) ≡ last_pick (state self.old)) }
         ensures images { Leaves (state self.old) (state self.new) (state self.old).may_leave }

@@ -2,17 +2,19 @@
 //! Disks in memory keep this contract, and `Stoppable` lets any of them fail at a chosen call.
 #![tactic(auto)]
 
+mod bytes;
 mod disk;
 mod errors;
+mod lazy;
 mod memory;
 mod pending;
+mod saved;
 mod shelf;
 mod stoppable;
-#[cfg(test)]
-mod tests;
 mod traced;
 
-pub use disk::Disk;
+pub use bytes::{append, zeros};
+pub use disk::{Disk, LAST_PICK};
 pub use errors::{Failed, NoMemory, ShelfError};
 pub use memory::MemDisk;
 pub use shelf::{MemShelf, Shelf};

@@ -1,21 +1,22 @@
-ghost use Rattle.std.specs.Prelude.{◌≡◌, ◌+◌, ◌^◌, ◌<◌, ◌≤◌, length, take, drop, replicate, IfOk};
-ghost use Rattle.disk_model.specs.Disk.{put};
+ghost use Rattle.std.specs.Prelude.{◌≡◌, ◌+◌, ◌^◌, ◌<◌, ◌≤◌, length, take, drop, IfOk};
+ghost use Rattle.disk_model.specs.declared.disk.TheConstants.{LAST_PICK};
 ghost use Rattle.disk_model.specs.Memory.{picked, picked_byte};
 
-use crate::disk::Disk;
+use crate::disk::{Disk, LAST_PICK};
 use crate::errors::{Failed, NoMemory};
 use crate::pending::PendingBytes;
+use crate::saved::SavedBytes;
 use std::alloc::Global;
 use std::marker::Model;
 
-/// A disk in memory, which tells its images. No call of it fails but `new`, and no other takes memory.
+/// A disk in memory, which tells its images. No call of it fails but `new`, and no other takes memory. What was never
+/// written is not touched: a disk costs what is used of it.
 ///
 /// After a crash with pick 0 each pending byte has its stable value, with pick 1 its present value, and with
 /// pick `2 + b` the value b.
 #[derive(Drop)]
 pub struct MemDisk {
-    stable: Vec<u8>,
-    present: Vec<u8>,
+    bytes: SavedBytes,
     pending: PendingBytes,
     last_pick: Option<u16>,
 }
@@ -42,8 +43,7 @@ impl MemDisk {
     {
         let size = size as usize;
         Ok(MemDisk {
-            stable: zeros(alloc, size)?,
-            present: zeros(alloc, size)?,
+            bytes: SavedBytes::new(alloc, size)?,
             pending: PendingBytes::new(alloc, size)?,
             last_pick: None,
         })
@@ -54,8 +54,7 @@ impl MemDisk {
         requires { at + length into.old ≤ length self.now.present }
         ensures { into.new ≡ take (length into.old) (drop at self.now.present) }
     {
-        let at = at as usize;
-        into.copy_from_slice(&self.present[at..at + into.len()]);
+        self.bytes.read(at as usize, into);
     }
 
     /// Writes over the bytes from an offset on.
@@ -65,7 +64,7 @@ impl MemDisk {
         ensures sound { IsSound self.old }
     {
         let low = at as usize;
-        copy_over(&mut self.present, low, bytes);
+        self.bytes.write(low, bytes);
         self.pending.add(low, low + bytes.len());
     }
 
@@ -74,18 +73,17 @@ impl MemDisk {
         ensures settled { self.new ≡ settled self.old }
         ensures sound { IsSound self.old }
     {
-        let (low, high) = self.pending.bounds();
-        copy_over(&mut self.stable, low, &self.present[low..high]);
+        self.bytes.settle();
         self.pending.clear();
     }
 
     /// Comes back after a crash that picks among the images.
     pub fn crash(&mut self, pick: u16)
-        requires { pick ≤ 257 }
+        requires { pick ≤ LAST_PICK }
         ensures crashed { self.new ≡ crashed pick self.old }
         ensures sound { IsSound self.old }
     {
-        pick_pending(&mut self.present, &self.stable, &self.pending, pick);
+        pick_pending(&mut self.bytes, &self.pending, pick);
         self.flush();
         self.last_pick = Some(pick);
     }
@@ -97,7 +95,7 @@ impl Disk for MemDisk {
     ghost state = { memory_state };
 
     fn size(&self) -> u64 {
-        self.present.len() as u64
+        self.bytes.len() as u64
     }
 
     fn read_at(&mut self, at: u64, into: &mut [u8]) -> Result<(), Failed> {
@@ -123,37 +121,24 @@ impl Disk for MemDisk {
     ghost lawful = { memory_lawful };
 }
 
-fn zeros(alloc: Global, count: usize) -> Result<Vec<u8>, NoMemory>
-    ensures { IfOk result (λ bytes. bytes.items ≡ replicate count 0) }
-{
-    vec![in alloc; 0; count].map_err(|_| NoMemory)
-}
-
-// Writes these bytes over those from an offset on.
-fn copy_over(into: &mut Vec<u8>, at: usize, bytes: &[u8])
-    requires { at + length bytes.now ≤ length into.old.items }
-    ensures { into.new.items ≡ put at bytes.now into.old.items }
-{
-    into[at..at + bytes.len()].copy_from_slice(bytes);
-}
-
 // Picks a value for each pending byte.
-fn pick_pending(present: &mut Vec<u8>, stable: &[u8], pending: &PendingBytes, pick: u16)
-    requires pick { pick ≤ 257 }
-    requires stable { length stable.now ≡ length present.old.items }
-    requires marks { length pending.now ≡ length present.old.items }
-    ensures { present.new.items ≡ picked pick pending.now stable.now present.old.items }
+fn pick_pending(bytes: &mut SavedBytes, pending: &PendingBytes, pick: u16)
+    requires pick { pick ≤ LAST_PICK }
+    requires stable { length bytes.old.stable ≡ length bytes.old.present }
+    requires marks { length pending.now ≡ length bytes.old.present }
+    ensures { bytes.new ≡ record bytes.old { present = picked pick pending.now bytes.old.stable bytes.old.present } }
 {
     let (low, high) = pending.bounds();
     for k in low..high {
         if pending.contains(k) {
-            present[k] = picked_byte(pick, stable[k], present[k]);
+            let byte = picked_byte(pick, bytes.stable(k), bytes.present(k));
+            bytes.write(k, &[byte]);
         }
     }
 }
 
 fn picked_byte(pick: u16, stable: u8, present: u8) -> u8
-    requires { pick ≤ 257 }
+    requires { pick ≤ LAST_PICK }
     ensures { result ≡ picked_byte pick stable present }
 {
     match pick {

@@ -4,6 +4,7 @@ ghost use Rattle.disk_model.specs.Disk.{put};
 ghost use Rattle.disk_model.specs.Memory.{MarksWithin};
 
 use crate::errors::NoMemory;
+use crate::lazy::LazyRow;
 use std::alloc::Global;
 use std::marker::Model;
 
@@ -17,15 +18,15 @@ pub struct PendingBytes {
     // All that is pending lies from `low` to below `high`, so that a sync visits no more than that.
     low: usize,
     high: usize,
-    marks: Vec<bool>,
+    marks: LazyRow<bool>,
 }
 
 impl Model for PendingBytes {
     ghost Value = { List Bool };
 
-    ghost view = { λ kept. marks_with kept.whole kept.low kept.high kept.marks.items };
+    ghost view = { λ kept. marks_with kept.whole kept.low kept.high kept.marks };
 
-    ghost invariant = { λ kept. IsBounded kept.whole kept.low kept.high kept.marks.items };
+    ghost invariant = { λ kept. IsBounded kept.whole kept.low kept.high kept.marks };
 }
 
 impl PendingBytes {
@@ -37,7 +38,7 @@ impl PendingBytes {
             whole: true,
             low: 0,
             high: 0,
-            marks: vec![in alloc; false; count].map_err(|_| NoMemory)?,
+            marks: LazyRow::new(alloc, count, false)?,
         })
     }
 
@@ -58,7 +59,7 @@ impl PendingBytes {
         if self.whole {
             self.low <= at && at < self.high
         } else {
-            self.marks[at]
+            self.marks.get(at)
         }
     }
 
@@ -77,9 +78,9 @@ impl PendingBytes {
             self.high = self.high.max(high);
         } else {
             if self.whole {
-                mark(&mut self.marks, self.low, self.high, true);
+                self.marks.fill(self.low, self.high, true);
             }
-            mark(&mut self.marks, low, high, true);
+            self.marks.fill(low, high, true);
             self.whole = false;
             self.low = self.low.min(low);
             self.high = self.high.max(high);
@@ -91,19 +92,10 @@ impl PendingBytes {
         ensures { self.new ≡ replicate (length self.old) false }
     {
         if !self.whole {
-            mark(&mut self.marks, self.low, self.high, false);
+            self.marks.fill(self.low, self.high, false);
         }
         self.whole = true;
         self.low = 0;
         self.high = 0;
     }
-}
-
-// Sets the marks from `low` to below `high`.
-fn mark(marks: &mut Vec<bool>, low: usize, high: usize, value: bool)
-    requires order { low ≤ high }
-    requires end { high ≤ length marks.old.items }
-    ensures { marks.new.items ≡ put low (replicate (high - low) value) marks.old.items }
-{
-    marks[low..high].fill(value);
 }

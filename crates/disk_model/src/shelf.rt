@@ -24,15 +24,15 @@ pub trait Shelf {
     /// This disk is the one last given back under this name.
     ghost given_back: { Self → List ℕ → Self.D → Type 0 };
 
-    /// A new disk under this name, of this size in bytes. It makes the place for the disk to be given back to.
+    /// A new disk under this name, of this size in bytes. It makes the place for the disk to be given back to. A disk that
+    /// was given back before, under this name or another, stays the one last given back there.
     fn take(&mut self, alloc: Global, name: &str, size: u64) -> Result<Self::D, ShelfError>
         requires { size < 2 ^ 32 }
         ensures blank { IfOk result (λ disk. IsBlank size (Self.D.state disk)) }
         ensures place { OnOk result (has_place self.new name.now) }
         ensures places { (n : List ℕ) → has_place self.old n → has_place self.new n }
-        ensures others { (n : List ℕ) → n ≢ name.now → SameUnder n (given_back self.old) (given_back self.new) }
+        ensures given { (n : List ℕ) → SameUnder n (given_back self.old) (given_back self.new) }
         ensures failed { IsErrOf result ShelfError.Failed → Rose (faults self.old) (faults self.new) }
-        ensures err { OnErr result ((n : List ℕ) → SameUnder n (given_back self.old) (given_back self.new)) }
         ensures faults { faults self.old ≤ faults self.new }
         ensures tells { tells self.new ≡ tells self.old };
 

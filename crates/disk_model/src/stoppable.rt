@@ -1,5 +1,5 @@
-ghost use Rattle.std.specs.Prelude.{◌≡◌, ◌⊎◌, ◌+◌, ◌≤◌, Some, length, IsErr, OnOk, is_ok};
-ghost use Rattle.disk_model.specs.Disk.{Reads, KeepsContent, IsWritten, IsSynced, Leaves, Pending, CountsCalls, KeepsRest, Rose};
+ghost use Rattle.std.specs.Prelude.{◌≡◌, ◌⊎◌, ◌+◌, ◌≤◌, Some, length, IsErr, OnOk, OnErr, is_ok};
+ghost use Rattle.disk_model.specs.Disk.{Reads, KeepsContent, IsWritten, IsSynced, Leaves, Pending, CountsCalls, HasReadCause, KeepsRest, Rose};
 
 use crate::disk::Disk;
 use crate::errors::Failed;
@@ -23,7 +23,7 @@ pub enum Stop {
 }
 
 impl<D: Disk> Stoppable<D> {
-    ghost use Rattle.disk_model.specs.Stop.{below, stop_of, failures_of};
+    ghost use Rattle.disk_model.specs.Stop.{below, stop_of, failures_of, has_failed};
 
     /// The disk with no stop armed.
     pub fn new(disk: D) -> Stoppable<D>
@@ -45,6 +45,13 @@ impl<D: Disk> Stoppable<D> {
         ensures failures { failures_of self.new ≡ failures_of self.old }
     {
         self.stop = Stop::Armed(calls);
+    }
+
+    /// Whether a stop has failed a call since the last restart, or since it was last armed.
+    pub fn is_stopped(&self) -> bool
+        ensures { result ≡ has_failed (stop_of self.now) }
+    {
+        matches!(self.stop, Stop::Stopped)
     }
 
     /// The disk below.
@@ -71,6 +78,7 @@ impl<D: Disk> Disk for Stoppable<D> {
         ensures unchanged { KeepsContent (state_of D.state self.old) (state_of D.state self.new) }
         ensures images { Leaves (state_of D.state self.old) (state_of D.state self.new) (state_of D.state self.old).may_leave }
         ensures counts { CountsCalls 0 result (state_of D.state self.old).counts (state_of D.state self.new).counts }
+        ensures missed { OnErr result (HasReadCause (state_of D.state self.old).counts (state_of D.state self.new).counts) }
         ensures rest { KeepsRest (state_of D.state self.old) (state_of D.state self.new) }
 
         ensures stop { stop_of self.new ≡ stop_of self.old }

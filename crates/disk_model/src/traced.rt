@@ -1,6 +1,8 @@
 ghost use Rattle.std.specs.Prelude.{◌≡◌, ◌+◌, ◌^◌, ◌<◌, ◌≤◌, [], ◌++◌, length, take, drop, vec_len, vec_capacity, IfOk, OnOk, OnErr};
+ghost use Rattle.disk_model.specs.declared.disk.TheConstants.{LAST_PICK};
 
-use crate::disk::Disk;
+use crate::bytes::append;
+use crate::disk::{Disk, LAST_PICK};
 use crate::errors::{Failed, NoMemory};
 use crate::memory::MemDisk;
 use std::alloc::Global;
@@ -106,7 +108,7 @@ impl TracedDisk {
 
     /// Comes back after a crash that picks among the images, as `MemDisk` does.
     pub fn crash(&mut self, pick: u16) -> Result<(), Failed>
-        requires { pick ≤ 257 }
+        requires { pick ≤ LAST_PICK }
         ensures noted { OnOk result (IsNoted (Restarted pick) self.old self.new) }
         ensures refused { OnErr result (IsRefused 0 self.old self.new) }
     {
@@ -156,13 +158,4 @@ fn with_room<T: Drop>(alloc: Global, count: usize) -> Result<Vec<T>, NoMemory>
     ensures room { IfOk result (λ made. count ≤ vec_capacity made) }
 {
     Vec::with_capacity(alloc, count).map_err(|_| NoMemory)
-}
-
-// Appends bytes for which there is room.
-fn append(into: &mut Vec<u8>, bytes: &[u8])
-    requires { vec_len into.old + length bytes.now ≤ vec_capacity into.old }
-    ensures items { into.new.items ≡ into.old.items ++ bytes.now }
-    ensures capacity { vec_capacity into.old ≤ vec_capacity into.new }
-{
-    into.extend_from_slice(bytes).unwrap();
 }

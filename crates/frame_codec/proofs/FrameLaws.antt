@@ -40,7 +40,7 @@ pub record IsHead (head : Head) (bytes : List ℕ) : Type 0 where
   pub compressor : head.compressor ≡ 0
   pub whole : head.full ≤ length bytes
 
-head_back : (head : Head) (bytes : List ℕ) (after : Position) → HEAD_BYTES ≤ length bytes → head_at (record { at = 0; rest = bytes }) ≡ Ok (head, after) → IsHead head bytes → checked_head bytes ≡ Ok head
+pub head_back : (head : Head) (bytes : List ℕ) (after : Position) → HEAD_BYTES ≤ length bytes → head_at (record { at = 0; rest = bytes }) ≡ Ok (head, after) → IsHead head bytes → checked_head bytes ≡ Ok head
 unfolding checked_head
 head_back head bytes after long read is =
     let lengths : has_lengths head ≡ true =
@@ -76,7 +76,7 @@ head_tests true short (Ok x) t1 t2 t3 t4 t5 f1 f2 f3 f4 f5 head e =
 head_tests true short (Err fault) t1 t2 t3 t4 t5 f1 f2 f3 f4 f5 head e = absurd cc
 head_tests false short read t1 t2 t3 t4 t5 f1 f2 f3 f4 f5 head e = absurd cc
 
-head_only : (head : Head) (bytes : List ℕ) → checked_head bytes ≡ Ok head → (after : Position) × (head_at (record { at = 0; rest = bytes }) ≡ Ok (head, after)) × IsHead head bytes
+pub head_only : (head : Head) (bytes : List ℕ) → checked_head bytes ≡ Ok head → (after : Position) × (head_at (record { at = 0; rest = bytes }) ≡ Ok (head, after)) × IsHead head bytes
 unfolding checked_head
 head_only head bytes e =
     let t = head_tests (leb HEAD_BYTES (length bytes)) (errors.Short HEAD_BYTES) (head_at (record { at = 0; rest = bytes }))
@@ -121,6 +121,10 @@ type_code_least (message.GlobalRollback xid) = omega arith
 type_code_least (message.RollbackStatus xid status) = omega arith
 type_code_least (message.Register xid resource call ticket mode hold check) = omega arith
 type_code_least (message.RegisterAnswer ticket xid given) = omega arith
+type_code_least (message.GlobalStatus xid) = omega arith
+type_code_least (message.StatusAnswer xid status) = omega arith
+type_code_least (message.LockQuery resource ticket check) = omega arith
+type_code_least (message.LockAnswer ticket held) = omega arith
 type_code_least (message.Call xid manager resource call work) = omega arith
 type_code_least (message.Answer xid call given) = omega arith
 

@@ -74,3 +74,7 @@ head_needs =
 -- sixteen bytes are a head
 pub head_there : (bytes : List ℕ) → 16 ≤ length bytes → IsOk (head_at (record { at = 0; rest = bytes }))
 head_there bytes long = let a = head_needs (record { at = 0; rest = bytes }) long in rw a.2 refl
+
+-- the head that sixteen bytes begin with
+pub head_read : (bytes : List ℕ) → 16 ≤ length bytes → (head : Head) × (after : Position) × (head_at (record { at = 0; rest = bytes }) ≡ Ok (head, after))
+head_read bytes long = let a = head_needs (record { at = 0; rest = bytes }) long in (a.0, a.1, a.2)

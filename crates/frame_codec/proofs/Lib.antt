@@ -1,8 +1,11 @@
-pub mod Codes
+pub mod StatusCodes
 pub mod Tables
 pub mod PartLaws
+pub mod WorkLaws
 pub mod MessageLaws
 pub mod HeadLaws
 pub mod FrameLaws
 pub mod Lengths
 pub mod PacketLaws
+pub mod LaterBytes
+pub mod FeedLaws

@@ -1,5 +1,5 @@
 -- Each part of a message is read back, and what is read as one stands there.
-use Rattle.std.proofs.Common.{◌≡◌, ℕ, ◌+◌, ◌^◌, ◌<◌, Bool, true, false, Some, List, [], ◌∷◌, ◌++◌, Ok, refl}
+use Rattle.std.proofs.Common.{◌≡◌, ℕ, ◌+◌, ◌^◌, ◌<◌, Bool, true, false, Option, Some, None, List, [], ◌∷◌, ◌++◌, Ok, refl}
 use Rattle.std.specs.Int.{w16, to_be_bytes}
 use Rattle.seata_types.specs.declared.ids.Xid.{Xid}
 use Rattle.seata_types.specs.declared.ids.BranchId.{BranchId}
@@ -19,10 +19,11 @@ use Rattle.byte_fields.specs.Reading.{Reader, gives}
 use Rattle.byte_fields.specs.Exactness.{ReadsExactly}
 use Rattle.byte_fields.proofs.Chains.{ReadsParts, part, last_part, no_part, whole}
 use Rattle.byte_fields.proofs.Numbers.{two_bytes_exact, eight_bytes_exact}
-use Rattle.byte_fields.proofs.Records.{key_exact, ticket_exact}
+use Rattle.byte_fields.proofs.Records.{ticket_exact}
+use Rattle.byte_fields.proofs.KeyLaws.{written_key_exact}
 use Rattle.frame_codec.specs.Tags.{look_up}
-use Rattle.frame_codec.specs.Parts.{xid_bytes, FitsXid, xid_at, branch_bytes, FitsBranch, branch_at, kind_code, kind_at, truth_code, truth_at, statuses, status_at, branch_statuses, branch_status_at, registered_tag, registered_rest, registered_bytes, FitsRegistered, granted_at, conflict_at, closed_at, registered_at, stmt_error_tag, stmt_error_rest, stmt_error_bytes, FitsStmtError, overflow_at, duplicate_at, stmt_error_at, why_tag, why_rest, why_bytes, FitsWhy, why_stmt_at, why_rolling_at, why_closed_at, why_no_row_at, why_at, answer_tag, answer_rest, answer_bytes, FitsAnswer, done_at, busy_at, failed_at, answer_at}
-use Rattle.frame_codec.proofs.Codes.{by_code, status_found, branch_status_found}
+use Rattle.frame_codec.specs.Parts.{xid_bytes, FitsXid, xid_at, branch_bytes, FitsBranch, branch_at, kind_code, kind_at, truth_code, truth_at, statuses, status_at, branch_statuses, branch_status_at, registered_tag, registered_rest, registered_bytes, FitsRegistered, granted_at, conflict_at, closed_at, registered_at, held_tag, held_rest, held_bytes, FitsHeld, held_key_at, held_at, stmt_error_tag, stmt_error_rest, stmt_error_bytes, FitsStmtError, overflow_at, duplicate_at, stmt_error_at, why_tag, why_rest, why_bytes, FitsWhy, why_stmt_at, why_rolling_at, why_closed_at, why_no_row_at, why_at, answer_tag, answer_rest, answer_bytes, FitsAnswer, done_at, busy_at, failed_at, answer_at}
+use Rattle.frame_codec.proofs.StatusCodes.{by_code, status_found, branch_status_found}
 use Rattle.frame_codec.proofs.Tables.{IsComplete, IsSound, sound, tagged_exact, coded_exact}
 
 alone : {X : Type 0} (x : X) (at : ℕ) (rest : List ℕ) → gives x (record { at = at; rest = rest }) ≡ Ok (x, record { at = at + 0; rest = rest })
@@ -73,7 +74,7 @@ granted_part = last_part registered.Granted branch_exact
 
 conflict_part : ReadsParts conflict_at (λ (t : RowKey × (Xid × Bool)). registered.Conflict t.0 t.1.0 t.1.1) (λ t. key_bytes t.0 ++ (xid_bytes t.1.0 ++ truth_code t.1.1 ∷ [])) (λ t. FitsKey t.0 × (FitsXid t.1.0 × Unit {0}))
 unfolding conflict_at
-conflict_part = part key_exact (λ key. part xid_exact (λ holder. last_part (λ rolling. registered.Conflict key holder rolling) truth_exact))
+conflict_part = part written_key_exact (λ key. part xid_exact (λ holder. last_part (λ rolling. registered.Conflict key holder rolling) truth_exact))
 
 closed_part : ReadsParts closed_at registered.Closed (λ x. code_of x ∷ []) (λ x. Unit {0})
 closed_part = last_part registered.Closed status_exact
@@ -97,13 +98,30 @@ registered_exact = tagged_exact registered_tag registered_rest FitsRegistered ((
   ),
 )
 
+-- ---- the answer to a lock query
+
+held_key_part : ReadsParts held_key_at (λ (t : RowKey × Xid). Some t) (λ t. key_bytes t.0 ++ xid_bytes t.1) (λ t. FitsKey t.0 × FitsXid t.1)
+unfolding held_key_at
+held_key_part = part written_key_exact (λ key. last_part (λ holder. Some (key, holder)) xid_exact)
+
+held_complete : IsComplete held_tag held_rest FitsHeld ((0, gives None) ∷ (1, held_key_at) ∷ [])
+held_complete None fits = (gives None, refl, alone None)
+held_complete (Some held) fits = (held_key_at, refl, λ at rest. held_key_part.back held at rest fits)
+
+pub held_exact : ReadsExactly held_at held_bytes FitsHeld
+unfolding held_at
+held_exact = tagged_exact held_tag held_rest FitsHeld ((0, gives None) ∷ (1, held_key_at) ∷ []) held_complete (
+  sound held_tag held_rest FitsHeld 0 (no_part None) (λ u fits. tt) (λ u. refl) (λ u. refl),
+  (sound held_tag held_rest FitsHeld 1 held_key_part (λ t fits. fits) (λ t. refl) (λ t. refl), tt),
+)
+
 -- ---- why a statement has no meaning
 
 overflow_part : ReadsParts overflow_at stmt.Overflow key_bytes FitsKey
-overflow_part = last_part stmt.Overflow key_exact
+overflow_part = last_part stmt.Overflow written_key_exact
 
 duplicate_part : ReadsParts duplicate_at stmt.Duplicate key_bytes FitsKey
-duplicate_part = last_part stmt.Duplicate key_exact
+duplicate_part = last_part stmt.Duplicate written_key_exact
 
 abbrev stmt_errors : List (ℕ × Reader StmtError)
 stmt_errors =
@@ -217,7 +235,7 @@ done_part = last_part answer.Done branch_exact
 
 busy_part : ReadsParts busy_at (λ (t : RowKey × Ticket). answer.Busy t.0 t.1) (λ t. key_bytes t.0 ++ ticket_bytes t.1) (λ t. FitsKey t.0 × FitsTicket t.1)
 unfolding busy_at
-busy_part = part key_exact (λ key. last_part (λ by. answer.Busy key by) ticket_exact)
+busy_part = part written_key_exact (λ key. last_part (λ by. answer.Busy key by) ticket_exact)
 
 failed_part : ReadsParts failed_at answer.Failed why_bytes FitsWhy
 failed_part = last_part answer.Failed why_exact

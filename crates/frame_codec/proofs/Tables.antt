@@ -7,7 +7,7 @@ use Rattle.byte_fields.specs.Exactness.{AreBytes, Stands, ReadsExactly}
 use Rattle.byte_fields.proofs.Chains.{step_ok, ok_is, Stands-then, AreBytes-after, ReadsParts}
 use Rattle.byte_fields.proofs.Numbers.{byte_back, byte_only}
 use Rattle.frame_codec.specs.Tags.{look_up, chosen, tagged, coded}
-use Rattle.frame_codec.proofs.Codes.{by_code}
+use Rattle.frame_codec.proofs.StatusCodes.{by_code}
 
 -- what the reader of an entry gives has the entry's tag, fits and stands there
 abbrev pub IsSound : {X : Type 0} → (X → ℕ) → (X → List ℕ) → (X → Type 0) → ℕ → Reader X → Type 0

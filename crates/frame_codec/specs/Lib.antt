@@ -1,8 +1,10 @@
 pub mod Taking
 pub mod Tags
 pub mod Parts
+pub mod Works
 pub mod Messages
 pub mod Heads
 pub mod Frames
 pub mod Limits
 pub mod Packets
+pub mod Feeding

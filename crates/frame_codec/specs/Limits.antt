@@ -1,5 +1,5 @@
 -- Which messages may be sent: those that the layout can hold and whose numbers and keys are within the limits.
-use Rattle.std.specs.Prelude.{ℕ, ◌≤◌, All, List, length}
+use Rattle.std.specs.Prelude.{ℕ, ◌≤◌, ◌*◌, All, Option, Some, None, List, length}
 use Rattle.seata_types.specs.declared.rows.RowKey.{RowKey}
 use Rattle.seata_types.specs.declared.messages.Message.{Message}
 use Rattle.seata_types.specs.declared.messages.Message.TheVariants as message
@@ -11,7 +11,12 @@ use Rattle.seata_types.specs.declared.errors.StmtError.{StmtError}
 use Rattle.seata_types.specs.declared.errors.StmtError.TheVariants as stmt
 use Rattle.seata_types.specs.declared.errors.Why.{Why}
 use Rattle.seata_types.specs.declared.errors.Why.TheVariants as why
-use Rattle.seata_types.specs.declared.limits.TheConstants.{RESOURCES, MANAGERS, CALLS, STATEMENTS, CALL_ROWS, NAME_BYTES, TICKS}
+use Rattle.seata_types.specs.declared.limits.TheConstants.{RESOURCES, MANAGERS, CALLS, STATEMENTS, STATEMENT_BYTES, CALL_ROWS, NAME_BYTES, TICKS}
+use Rattle.seata_types.specs.declared.ids.Xid.{Xid}
+use Rattle.seata_types.specs.declared.statements.Stmt.{Stmt}
+use Rattle.seata_types.specs.declared.statements.Work.{Work}
+use Rattle.seata_types.specs.declared.statements.Work.TheVariants as work
+use Rattle.sql_reader.specs.Canonical.{canonical_text}
 use Rattle.frame_codec.specs.Messages.{FitsMessage}
 
 -- a number from 1 to its limit
@@ -45,6 +50,22 @@ IsAnswerWithin (answer.Done id) = Unit {0}
 IsAnswerWithin (answer.Busy key by) = IsKeyWithin key
 IsAnswerWithin (answer.Failed reason) = IsWhyWithin reason
 
+abbrev pub IsHeldWithin : Option (RowKey × Xid) → Type 0
+IsHeldWithin None = Unit {0}
+IsHeldWithin (Some held) = IsKeyWithin held.0
+
+-- a canonical text has at most one space before each token, so it is at most twice as long as a text that reads alike
+abbrev pub IsStmtWithin : Stmt → Type 0
+IsStmtWithin stmt = length (canonical_text stmt) ≤ 2 * STATEMENT_BYTES
+
+pub record AreStmtsWithin (stmts : List Stmt) : Type 0 where
+  pub count : length stmts ≤ STATEMENTS
+  pub each : All IsStmtWithin stmts
+
+abbrev pub IsWorkWithin : Work → Type 0
+IsWorkWithin (work.At stmts) = AreStmtsWithin stmts
+IsWorkWithin (work.Tcc action) = AreStmtsWithin action.tries × AreStmtsWithin action.confirms × AreStmtsWithin action.cancels
+
 -- the statement without meaning is 0 where there is none
 abbrev pub IsWithinLimits : Message → Type 0
 IsWithinLimits (message.Begin manager timeout) = IsCounted MANAGERS manager × IsCounted TICKS timeout
@@ -55,6 +76,10 @@ IsWithinLimits (message.BranchRollbacked xid id status stmt) = stmt ≤ STATEMEN
 IsWithinLimits (message.Register xid resource call ticket mode hold check) =
     IsCounted RESOURCES resource × IsCounted CALLS call × AreKeysWithin hold × AreKeysWithin check
 IsWithinLimits (message.RegisterAnswer ticket xid given) = IsRegisteredWithin given
+IsWithinLimits (message.LockQuery resource ticket check) = IsCounted RESOURCES resource × AreKeysWithin check
+IsWithinLimits (message.LockAnswer ticket held) = IsHeldWithin held
+IsWithinLimits (message.Call xid manager resource call work) =
+    IsCounted MANAGERS manager × IsCounted RESOURCES resource × IsCounted CALLS call × IsWorkWithin work
 IsWithinLimits (message.Answer xid call given) = IsCounted CALLS call × IsAnswerWithin given
 IsWithinLimits _ = Unit {0}
 

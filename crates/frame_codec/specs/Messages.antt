@@ -7,24 +7,30 @@ use Rattle.seata_types.specs.Statuses.{code_of, branch_code_of}
 use Rattle.byte_fields.specs.Layout.{FitsKeys, FitsTicket, keys_bytes, ticket_bytes}
 use Rattle.byte_fields.specs.Reading.{Reader, ◌>>=◌, gives, number_at, keys_at, ticket_at}
 use Rattle.frame_codec.specs.Tags.{look_up, chosen}
-use Rattle.frame_codec.specs.Parts.{xid_bytes, FitsXid, xid_at, branch_bytes, FitsBranch, branch_at, kind_code, kind_at, status_at, branch_status_at, registered_bytes, FitsRegistered, registered_at, answer_bytes, FitsAnswer, answer_at}
+use Rattle.frame_codec.specs.Parts.{xid_bytes, FitsXid, xid_at, branch_bytes, FitsBranch, branch_at, kind_code, kind_at, status_at, branch_status_at, registered_bytes, FitsRegistered, registered_at, held_bytes, FitsHeld, held_at, answer_bytes, FitsAnswer, answer_at}
+use Rattle.frame_codec.specs.Works.{work_bytes, FitsWork, work_at}
+use Rattle.frame_codec.specs.declared.codes.TheConstants.{BEGIN, BEGUN, BRANCH_COMMIT, BRANCH_COMMITTED, BRANCH_ROLLBACK, BRANCH_ROLLBACKED, GLOBAL_COMMIT, COMMIT_STATUS, GLOBAL_ROLLBACK, ROLLBACK_STATUS, REGISTER, REGISTER_ANSWER, GLOBAL_STATUS, STATUS_ANSWER, LOCK_QUERY, LOCK_ANSWER, CALL, ANSWER}
 
 -- the type codes, after Seata's
 abbrev pub type_code : Message → ℕ
-type_code (message.Begin manager timeout) = 1
-type_code (message.Begun xid) = 2
-type_code (message.BranchCommit xid id mode manager call) = 3
-type_code (message.BranchCommitted xid id status stmt) = 4
-type_code (message.BranchRollback xid id mode manager call) = 5
-type_code (message.BranchRollbacked xid id status stmt) = 6
-type_code (message.GlobalCommit xid) = 7
-type_code (message.CommitStatus xid status) = 8
-type_code (message.GlobalRollback xid) = 9
-type_code (message.RollbackStatus xid status) = 10
-type_code (message.Register xid resource call ticket mode hold check) = 11
-type_code (message.RegisterAnswer ticket xid given) = 12
-type_code (message.Call xid manager resource call work) = 201
-type_code (message.Answer xid call given) = 202
+type_code (message.Begin manager timeout) = BEGIN
+type_code (message.Begun xid) = BEGUN
+type_code (message.BranchCommit xid id mode manager call) = BRANCH_COMMIT
+type_code (message.BranchCommitted xid id status stmt) = BRANCH_COMMITTED
+type_code (message.BranchRollback xid id mode manager call) = BRANCH_ROLLBACK
+type_code (message.BranchRollbacked xid id status stmt) = BRANCH_ROLLBACKED
+type_code (message.GlobalCommit xid) = GLOBAL_COMMIT
+type_code (message.CommitStatus xid status) = COMMIT_STATUS
+type_code (message.GlobalRollback xid) = GLOBAL_ROLLBACK
+type_code (message.RollbackStatus xid status) = ROLLBACK_STATUS
+type_code (message.Register xid resource call ticket mode hold check) = REGISTER
+type_code (message.RegisterAnswer ticket xid given) = REGISTER_ANSWER
+type_code (message.GlobalStatus xid) = GLOBAL_STATUS
+type_code (message.StatusAnswer xid status) = STATUS_ANSWER
+type_code (message.LockQuery resource ticket check) = LOCK_QUERY
+type_code (message.LockAnswer ticket held) = LOCK_ANSWER
+type_code (message.Call xid manager resource call work) = CALL
+type_code (message.Answer xid call given) = ANSWER
 
 -- a request is 0 and an answer 1: messages with odd codes ask, those with even codes answer
 abbrev pub kind_of : ℕ → ℕ
@@ -36,7 +42,7 @@ joined [] = []
 joined (part ∷ []) = part
 joined (part ∷ next ∷ parts) = part ++ joined (next ∷ parts)
 
--- the fields behind the code; a call has none yet, since its statements can't be read
+-- the fields behind the code
 unfoldable pub fields_bytes : Message → List ℕ
 fields_bytes (message.Begin manager timeout) = joined (to_be_bytes w16 manager ∷ to_be_bytes w64 timeout ∷ [])
 fields_bytes (message.Begun xid) = xid_bytes xid
@@ -57,7 +63,13 @@ fields_bytes (message.Register xid resource call ticket mode hold check) =
     ticket_bytes ticket ∷ (kind_code mode ∷ []) ∷ keys_bytes hold ∷ keys_bytes check ∷ [])
 fields_bytes (message.RegisterAnswer ticket xid given) =
     joined (ticket_bytes ticket ∷ xid_bytes xid ∷ registered_bytes given ∷ [])
-fields_bytes (message.Call xid manager resource call work) = []
+fields_bytes (message.GlobalStatus xid) = xid_bytes xid
+fields_bytes (message.StatusAnswer xid status) = joined (xid_bytes xid ∷ (code_of status ∷ []) ∷ [])
+fields_bytes (message.LockQuery resource ticket check) =
+    joined (to_be_bytes w16 resource ∷ ticket_bytes ticket ∷ keys_bytes check ∷ [])
+fields_bytes (message.LockAnswer ticket held) = joined (ticket_bytes ticket ∷ held_bytes held ∷ [])
+fields_bytes (message.Call xid manager resource call work) =
+    joined (xid_bytes xid ∷ to_be_bytes w16 manager ∷ to_be_bytes w16 resource ∷ to_be_bytes w16 call ∷ work_bytes work ∷ [])
 fields_bytes (message.Answer xid call given) =
     joined (xid_bytes xid ∷ to_be_bytes w16 call ∷ answer_bytes given ∷ [])
 
@@ -79,7 +91,12 @@ FitsMessage (message.Register xid resource call ticket mode hold check) =
     FitsXid xid × (resource < 2 ^ 16) × (call < 2 ^ 16) ×
     FitsTicket ticket × FitsKeys hold × FitsKeys check
 FitsMessage (message.RegisterAnswer ticket xid given) = FitsTicket ticket × FitsXid xid × FitsRegistered given
-FitsMessage (message.Call xid manager resource call work) = ⊥
+FitsMessage (message.GlobalStatus xid) = FitsXid xid
+FitsMessage (message.StatusAnswer xid status) = FitsXid xid
+FitsMessage (message.LockQuery resource ticket check) = (resource < 2 ^ 16) × FitsTicket ticket × FitsKeys check
+FitsMessage (message.LockAnswer ticket held) = FitsTicket ticket × FitsHeld held
+FitsMessage (message.Call xid manager resource call work) =
+    FitsXid xid × (manager < 2 ^ 16) × (resource < 2 ^ 16) × (call < 2 ^ 16) × FitsWork work
 FitsMessage (message.Answer xid call given) = FitsXid xid × (call < 2 ^ 16) × FitsAnswer given
 
 -- ---- the fields of each message
@@ -169,6 +186,39 @@ register_answer_at = do
   given ← registered_at
   gives (message.RegisterAnswer ticket xid given)
 
+unfoldable pub global_status_at : Reader Message
+global_status_at = do
+  xid ← xid_at
+  gives (message.GlobalStatus xid)
+
+unfoldable pub status_answer_at : Reader Message
+status_answer_at = do
+  xid ← xid_at
+  status ← status_at
+  gives (message.StatusAnswer xid status)
+
+unfoldable pub lock_query_at : Reader Message
+lock_query_at = do
+  resource ← number_at w16
+  ticket ← ticket_at
+  check ← keys_at
+  gives (message.LockQuery resource ticket check)
+
+unfoldable pub lock_answer_at : Reader Message
+lock_answer_at = do
+  ticket ← ticket_at
+  held ← held_at
+  gives (message.LockAnswer ticket held)
+
+unfoldable pub call_at : Reader Message
+call_at = do
+  xid ← xid_at
+  manager ← number_at w16
+  resource ← number_at w16
+  call ← number_at w16
+  work ← work_at
+  gives (message.Call xid manager resource call work)
+
 unfoldable pub call_answer_at : Reader Message
 call_answer_at = do
   xid ← xid_at
@@ -179,19 +229,24 @@ call_answer_at = do
 -- the codes that can be read, and the fields behind each
 abbrev pub messages : List (ℕ × Reader Message)
 messages =
-    (1, begin_at) ∷
-    (2, begun_at) ∷
-    (3, branch_commit_at) ∷
-    (4, branch_committed_at) ∷
-    (5, branch_rollback_at) ∷
-    (6, branch_rollbacked_at) ∷
-    (7, global_commit_at) ∷
-    (8, commit_status_at) ∷
-    (9, global_rollback_at) ∷
-    (10, rollback_status_at) ∷
-    (11, register_at) ∷
-    (12, register_answer_at) ∷
-    (202, call_answer_at) ∷
+    (BEGIN, begin_at) ∷
+    (BEGUN, begun_at) ∷
+    (BRANCH_COMMIT, branch_commit_at) ∷
+    (BRANCH_COMMITTED, branch_committed_at) ∷
+    (BRANCH_ROLLBACK, branch_rollback_at) ∷
+    (BRANCH_ROLLBACKED, branch_rollbacked_at) ∷
+    (GLOBAL_COMMIT, global_commit_at) ∷
+    (COMMIT_STATUS, commit_status_at) ∷
+    (GLOBAL_ROLLBACK, global_rollback_at) ∷
+    (ROLLBACK_STATUS, rollback_status_at) ∷
+    (REGISTER, register_at) ∷
+    (REGISTER_ANSWER, register_answer_at) ∷
+    (GLOBAL_STATUS, global_status_at) ∷
+    (STATUS_ANSWER, status_answer_at) ∷
+    (LOCK_QUERY, lock_query_at) ∷
+    (LOCK_ANSWER, lock_answer_at) ∷
+    (CALL, call_at) ∷
+    (ANSWER, call_answer_at) ∷
     []
 
 unfoldable pub is_known : ℕ → Bool

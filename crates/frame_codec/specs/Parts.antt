@@ -1,9 +1,10 @@
 -- The parts of messages: identities, codes, and the answers to registrations and calls.
 -- Of each: its bytes, which values have such bytes, and how it is read.
-use Rattle.std.specs.Prelude.{ℕ, ◌<◌, ◌^◌, Bool, true, false, List, [], ◌∷◌, ◌++◌}
+use Rattle.std.specs.Prelude.{ℕ, ◌<◌, ◌^◌, Bool, true, false, Option, Some, None, List, [], ◌∷◌, ◌++◌}
 use Rattle.std.specs.Int.{w16, w64, to_be_bytes}
 use Rattle.seata_types.specs.declared.ids.Xid.{Xid}
 use Rattle.seata_types.specs.declared.ids.BranchId.{BranchId}
+use Rattle.seata_types.specs.declared.rows.RowKey.{RowKey}
 use Rattle.seata_types.specs.declared.statuses.BranchKind.{BranchKind}
 use Rattle.seata_types.specs.declared.statuses.BranchKind.TheVariants as kind
 use Rattle.seata_types.specs.declared.statuses.GlobalStatus.{GlobalStatus}
@@ -120,6 +121,32 @@ closed_at = do
 
 unfoldable pub registered_at : Reader Registered
 registered_at = tagged ((0, granted_at) ∷ (1, conflict_at) ∷ (2, closed_at) ∷ (3, gives registered.Late) ∷ [])
+
+-- ---- the answer to a lock query: the first key that another transaction holds, and the transaction
+
+abbrev pub held_tag : Option (RowKey × Xid) → ℕ
+held_tag None = 0
+held_tag (Some held) = 1
+
+abbrev pub held_rest : Option (RowKey × Xid) → List ℕ
+held_rest None = []
+held_rest (Some held) = key_bytes held.0 ++ xid_bytes held.1
+
+abbrev pub FitsHeld : Option (RowKey × Xid) → Type 0
+FitsHeld None = Unit {0}
+FitsHeld (Some held) = FitsKey held.0 × FitsXid held.1
+
+unfoldable pub held_key_at : Reader (Option (RowKey × Xid))
+held_key_at = do
+  key ← key_at
+  holder ← xid_at
+  gives (Some (key, holder))
+
+unfoldable pub held_at : Reader (Option (RowKey × Xid))
+held_at = tagged ((0, gives None) ∷ (1, held_key_at) ∷ [])
+
+abbrev pub held_bytes : Option (RowKey × Xid) → List ℕ
+held_bytes held = held_tag held ∷ held_rest held
 
 -- ---- why a statement has no meaning
 

@@ -1,9 +1,10 @@
 //! The fields of each message, taken from a body.
 ghost use Rattle.std.specs.Prelude.{◌≡◌, IsTrue};
 ghost use Rattle.frame_codec.specs.Taking.{Reads};
-ghost use Rattle.frame_codec.specs.Messages.{kind_of, is_known, fields_at, begin_at, begun_at, branch_commit_at, branch_committed_at, branch_rollback_at, branch_rollbacked_at, global_commit_at, commit_status_at, global_rollback_at, rollback_status_at, register_at, register_answer_at, call_answer_at};
+ghost use Rattle.frame_codec.specs.Messages.{kind_of, is_known, fields_at, begin_at, begun_at, branch_commit_at, branch_committed_at, branch_rollback_at, branch_rollbacked_at, global_commit_at, commit_status_at, global_rollback_at, rollback_status_at, register_at, register_answer_at, global_status_at, status_answer_at, lock_query_at, lock_answer_at, call_at, call_answer_at};
 
-use crate::parts;
+use crate::codes::*;
+use crate::{parts, works};
 use byte_fields::{FieldError, Fields};
 use seata_types::Message;
 use std::alloc::Global;
@@ -163,6 +164,64 @@ fn register_answer(alloc: Global, fields: &mut Fields) -> Result<Message, FieldE
     })
 }
 
+#[tactic(auto, unfolding(crate::specs::Messages::global_status_at))]
+fn global_status(fields: &mut Fields) -> Result<Message, FieldError>
+    ensures { Reads global_status_at fields.old fields.new result }
+{
+    let xid = parts::xid(fields)?;
+    Ok(Message::GlobalStatus { xid })
+}
+
+#[tactic(auto, unfolding(crate::specs::Messages::status_answer_at))]
+fn status_answer(fields: &mut Fields) -> Result<Message, FieldError>
+    ensures { Reads status_answer_at fields.old fields.new result }
+{
+    let xid = parts::xid(fields)?;
+    let status = parts::status(fields)?;
+    Ok(Message::StatusAnswer { xid, status })
+}
+
+#[tactic(auto, unfolding(crate::specs::Messages::lock_query_at))]
+fn lock_query(alloc: Global, fields: &mut Fields) -> Result<Message, FieldError>
+    ensures { Reads lock_query_at fields.old fields.new result }
+{
+    let resource = fields.take_u16()?;
+    let ticket = fields.take_ticket()?;
+    let check = fields.take_keys(alloc)?;
+    Ok(Message::LockQuery {
+        resource,
+        ticket,
+        check,
+    })
+}
+
+#[tactic(auto, unfolding(crate::specs::Messages::lock_answer_at))]
+fn lock_answer(alloc: Global, fields: &mut Fields) -> Result<Message, FieldError>
+    ensures { Reads lock_answer_at fields.old fields.new result }
+{
+    let ticket = fields.take_ticket()?;
+    let held = parts::held(alloc, fields)?;
+    Ok(Message::LockAnswer { ticket, held })
+}
+
+#[tactic(auto, unfolding(crate::specs::Messages::call_at))]
+fn call(alloc: Global, fields: &mut Fields) -> Result<Message, FieldError>
+    ensures { Reads call_at fields.old fields.new result }
+{
+    let xid = parts::xid(fields)?;
+    let manager = fields.take_u16()?;
+    let resource = fields.take_u16()?;
+    let call = fields.take_u16()?;
+    let work = works::work(alloc, fields)?;
+    Ok(Message::Call {
+        xid,
+        manager,
+        resource,
+        call,
+        work,
+    })
+}
+
 #[tactic(auto, unfolding(crate::specs::Messages::call_answer_at))]
 fn call_answer(alloc: Global, fields: &mut Fields) -> Result<Message, FieldError>
     ensures { Reads call_answer_at fields.old fields.new result }
@@ -178,7 +237,16 @@ fn call_answer(alloc: Global, fields: &mut Fields) -> Result<Message, FieldError
 pub(crate) fn is_known(code: u16) -> bool
     ensures { result ≡ is_known code }
 {
-    matches!(code, 1..=12 | 202)
+    matches!(
+        code,
+        BEGIN..=REGISTER_ANSWER
+            | GLOBAL_STATUS
+            | STATUS_ANSWER
+            | LOCK_QUERY
+            | LOCK_ANSWER
+            | CALL
+            | ANSWER
+    )
 }
 
 /// The kind of a message with this type code: 0 asks, 1 answers.
@@ -194,19 +262,24 @@ pub(crate) fn message(alloc: Global, code: u16, fields: &mut Fields) -> Result<M
     ensures { Reads (fields_at code) fields.old fields.new result }
 {
     match code {
-        1 => begin(fields),
-        2 => begun(fields),
-        3 => branch_commit(fields),
-        4 => branch_committed(fields),
-        5 => branch_rollback(fields),
-        6 => branch_rollbacked(fields),
-        7 => global_commit(fields),
-        8 => commit_status(fields),
-        9 => global_rollback(fields),
-        10 => rollback_status(fields),
-        11 => register(alloc, fields),
-        12 => register_answer(alloc, fields),
-        202 => call_answer(alloc, fields),
+        BEGIN => begin(fields),
+        BEGUN => begun(fields),
+        BRANCH_COMMIT => branch_commit(fields),
+        BRANCH_COMMITTED => branch_committed(fields),
+        BRANCH_ROLLBACK => branch_rollback(fields),
+        BRANCH_ROLLBACKED => branch_rollbacked(fields),
+        GLOBAL_COMMIT => global_commit(fields),
+        COMMIT_STATUS => commit_status(fields),
+        GLOBAL_ROLLBACK => global_rollback(fields),
+        ROLLBACK_STATUS => rollback_status(fields),
+        REGISTER => register(alloc, fields),
+        REGISTER_ANSWER => register_answer(alloc, fields),
+        GLOBAL_STATUS => global_status(fields),
+        STATUS_ANSWER => status_answer(fields),
+        LOCK_QUERY => lock_query(alloc, fields),
+        LOCK_ANSWER => lock_answer(alloc, fields),
+        CALL => call(alloc, fields),
+        ANSWER => call_answer(alloc, fields),
         _ => Err(FieldError::BadTag { at: fields.at() }),
     }
 }

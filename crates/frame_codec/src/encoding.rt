@@ -3,17 +3,19 @@ ghost use Rattle.std.specs.Prelude.{◌≡◌, ◌≤◌, ◌<◌, ◌^◌, ◌�
 ghost use Rattle.std.specs.Int.{w16, w64, to_be_bytes};
 ghost use Rattle.seata_types.specs.Statuses.{code_of, branch_code_of};
 ghost use Rattle.byte_fields.specs.Layout.{FitsKeys, FitsTicket, keys_bytes, ticket_bytes};
-ghost use Rattle.frame_codec.specs.Parts.{FitsRegistered, FitsAnswer, kind_code, xid_bytes, branch_bytes, registered_bytes, answer_bytes};
+ghost use Rattle.frame_codec.specs.Parts.{FitsRegistered, FitsHeld, FitsAnswer, kind_code, xid_bytes, branch_bytes, registered_bytes, held_bytes, answer_bytes};
+ghost use Rattle.frame_codec.specs.Works.{FitsWork, work_bytes};
 ghost use Rattle.frame_codec.specs.Messages.{FitsMessage, type_code, joined, fields_bytes};
 ghost use Rattle.frame_codec.specs.Heads.{head_bytes};
 ghost use Rattle.frame_codec.specs.Frames.{HasFrame, body_bytes, frame_bytes};
 
+use crate::codes::*;
 use crate::head::{CODEC, HEAD_BYTES, Head, MAGIC, VERSION};
-use crate::{bodies, putting};
+use crate::{bodies, putting, works};
 use byte_fields::{put_keys, put_ticket, put_u8, put_u16, put_u32, put_u64};
 use seata_types::{
     BranchId, BranchKind, BranchStatus, CallAnswer, GlobalStatus, Message, NoMemory, Registered,
-    Ticket, Xid,
+    RowKey, Ticket, Work, Xid,
 };
 use std::alloc::Global;
 
@@ -21,20 +23,24 @@ fn type_code(message: &Message) -> u16
     ensures { result ≡ type_code message.now }
 {
     match message {
-        Message::Begin { .. } => 1,
-        Message::Begun { .. } => 2,
-        Message::BranchCommit { .. } => 3,
-        Message::BranchCommitted { .. } => 4,
-        Message::BranchRollback { .. } => 5,
-        Message::BranchRollbacked { .. } => 6,
-        Message::GlobalCommit { .. } => 7,
-        Message::CommitStatus { .. } => 8,
-        Message::GlobalRollback { .. } => 9,
-        Message::RollbackStatus { .. } => 10,
-        Message::Register { .. } => 11,
-        Message::RegisterAnswer { .. } => 12,
-        Message::Call { .. } => 201,
-        Message::Answer { .. } => 202,
+        Message::Begin { .. } => BEGIN,
+        Message::Begun { .. } => BEGUN,
+        Message::BranchCommit { .. } => BRANCH_COMMIT,
+        Message::BranchCommitted { .. } => BRANCH_COMMITTED,
+        Message::BranchRollback { .. } => BRANCH_ROLLBACK,
+        Message::BranchRollbacked { .. } => BRANCH_ROLLBACKED,
+        Message::GlobalCommit { .. } => GLOBAL_COMMIT,
+        Message::CommitStatus { .. } => COMMIT_STATUS,
+        Message::GlobalRollback { .. } => GLOBAL_ROLLBACK,
+        Message::RollbackStatus { .. } => ROLLBACK_STATUS,
+        Message::Register { .. } => REGISTER,
+        Message::RegisterAnswer { .. } => REGISTER_ANSWER,
+        Message::GlobalStatus { .. } => GLOBAL_STATUS,
+        Message::StatusAnswer { .. } => STATUS_ANSWER,
+        Message::LockQuery { .. } => LOCK_QUERY,
+        Message::LockAnswer { .. } => LOCK_ANSWER,
+        Message::Call { .. } => CALL,
+        Message::Answer { .. } => ANSWER,
     }
 }
 
@@ -133,8 +139,66 @@ fn put_answered(out: &mut Vec<u8>, xid: Xid, call: u16, answer: &CallAnswer) -> 
     Ok(())
 }
 
+fn put_query(
+    out: &mut Vec<u8>,
+    resource: u16,
+    ticket: Ticket,
+    check: &[RowKey],
+) -> Result<(), NoMemory>
+    requires { FitsKeys check.now }
+    ensures { OnOk result (out.new.items ≡ out.old.items ++ joined (
+        to_be_bytes w16 resource ∷ ticket_bytes ticket ∷ keys_bytes check.now ∷ [])) }
+{
+    put_u16(out, resource)?;
+    put_ticket(out, ticket)?;
+    put_keys(out, check)
+}
+
+fn put_lock(out: &mut Vec<u8>, ticket: Ticket, held: &Option<(RowKey, Xid)>) -> Result<(), NoMemory>
+    requires { FitsHeld held.now }
+    ensures { OnOk result (out.new.items ≡ out.old.items ++ joined (ticket_bytes ticket ∷ held_bytes held.now ∷ [])) }
+{
+    put_ticket(out, ticket)?;
+    putting::put_held(out, held)
+}
+
+// Where a call goes and which it is.
+fn put_aim(
+    out: &mut Vec<u8>,
+    xid: Xid,
+    manager: u16,
+    resource: u16,
+    call: u16,
+) -> Result<(), NoMemory>
+    ensures { OnOk result (out.new.items ≡ out.old.items ++ joined (
+        xid_bytes xid ∷ to_be_bytes w16 manager ∷ to_be_bytes w16 resource ∷ to_be_bytes w16 call ∷ [])) }
+{
+    put_u64(out, xid.0)?;
+    put_u16(out, manager)?;
+    put_u16(out, resource)?;
+    put_u16(out, call)
+}
+
+fn put_call(
+    alloc: Global,
+    out: &mut Vec<u8>,
+    xid: Xid,
+    manager: u16,
+    resource: u16,
+    call: u16,
+    work: &Work,
+) -> Result<(), NoMemory>
+    requires { FitsWork work.now }
+    ensures { OnOk result (out.new.items ≡ out.old.items ++ joined (
+        xid_bytes xid ∷ to_be_bytes w16 manager ∷ to_be_bytes w16 resource ∷ to_be_bytes w16 call ∷ work_bytes work.now ∷ [])) }
+{
+    put_aim(out, xid, manager, resource, call)?;
+    works::put_work(alloc, out, work)?;
+    Ok(())
+}
+
 #[tactic(auto, unfolding(crate::specs::Messages::fields_bytes))]
-fn put_fields(out: &mut Vec<u8>, message: &Message) -> Result<(), NoMemory>
+fn put_fields(alloc: Global, out: &mut Vec<u8>, message: &Message) -> Result<(), NoMemory>
     requires { FitsMessage message.now }
     ensures { OnOk result (out.new.items ≡ out.old.items ++ fields_bytes message.now) }
 {
@@ -143,8 +207,10 @@ fn put_fields(out: &mut Vec<u8>, message: &Message) -> Result<(), NoMemory>
             put_u16(out, *manager)?;
             put_u64(out, *timeout)
         }
-        Message::Begun { xid } | Message::GlobalCommit { xid } | Message::GlobalRollback { xid } =>
-            put_u64(out, xid.0),
+        Message::Begun { xid }
+        | Message::GlobalCommit { xid }
+        | Message::GlobalRollback { xid }
+        | Message::GlobalStatus { xid } => put_u64(out, xid.0),
         Message::BranchCommit {
             xid,
             branch,
@@ -173,6 +239,7 @@ fn put_fields(out: &mut Vec<u8>, message: &Message) -> Result<(), NoMemory>
         } => put_ended(out, *xid, *branch, *status, *stmt),
         Message::CommitStatus { xid, status } => put_status(out, *xid, *status),
         Message::RollbackStatus { xid, status } => put_status(out, *xid, *status),
+        Message::StatusAnswer { xid, status } => put_status(out, *xid, *status),
         Message::Register {
             xid,
             resource,
@@ -191,17 +258,29 @@ fn put_fields(out: &mut Vec<u8>, message: &Message) -> Result<(), NoMemory>
             xid,
             answer,
         } => put_registered(out, *ticket, *xid, answer),
-        Message::Call { .. } => Ok(()),
+        Message::LockQuery {
+            resource,
+            ticket,
+            check,
+        } => put_query(out, *resource, *ticket, check.as_slice()),
+        Message::LockAnswer { ticket, held } => put_lock(out, *ticket, held),
+        Message::Call {
+            xid,
+            manager,
+            resource,
+            call,
+            work,
+        } => put_call(alloc, out, *xid, *manager, *resource, *call, work),
         Message::Answer { xid, call, answer } => put_answered(out, *xid, *call, answer),
     }
 }
 
-fn put_body(out: &mut Vec<u8>, message: &Message) -> Result<(), NoMemory>
+fn put_body(alloc: Global, out: &mut Vec<u8>, message: &Message) -> Result<(), NoMemory>
     requires { FitsMessage message.now }
     ensures { OnOk result (out.new.items ≡ out.old.items ++ body_bytes message.now) }
 {
     put_u16(out, type_code(message))?;
-    put_fields(out, message)
+    put_fields(alloc, out, message)
 }
 
 #[tactic(auto, unfolding(crate::specs::Heads::head_bytes))]
@@ -226,7 +305,7 @@ pub(crate) fn frame(alloc: Global, message: &Message, stamp: u32) -> Result<Vec<
     ensures { IfOk result (λ bytes. bytes.items ≡ frame_bytes message.now stamp) }
 {
     let mut body = Vec::new(alloc);
-    put_body(&mut body, message)?;
+    put_body(alloc, &mut body, message)?;
     let head = Head {
         magic: MAGIC,
         version: VERSION,

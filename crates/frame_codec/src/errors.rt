@@ -7,7 +7,7 @@ pub enum FrameError {
     Short { need: usize },
     /// The first two bytes aren't `da da`.
     Magic,
-    /// The version isn't 1.
+    /// The version isn't 2.
     Version,
     /// The head's length isn't 16, or the frame's is below 18 or above 1,048,592.
     Length,

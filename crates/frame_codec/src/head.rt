@@ -6,7 +6,7 @@ pub const HEAD_BYTES: usize = 16;
 /// The first two bytes of a frame.
 pub(crate) const MAGIC: u16 = 0xdada;
 /// The one version.
-pub(crate) const VERSION: u8 = 1;
+pub(crate) const VERSION: u8 = 2;
 /// The one codec.
 pub(crate) const CODEC: u8 = 1;
 /// Where the kind stands in the head.

@@ -4,18 +4,24 @@
 #![tactic(auto)]
 
 mod bodies;
+mod codes;
 mod decoding;
 mod encoding;
 mod errors;
+mod feed;
+mod framed;
 mod head;
+mod laws;
 mod packet;
 mod parts;
 mod putting;
+mod scanning;
+mod works;
 
 pub use decoding::decode;
 pub use errors::FrameError;
+pub use feed::FrameFeed;
+pub use framed::{FeedError, Framed};
 pub use head::HEAD_BYTES;
+pub use laws::{frames_of_pieces_join, statements_are_their_canonical_texts};
 pub use packet::{Packet, encode};
-
-#[cfg(test)]
-mod tests;

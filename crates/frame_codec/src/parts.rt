@@ -1,11 +1,12 @@
 //! The parts of messages, taken from fields.
 ghost use Rattle.std.specs.Prelude.{◌≡◌};
 ghost use Rattle.frame_codec.specs.Taking.{Reads};
-ghost use Rattle.frame_codec.specs.Parts.{xid_at, branch_at, kind_at, truth_at, status_at, branch_status_at, registered_at, conflict_at, stmt_error_at, why_at, why_stmt_at, answer_at, busy_at};
+ghost use Rattle.frame_codec.specs.Parts.{xid_at, branch_at, kind_at, truth_at, status_at, branch_status_at, registered_at, conflict_at, held_at, held_key_at, stmt_error_at, why_at, why_stmt_at, answer_at, busy_at};
 
 use byte_fields::{FieldError, Fields};
 use seata_types::{
-    BranchId, BranchKind, BranchStatus, CallAnswer, GlobalStatus, Registered, StmtError, Why, Xid,
+    BranchId, BranchKind, BranchStatus, CallAnswer, GlobalStatus, Registered, RowKey, StmtError,
+    Why, Xid,
 };
 use std::alloc::Global;
 
@@ -103,6 +104,27 @@ pub(crate) fn registered(alloc: Global, fields: &mut Fields) -> Result<Registere
             Ok(Registered::Closed { status })
         }
         3 => Ok(Registered::Late),
+        _ => Err(FieldError::BadTag { at: place }),
+    }
+}
+
+#[tactic(auto, unfolding(crate::specs::Parts::held_key_at))]
+fn held_key(alloc: Global, fields: &mut Fields) -> Result<Option<(RowKey, Xid)>, FieldError>
+    ensures { Reads held_key_at fields.old fields.new result }
+{
+    let key = fields.take_key(alloc)?;
+    let holder = xid(fields)?;
+    Ok(Some((key, holder)))
+}
+
+#[tactic(auto, unfolding(crate::specs::Parts::held_at, crate::specs::Tags::tagged))]
+pub(crate) fn held(alloc: Global, fields: &mut Fields) -> Result<Option<(RowKey, Xid)>, FieldError>
+    ensures { Reads held_at fields.old fields.new result }
+{
+    let place = fields.at();
+    match fields.take_u8()? {
+        0 => Ok(None),
+        1 => held_key(alloc, fields),
         _ => Err(FieldError::BadTag { at: place }),
     }
 }

@@ -3,7 +3,7 @@ ghost use Rattle.std.specs.Prelude.{◌≡◌, ◌<◌, ◌^◌, ◌∷◌, ◌+
 ghost use Rattle.std.specs.Int.{w16, w64, to_be_bytes};
 ghost use Rattle.seata_types.specs.Statuses.{code_of, branch_code_of};
 ghost use Rattle.byte_fields.specs.Layout.{FitsKeys, keys_bytes, ticket_bytes};
-ghost use Rattle.frame_codec.specs.Parts.{FitsRegistered, FitsStmtError, FitsWhy, FitsAnswer, kind_code, xid_bytes, branch_bytes, registered_bytes, stmt_error_bytes, why_bytes, answer_bytes};
+ghost use Rattle.frame_codec.specs.Parts.{FitsRegistered, FitsHeld, FitsStmtError, FitsWhy, FitsAnswer, kind_code, xid_bytes, branch_bytes, registered_bytes, held_bytes, stmt_error_bytes, why_bytes, answer_bytes};
 ghost use Rattle.frame_codec.specs.Messages.{FitsMessage, type_code, joined, fields_bytes};
 ghost use Rattle.frame_codec.specs.Frames.{body_bytes};
 
@@ -47,6 +47,20 @@ pub(crate) fn put_registered(out: &mut Vec<u8>, answer: &Registered) -> Result<(
             put_u8(out, status.code())
         }
         Registered::Late => put_u8(out, 3),
+    }
+}
+
+pub(crate) fn put_held(out: &mut Vec<u8>, held: &Option<(RowKey, Xid)>) -> Result<(), NoMemory>
+    requires { FitsHeld held.now }
+    ensures { OnOk result (out.new.items ≡ out.old.items ++ held_bytes held.now) }
+{
+    match held {
+        None => put_u8(out, 0),
+        Some((key, holder)) => {
+            put_u8(out, 1)?;
+            put_key(out, key)?;
+            put_u64(out, holder.0)
+        }
     }
 }
 

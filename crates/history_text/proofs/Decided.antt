@@ -62,6 +62,8 @@ module _ (os : List Own) where
   pub coordinator_does : (retry : ℕ) (given : Input) (now : ℕ) → Does os (standing (coordinator_answer retry os given now).act)
   coordinator_does retry input.Turn now = turn_does retry now (least (is_late os now) (begun os)) refl
   coordinator_does retry (input.Message from heard) now = heard_does now from heard
+  coordinator_does retry (input.Local number) now = Nothing
+  coordinator_does retry (input.Outside number) now = Nothing
 
 -- ---- a step keeps
 

@@ -49,3 +49,12 @@ pub written_on : (done start before rest text whole : List ℕ) → done ++ quot
     → start ≡ done ++ (before ++ 39 ∷ 39 ∷ []) → start ++ quoted rest ≡ whole
 written_on done start before rest text whole so_far split none wrote =
     rw (wrote, append_assoc, append_assoc) (ap (λ r. done ++ r) (sym (ap quoted split ∙ quoted_split before rest none)) ∙ so_far)
+
+-- a word and a number, and then another text, at the end
+pub two_more : (out first number more one two : List ℕ) → one ≡ out ++ (first ++ number) → two ≡ one ++ more → two ≡ out ++ (first ++ (number ++ more))
+two_more out first number more one two is_one is_two =
+    is_two ∙ ap (λ l. l ++ more) is_one ∙ append_assoc out (first ++ number) more ∙ ap (λ l. out ++ l) (append_assoc first number more)
+
+pub three_more : (out first number space more one two three : List ℕ) → one ≡ out ++ (first ++ number) → two ≡ one ++ space → three ≡ two ++ more → three ≡ out ++ (first ++ (number ++ (space ++ more)))
+three_more out first number space more one two three is_one is_two is_three =
+    is_three ∙ ap (λ l. l ++ more) is_two ∙ append_assoc one space more ∙ two_more out first number (space ++ more) one (one ++ (space ++ more)) is_one refl

@@ -217,6 +217,10 @@ rollback_answer now_status xid from =
     if is_begin now_status then sends (act.Durable (durable.Decided xid how.Rollback)) from (message.RollbackStatus xid status.Rollbacking)
     else sends (act.Told xid now_status) from (message.RollbackStatus xid now_status)
 
+-- a question for a status: it is told, as Finished where the transaction is unknown
+abbrev pub status_answer : GlobalStatus → Xid → Place → Step
+status_answer now_status xid from = sends (act.Told xid now_status) from (message.StatusAnswer xid now_status)
+
 -- a turn without a late transaction: the one that is due first is finished
 abbrev pub due_answer : List Own → Option (ℕ × ℕ) → Step
 due_answer os None = still act.Nothing
@@ -232,9 +236,12 @@ abbrev pub heard_answer : List Own → ℕ → Place → Message → Step
 heard_answer os now from (message.Begin manager timeout) = begin_answer (transaction_of os manager) (begun os + 1) manager
 heard_answer os now from (message.GlobalCommit xid) = commit_answer (status_of os xid.0) (is_late os now xid.0) xid from
 heard_answer os now from (message.GlobalRollback xid) = rollback_answer (status_of os xid.0) xid from
+heard_answer os now from (message.GlobalStatus xid) = status_answer (status_of os xid.0) xid from
 heard_answer os now from _ = still act.Ignored
 
 -- what the coordinator does with an input, by the entries before it
 abbrev pub coordinator_answer : ℕ → List Own → Input → ℕ → Step
 coordinator_answer retry os input.Turn now = turn_answer retry os now (least (is_late os now) (begun os))
 coordinator_answer retry os (input.Message from heard) now = heard_answer os now from heard
+coordinator_answer retry os (input.Local number) now = still act.Ignored
+coordinator_answer retry os (input.Outside number) now = still act.Ignored

@@ -6,10 +6,10 @@ use Rattle.seata_types.specs.declared.messages.Outgoing.{Outgoing}
 use Rattle.seata_types.specs.declared.messages.Step.{Step}
 use Rattle.frame_codec.specs.Limits.{IsFramable}
 
--- a turn, or a message that can be framed
+-- a message that can be framed, or no message
 abbrev pub ComesFramable : Input → Type 0
-ComesFramable input.Turn = Unit {0}
 ComesFramable (input.Message from heard) = IsFramable heard
+ComesFramable _ = Unit {0}
 
 abbrev pub IsFramableTo : Outgoing → Type 0
 IsFramableTo out = IsFramable out.message

@@ -1,6 +1,6 @@
 -- Histories: which are legal, and which follow a schedule. A history is a list of moments, newest
 -- first: the entries with the messages that they took and sent.
-use Rattle.std.specs.Prelude.{◌≡◌, ◌+◌, ◌<◌, ◌≤◌, ℕ, zero, suc, ◌==◌, ◌&&◌, Bool, true, false, if◌then◌else◌, List, [], ◌∷◌, ◌++◌, length, slice_get, Option, Some, None, option_map}
+use Rattle.std.specs.Prelude.{◌≡◌, ◌⊎◌, ◌+◌, ◌<◌, ◌≤◌, ℕ, zero, suc, ◌==◌, ◌&&◌, Bool, true, false, if◌then◌else◌, List, [], ◌∷◌, ◌++◌, length, slice_get, Option, Some, None, option_map}
 use Rattle.seata_types.specs.declared.acts.Act.TheVariants as act
 use Rattle.seata_types.specs.declared.ids.Place.{Place}
 use Rattle.seata_types.specs.declared.ids.Place.TheVariants as place
@@ -99,6 +99,8 @@ delivered from to (Some out) = if same_place out.to to then Some (Given (input.M
 abbrev pub brings : List Moment → Place → Cause → Option Event
 brings ms to cause.Turn = Some (Given input.Turn)
 brings ms to (cause.Deliver stamp from) = delivered from to (sent_from from stamp ms)
+brings ms to (cause.Local number) = Some (Given (input.Local number))
+brings ms to (cause.Outside number) = Some (Given (input.Outside number))
 brings ms to _ = None
 
 -- a cause that comes to the network and to no node: a wait, or the delivery of a message that isn't
@@ -110,11 +112,32 @@ ComesToNone ms _ _ = ⊥
 
 -- ---- legal
 
--- the stamp of the newest moment, and the clock there; 0 where there is none
-abbrev pub last_stamp : List Moment → ℕ
-last_stamp [] = 0
-last_stamp (m ∷ ms) = m.stamp
+-- the order of places: the network, the coordinator, the resources, the managers, each by number
+abbrev pub place_rank : Place → ℕ × ℕ
+place_rank place.Net = (0, 0)
+place_rank place.Tc = (1, 0)
+place_rank (place.Res n) = (2, n)
+place_rank (place.Man n) = (3, n)
 
+-- one pair of numbers stands before another
+abbrev pub Before : ℕ × ℕ → ℕ × ℕ → Type 0
+Before a b = (a.0 < b.0) ⊎ ((a.0 ≡ b.0) × (a.1 < b.1))
+
+-- one moment stands before another: its stamp is less, or is the same and its place stands before
+abbrev pub IsEarlier : Moment → Moment → Type 0
+IsEarlier a b = (a.stamp < b.stamp) ⊎ ((a.stamp ≡ b.stamp) × Before (place_rank a.place) (place_rank b.place))
+
+-- a moment stands after the newest one, where there is one
+abbrev pub Rises : List Moment → Moment → Type 0
+Rises [] m = Unit {0}
+Rises (last ∷ ms) m = IsEarlier last m
+
+-- a delivery's stamp is above its message's
+abbrev pub IsAbove : Cause → ℕ → Type 0
+IsAbove (cause.Deliver sent from) stamp = sent < stamp
+IsAbove _ stamp = Unit {0}
+
+-- the clock of the newest moment; 0 where there is none
 abbrev pub clock : List Moment → ℕ
 clock [] = 0
 clock (m ∷ ms) = m.now
@@ -132,10 +155,12 @@ abbrev pub IsDone : Scenario → List Moment → Moment → Option Event → Typ
 IsDone s ms m (Some event) = IsAnswer (role_at s m.place) (own m.place ms) event m.now m.step
 IsDone s ms m None = ComesToNone ms m.place m.cause × (m.step ≡ still act.Nothing)
 
--- a moment may come after these: its stamp is greater, the coordinator's clock doesn't fall, its
--- cause brings the event, and what was done is the answer
+-- a moment may come after these: it stands after the newest, a message that it takes was sent at a
+-- lesser stamp, the coordinator's clock doesn't fall, its cause brings the event, and what was done
+-- is the answer
 pub record Stands (s : Scenario) (ms : List Moment) (m : Moment) : Type 0 where
-  pub rises : last_stamp ms < m.stamp
+  pub rises : Rises ms m
+  pub above : IsAbove m.cause m.stamp
   pub clock_rises : m.place ≡ place.Tc → owned_clock (own place.Tc ms) ≤ m.now
   pub brought : m.event ≡ brings ms m.place m.cause
   pub done : IsDone s ms m m.event
@@ -147,13 +172,20 @@ Legal s (m ∷ ms) = Legal s ms × Stands s ms m
 
 -- ---- follows
 
--- the cause that a step of the schedule names, and its place where it names one
+-- the cause that a step of the schedule names, and its place where it names one; local transactions, writes from
+-- outside and automatic steps name no cause yet
 abbrev pub IsNamed : ScheduleItem → Place → Cause → Type 0
 IsNamed (item.Turn place) at found = (at ≡ place) × (found ≡ cause.Turn)
 IsNamed (item.Deliver stamp) at (cause.Deliver taken from) = taken ≡ stamp
 IsNamed (item.Deliver stamp) at (cause.Missing taken) = taken ≡ stamp
 IsNamed (item.Deliver stamp) at found = ⊥
 IsNamed (item.Wait ticks) at found = (at ≡ place.Net) × (found ≡ cause.Wait ticks)
+IsNamed (item.Stop place calls) at found = (at ≡ place) × (found ≡ cause.Stop calls)
+IsNamed (item.Crash place) at found = (at ≡ place) × (found ≡ cause.Crash)
+IsNamed (item.Restart place pick calls) at found = (at ≡ place) × (found ≡ cause.Restart pick calls)
+IsNamed (item.Local number) at found = ⊥
+IsNamed (item.Outside number) at found = ⊥
+IsNamed (item.Auto steps) at found = ⊥
 
 -- how long a step of the schedule takes
 abbrev pub ticks_of : ScheduleItem → ℕ

@@ -1,8 +1,7 @@
 -- The printed line of an entry, part by part.
 use Rattle.std.specs.Prelude.{ℕ, zero, suc, ◌==◌, Bool, true, false, if◌then◌else◌, List, [], ◌∷◌, ◌++◌, Option, Some, None, slice_get, codes}
 use Rattle.std.specs.Fmt.{decimal, signed_decimal}
-use Rattle.std.specs.Cmp.Lexicographic.{pointwise}
-use Rattle.std.specs.Prelude.{nat_eq}
+use Rattle.seata_types.specs.Orders.{same_text}
 use Rattle.seata_types.specs.declared.acts.Act.{Act}
 use Rattle.seata_types.specs.declared.acts.Act.TheVariants as act
 use Rattle.seata_types.specs.declared.acts.Durable.{Durable}
@@ -83,31 +82,37 @@ abbrev pub literal_text : Value → List ℕ
 literal_text (value.Int number) = signed_decimal number
 literal_text (value.Text text) = codes "'" ++ (quoted text ++ codes "'")
 
+-- values, with a text between two
+abbrev pub more_values_text : List ℕ → List Value → List ℕ
+more_values_text between [] = []
+more_values_text between (v ∷ vs) = (between ++ literal_text v) ++ more_values_text between vs
+
+abbrev pub values_text : List ℕ → List Value → List ℕ
+values_text between [] = []
+values_text between (v ∷ vs) = literal_text v ++ more_values_text between vs
+
+-- the parts of a primary key, as `1_2`
+abbrev pub parts_text : List Value → List ℕ
+parts_text pk = values_text (codes "_") pk
+
+-- a key, as `A.seat:1_2`
 abbrev pub key_text : Names → RowKey → List ℕ
-key_text names key = name_text (codes "r") names.resources key.resource ++ (codes "." ++ (key.table ++ (codes ":" ++ literal_text key.pk)))
+key_text names key = name_text (codes "r") names.resources key.resource ++ (codes "." ++ (key.table ++ (codes ":" ++ parts_text key.pk)))
 
 -- the keys of locks: each table once with its primary keys, as `acc:1,2;stock:1`
 abbrev pub more_keys_text : List ℕ → List RowKey → List ℕ
 more_keys_text table [] = []
 more_keys_text table (key ∷ keys) =
-    (if pointwise nat_eq table key.table then codes "," ++ literal_text key.pk else codes ";" ++ (key.table ++ (codes ":" ++ literal_text key.pk))) ++
+    (if same_text table key.table then codes "," ++ parts_text key.pk else codes ";" ++ (key.table ++ (codes ":" ++ parts_text key.pk))) ++
     more_keys_text key.table keys
 
 abbrev pub keys_text : List RowKey → List ℕ
 keys_text [] = codes "-"
-keys_text (key ∷ keys) = (key.table ++ (codes ":" ++ literal_text key.pk)) ++ more_keys_text key.table keys
-
-abbrev pub more_values_text : List Value → List ℕ
-more_values_text [] = []
-more_values_text (v ∷ vs) = (codes ", " ++ literal_text v) ++ more_values_text vs
-
-abbrev pub values_text : List Value → List ℕ
-values_text [] = []
-values_text (v ∷ vs) = literal_text v ++ more_values_text vs
+keys_text (key ∷ keys) = (key.table ++ (codes ":" ++ parts_text key.pk)) ++ more_keys_text key.table keys
 
 -- a row, as `(1, 900)`
 abbrev pub row_text : Row → List ℕ
-row_text row = codes "(" ++ (values_text row.0 ++ codes ")")
+row_text row = codes "(" ++ (values_text (codes ", ") row.0 ++ codes ")")
 
 abbrev pub option_row_text : Option Row → List ℕ
 option_row_text None = codes "-"
@@ -150,6 +155,8 @@ cause_text names (cause.Wait ticks) = codes "wait " ++ decimal ticks
 cause_text names (cause.Stop calls) = codes "stop " ++ decimal calls
 cause_text names cause.Crash = codes "crash"
 cause_text names (cause.Restart pick calls) = codes "restart " ++ (decimal pick ++ calls_text calls)
+cause_text names (cause.Local number) = codes "local " ++ decimal number
+cause_text names (cause.Outside number) = codes "outside " ++ decimal number
 
 -- ---- acts
 
@@ -167,6 +174,7 @@ durable_text (durable.Ended xid branch) = codes "ended " ++ leg_text xid branch
 durable_text (durable.Retrying xid branch) = codes "retrying " ++ leg_text xid branch
 durable_text (durable.Failed xid branch stmt) = codes "failed " ++ (leg_text xid branch ++ (codes " stmt " ++ decimal stmt))
 durable_text (durable.Finished xid status) = codes "finished " ++ (xid_text xid ++ (codes " " ++ decimal (code_of status)))
+durable_text (durable.Forgot xid) = codes "forgot " ++ xid_text xid
 durable_text (durable.Committed xid branch ticket) = codes "committed " ++ (leg_text xid branch ++ (codes " " ++ ticket_text ticket))
 durable_text (durable.Tried xid branch ticket) = codes "tried " ++ (leg_text xid branch ++ (codes " " ++ ticket_text ticket))
 durable_text (durable.Cleared xid branch) = codes "cleared " ++ leg_text xid branch
@@ -175,6 +183,8 @@ durable_text (durable.Marked xid branch) = codes "marked " ++ leg_text xid branc
 durable_text (durable.Confirmed xid branch) = codes "confirmed " ++ leg_text xid branch
 durable_text (durable.Cancelled xid branch) = codes "cancelled " ++ leg_text xid branch
 durable_text (durable.Suspended xid branch) = codes "suspended " ++ leg_text xid branch
+durable_text (durable.LocalCommitted number ticket) = codes "local-committed " ++ (decimal number ++ (codes " " ++ ticket_text ticket))
+durable_text (durable.Outside number) = codes "outside " ++ decimal number
 durable_text durable.Boot = codes "boot"
 
 -- a durable act after a word, where there is one
@@ -189,6 +199,10 @@ holding_text false = codes "held"
 -- a locked row, its holder, and whether that rolls back
 abbrev pub held_text : Names → RowKey → Xid → Bool → List ℕ
 held_text names key holder rolling = key_text names key ++ (codes " " ++ (xid_text holder ++ (codes " " ++ holding_text rolling)))
+
+-- a locked row and its holder
+abbrev pub lock_text : Names → RowKey → Xid → List ℕ
+lock_text names key holder = key_text names key ++ (codes " " ++ xid_text holder)
 
 -- a row that is open in a local transaction, and its ticket
 abbrev pub opener_text : Names → RowKey → Ticket → List ℕ
@@ -212,6 +226,8 @@ act_text names (act.Closed xid status) = codes "closed " ++ (xid_text xid ++ (co
 act_text names (act.Told xid status) = codes "told " ++ (xid_text xid ++ (codes " " ++ decimal (code_of status)))
 act_text names (act.Asked xid branch) = codes "asked " ++ leg_text xid branch
 act_text names (act.Retry xid branch) = codes "retry " ++ leg_text xid branch
+act_text names (act.Held key holder) = codes "held " ++ lock_text names key holder
+act_text names act.Free = codes "free"
 act_text names (act.Opened xid call ticket) = codes "opened " ++ (call_text xid call ++ (codes " " ++ ticket_text ticket))
 act_text names (act.Waiting xid call) = codes "waiting " ++ call_text xid call
 act_text names (act.Again xid call branch) = codes "again " ++ (call_text xid call ++ (codes " " ++ branch_text branch))
@@ -232,12 +248,20 @@ act_text names (act.Already xid branch) = codes "already " ++ leg_text xid branc
 act_text names (act.Unfenced xid branch) = codes "unfenced " ++ leg_text xid branch
 act_text names (act.Unable xid branch index reason) =
     codes "unable " ++ (leg_text xid branch ++ (codes " stmt " ++ (decimal index ++ (codes " " ++ error_text names reason))))
+act_text names (act.WaitingLocal number) = codes "waiting-local " ++ decimal number
+act_text names (act.RefusedLocal number reason) = codes "refused-local " ++ (decimal number ++ (codes " " ++ why_text names reason))
+act_text names (act.BusyLocal number key by) = codes "busy-local " ++ (decimal number ++ (codes " " ++ opener_text names key by))
+act_text names (act.OpenedLocal number ticket) = codes "opened-local " ++ (decimal number ++ (codes " " ++ ticket_text ticket))
+act_text names (act.DroppedLocal number ticket key holder) =
+    codes "dropped-local " ++ (decimal number ++ (codes " " ++ (ticket_text ticket ++ (codes " " ++ lock_text names key holder))))
 act_text names act.Starts = codes "starts"
 act_text names act.Repeats = codes "repeats"
 act_text names act.GoesOn = codes "goes on"
 act_text names act.GivesUp = codes "gives up"
 act_text names (act.CallBusy count) = codes "busy " ++ decimal count
 act_text names (act.Closes status) = codes "closes " ++ decimal (code_of status)
+act_text names act.Polls = codes "polls"
+act_text names (act.Learns status) = codes "learns " ++ decimal (code_of status)
 act_text names act.Silent = codes "silent"
 act_text names act.Nothing = codes "none"
 act_text names act.Ignored = codes "ignored"
@@ -261,6 +285,12 @@ registered_text names ticket xid (registered.Closed status) =
     codes "closed " ++ (ticket_text ticket ++ (codes " " ++ (xid_text xid ++ (codes " " ++ decimal (code_of status)))))
 registered_text names ticket xid registered.Late = codes "late " ++ (ticket_text ticket ++ (codes " " ++ xid_text xid))
 
+-- the answer to a lock query
+abbrev pub lock_answer_text : Names → Ticket → Option (RowKey × Xid) → List ℕ
+lock_answer_text names ticket None = codes "lock-free " ++ ticket_text ticket
+lock_answer_text names ticket (Some (key, holder)) =
+    codes "lock-held " ++ (ticket_text ticket ++ (codes " " ++ lock_text names key holder))
+
 abbrev pub reply_text : Names → CallAnswer → List ℕ
 reply_text names (reply.Done branch) = codes "done " ++ branch_text branch
 reply_text names (reply.Busy key by) = codes "busy " ++ opener_text names key by
@@ -282,6 +312,10 @@ note_text names (note.RollbackStatus xid status) = codes "rollback-status " ++ (
 note_text names (note.Register xid call ticket kind hold check) =
     codes "register " ++ (call_text xid call ++ (codes " " ++ (ticket_text ticket ++ (codes " " ++ (kind_text kind ++ locks_text hold check)))))
 note_text names (note.RegisterAnswer ticket xid answer) = registered_text names ticket xid answer
+note_text names (note.GlobalStatus xid) = codes "status-ask " ++ xid_text xid
+note_text names (note.StatusAnswer xid status) = codes "status " ++ (xid_text xid ++ (codes " " ++ decimal (code_of status)))
+note_text names (note.LockQuery ticket check) = codes "lock-query " ++ (ticket_text ticket ++ (codes " check " ++ keys_text check))
+note_text names (note.LockAnswer ticket held) = lock_answer_text names ticket held
 note_text names (note.Call xid call) = codes "call " ++ call_text xid call
 note_text names (note.Answer xid call answer) = codes "answer " ++ (call_text xid call ++ (codes " " ++ reply_text names answer))
 

@@ -119,3 +119,5 @@ manager_hears m sent false awaited heard = hears m sent awaited heard
 abbrev pub manager_answer : Settings → List Own → Input → Step
 manager_answer m os input.Turn = manager_turn m (sent_count os) (is_closed os) (last_sent os)
 manager_answer m os (input.Message from heard) = manager_hears m (sent_count os) (is_closed os) (answer_to (last_sent os)) heard
+manager_answer m os (input.Local number) = still act.Ignored
+manager_answer m os (input.Outside number) = still act.Ignored

@@ -20,6 +20,10 @@ note_of_message (message.GlobalRollback xid) = note.GlobalRollback xid
 note_of_message (message.RollbackStatus xid status) = note.RollbackStatus xid status
 note_of_message (message.Register xid resource call ticket kind hold check) = note.Register xid call ticket kind hold check
 note_of_message (message.RegisterAnswer ticket xid answer) = note.RegisterAnswer ticket xid answer
+note_of_message (message.GlobalStatus xid) = note.GlobalStatus xid
+note_of_message (message.StatusAnswer xid status) = note.StatusAnswer xid status
+note_of_message (message.LockQuery resource ticket check) = note.LockQuery ticket check
+note_of_message (message.LockAnswer ticket held) = note.LockAnswer ticket held
 note_of_message (message.Call xid manager resource call work) = note.Call xid call
 note_of_message (message.Answer xid call answer) = note.Answer xid call answer
 

@@ -6,6 +6,7 @@ use Rattle.seata_types.specs.declared.ids.Place.TheVariants as place
 use Rattle.seata_types.specs.declared.statuses.GlobalStatus.{GlobalStatus}
 use Rattle.seata_types.specs.declared.statuses.GlobalStatus.TheVariants as status
 use Rattle.scenario_reader.specs.declared.scenarios.ManagerDef.{ManagerDef}
+use Rattle.scenario_reader.specs.declared.scenarios.ResourceDef.{ResourceDef}
 use Rattle.scenario_reader.specs.declared.scenarios.Scenario.{Scenario}
 use Rattle.history_text.specs.declared.entries.Entry.{Entry}
 use Rattle.history_text.specs.declared.entries.Names.{Names}
@@ -22,8 +23,11 @@ line text = text ++ 10 ∷ []
 abbrev pub manager_name : ManagerDef → List ℕ
 manager_name def = def.name
 
+abbrev pub resource_name : ResourceDef → List ℕ
+resource_name def = def.name
+
 abbrev pub names_of : Scenario → Names
-names_of s = record { resources = []; managers = map manager_name s.managers }
+names_of s = record { resources = map resource_name s.resources; managers = map manager_name s.managers }
 
 -- the lines of the entries
 abbrev pub entry_lines : Names → List Entry → List ℕ

@@ -1,5 +1,6 @@
 -- The one answer of every node, and what the trait `Node` promises.
-use Rattle.std.specs.Prelude.{◌≡◌, ◌≤◌, ◌+◌, ◌-◌, ◌^◌, ℕ, min, Bool, true, false, List, ◌∷◌, Some, None, Result, Ok, Err}
+use Rattle.std.specs.Prelude.{◌≡◌, ◌≤◌, ◌+◌, ◌-◌, ℕ, Bool, true, false, List, ◌∷◌, Some, None, Result, Ok, Err}
+use Rattle.disk_model.specs.Disk.{Rose}
 use Rattle.seata_types.specs.declared.acts.Act.TheVariants as act
 use Rattle.seata_types.specs.declared.acts.Durable.{Durable}
 use Rattle.seata_types.specs.declared.errors.Full.{Full}
@@ -31,10 +32,6 @@ answer (Manager settings) os given now = manager_answer settings os given
 -- the own entry of a step
 abbrev pub own_step : Input → ℕ → Step → Own
 own_step given now step = record { event = Given given; now = now; step = step }
-
--- a count of faults rose, or stands at its greatest value
-abbrev pub Rose : ℕ → ℕ → Type 0
-Rose before now = min (before + 1) (2 ^ 64 - 1) ≤ now
 
 -- ---- what a step of a node promises
 

@@ -2,7 +2,8 @@
 use crate::notes::Note;
 use seata_types::{Act, List, Place, Text};
 
-/// What brought an entry about. `Missing` is the delivery of a message that isn't there.
+/// What brought an entry about. `Missing` is the delivery of a message that isn't there; `Local` and
+/// `Outside` give a resource the scenario's local transaction of that number, counted from 1.
 #[derive(Clone, Copy)]
 pub enum Cause {
     Turn,
@@ -12,6 +13,8 @@ pub enum Cause {
     Stop { calls: u32 },
     Crash,
     Restart { pick: u16, calls: Option<u32> },
+    Local { number: u16 },
+    Outside { number: u16 },
 }
 
 /// A message that an entry sent, as its line shows it.

@@ -3,19 +3,23 @@
 //! the words of `specs/`.
 #![tactic(auto)]
 
+mod acts;
+mod causes;
+mod durables;
 pub mod entries;
 pub mod laws;
 pub mod lines;
+mod locks;
+mod messages;
 pub mod nodes;
 pub mod notes;
-pub mod parts;
+mod parts;
+mod reasons;
 pub mod steps;
-#[cfg(test)]
-mod tests;
+mod words;
 
 pub use entries::{Cause, Entry, Names, Sent};
-pub use lines::{put_entry, put_note, write_entry};
+pub use lines::{put_entry, put_note, put_place, write_entry};
 pub use nodes::Node;
 pub use notes::{Note, note_of};
-pub use parts::put_place;
 pub use steps::{sends, still};

@@ -6,10 +6,11 @@ use std::alloc::Global;
 /// that it stands for. A node just made stands for the empty list.
 pub trait Node {
     ghost use Rattle.std.specs.Prelude.{◌≡◌, ◌+◌, ◌^◌, ◌<◌, ◌≤◌, ℕ, Bool, false, List, IfOk, IfErr};
+    ghost use Rattle.disk_model.specs.Disk.{Rose};
     ghost use Rattle.seata_types.specs.declared.errors.Full.{Full};
     ghost use Rattle.history_text.specs.Own.{Own};
     ghost use Rattle.history_text.specs.Framing.{ComesFramable, SendsFramable};
-    ghost use Rattle.history_text.specs.Rules.{Role, place_of, Rose, TakesStep, AfterError, HasCause, steps_of, goes_down};
+    ghost use Rattle.history_text.specs.Rules.{Role, place_of, TakesStep, AfterError, HasCause, steps_of, goes_down};
 
     // what it is, with its settings
     ghost role: { Self → Role };

@@ -66,6 +66,21 @@ pub enum Note {
         xid: Xid,
         answer: Registered,
     },
+    GlobalStatus {
+        xid: Xid,
+    },
+    StatusAnswer {
+        xid: Xid,
+        status: GlobalStatus,
+    },
+    LockQuery {
+        ticket: Ticket,
+        check: List<RowKey>,
+    },
+    LockAnswer {
+        ticket: Ticket,
+        held: Option<(RowKey, Xid)>,
+    },
     Call {
         xid: Xid,
         call: u16,
@@ -157,6 +172,14 @@ pub fn note_of(message: Message) -> Note
                 answer,
             }
         }
+        Message::GlobalStatus { xid } => Note::GlobalStatus { xid },
+        Message::StatusAnswer { xid, status } => Note::StatusAnswer { xid, status },
+        Message::LockQuery {
+            resource: _,
+            ticket,
+            check,
+        } => { Note::LockQuery { ticket, check } }
+        Message::LockAnswer { ticket, held } => Note::LockAnswer { ticket, held },
         Message::Call {
             xid,
             manager: _,

@@ -4,11 +4,11 @@ ghost use Rattle.std.specs.Prelude.{◌≡◌, ◌++◌, codes, OnOk, string_byt
 ghost use Rattle.history_text.specs.Lines as lines;
 
 use crate::entries::Names;
-use seata_types::{Place, Row, RowKey, Text, Value};
+use seata_types::{List, Place, Row, RowKey, Text, Value};
 use std::alloc::AllocError;
 
 /// The n-th name, counted from 1; where there is none, a letter and the number.
-fn put_name(out: &mut String, letter: &str, names: &[Text], n: u16) -> Result<(), AllocError>
+fn add_name(out: &mut String, letter: &str, names: &[Text], n: u16) -> Result<(), AllocError>
     ensures { OnOk result (string_bytes out.new ≡ string_bytes out.old ++ lines.name_text letter.now names.now n) }
 {
     if n > 0
@@ -20,19 +20,19 @@ fn put_name(out: &mut String, letter: &str, names: &[Text], n: u16) -> Result<()
 }
 
 /// A place, by its node's name.
-pub fn put_place(out: &mut String, place: Place, names: &Names) -> Result<(), AllocError>
+pub(crate) fn add_place(out: &mut String, place: Place, names: &Names) -> Result<(), AllocError>
     ensures { OnOk result (string_bytes out.new ≡ string_bytes out.old ++ lines.place_text names.now place) }
 {
     match place {
         Place::Net => write!(out, "net"),
         Place::Tc => write!(out, "tc"),
-        Place::Res(n) => put_name(out, "r", names.resources.as_slice(), n),
-        Place::Man(n) => put_name(out, "m", names.managers.as_slice(), n),
+        Place::Res(n) => add_name(out, "r", names.resources.as_slice(), n),
+        Place::Man(n) => add_name(out, "m", names.managers.as_slice(), n),
     }
 }
 
 /// A text with each quote doubled.
-fn put_quoted(out: &mut String, text: &str) -> Result<(), AllocError>
+fn add_quoted(out: &mut String, text: &str) -> Result<(), AllocError>
     ensures { OnOk result (string_bytes out.new ≡ string_bytes out.old ++ lines.quoted text.now) }
 {
     let mut rest = text;
@@ -44,37 +44,58 @@ fn put_quoted(out: &mut String, text: &str) -> Result<(), AllocError>
 }
 
 /// A value as a statement's literal.
-fn put_literal(out: &mut String, value: &Value) -> Result<(), AllocError>
+fn add_literal(out: &mut String, value: &Value) -> Result<(), AllocError>
     ensures { OnOk result (string_bytes out.new ≡ string_bytes out.old ++ lines.literal_text value.now) }
 {
     match value {
         Value::Int(number) => write!(out, "{number}"),
         Value::Text(text) => {
             write!(out, "'")?;
-            put_quoted(out, text.as_str())?;
+            add_quoted(out, text.as_str())?;
             write!(out, "'")
         }
     }
 }
 
-/// A key, as `A.acc:1`.
-pub fn put_key(out: &mut String, key: &RowKey, names: &Names) -> Result<(), AllocError>
+/// Values, with a text between two.
+fn add_values(out: &mut String, between: &str, values: &[Value]) -> Result<(), AllocError>
+    ensures { OnOk result (string_bytes out.new ≡ string_bytes out.old ++ lines.values_text between.now values.now) }
+{
+    if let Some((first, rest)) = values.split_first() {
+        add_literal(out, first)?;
+        for value in rest {
+            write!(out, "{between}")?;
+            add_literal(out, value)?;
+        }
+    }
+    Ok(())
+}
+
+/// The parts of a primary key, as `1_2`.
+fn add_parts(out: &mut String, pk: &List<Value>) -> Result<(), AllocError>
+    ensures { OnOk result (string_bytes out.new ≡ string_bytes out.old ++ lines.parts_text pk.now) }
+{
+    add_values(out, "_", pk.as_slice())
+}
+
+/// A key, as `A.seat:1_2`.
+pub(crate) fn add_key(out: &mut String, key: &RowKey, names: &Names) -> Result<(), AllocError>
     ensures { OnOk result (string_bytes out.new ≡ string_bytes out.old ++ lines.key_text names.now key.now) }
 {
-    put_name(out, "r", names.resources.as_slice(), key.resource)?;
+    add_name(out, "r", names.resources.as_slice(), key.resource)?;
     write!(out, ".{}:", key.table.as_str())?;
-    put_literal(out, &key.pk)
+    add_parts(out, &key.pk)
 }
 
 /// The keys of locks, as `acc:1,2;stock:1`, or `-` for none.
-pub fn put_keys(out: &mut String, keys: &[RowKey]) -> Result<(), AllocError>
+pub(crate) fn add_keys(out: &mut String, keys: &[RowKey]) -> Result<(), AllocError>
     ensures { OnOk result (string_bytes out.new ≡ string_bytes out.old ++ lines.keys_text keys.now) }
 {
     let Some((first, rest)) = keys.split_first() else {
         return write!(out, "-");
     };
     write!(out, "{}:", first.table.as_str())?;
-    put_literal(out, &first.pk)?;
+    add_parts(out, &first.pk)?;
     let mut table = &first.table;
     for key in rest {
         if *table == key.table {
@@ -82,33 +103,27 @@ pub fn put_keys(out: &mut String, keys: &[RowKey]) -> Result<(), AllocError>
         } else {
             write!(out, ";{}:", key.table.as_str())?;
         }
-        put_literal(out, &key.pk)?;
+        add_parts(out, &key.pk)?;
         table = &key.table;
     }
     Ok(())
 }
 
 /// A row, as `(1, 900)`.
-pub fn put_row(out: &mut String, row: &Row) -> Result<(), AllocError>
+fn add_row(out: &mut String, row: &Row) -> Result<(), AllocError>
     ensures { OnOk result (string_bytes out.new ≡ string_bytes out.old ++ lines.row_text row.now) }
 {
     write!(out, "(")?;
-    if let Some((first, rest)) = row.0.as_slice().split_first() {
-        put_literal(out, first)?;
-        for value in rest {
-            write!(out, ", ")?;
-            put_literal(out, value)?;
-        }
-    }
+    add_values(out, ", ", row.0.as_slice())?;
     write!(out, ")")
 }
 
 /// A row, or `-` for none.
-pub fn put_option_row(out: &mut String, row: &Option<Row>) -> Result<(), AllocError>
+pub(crate) fn add_option_row(out: &mut String, row: &Option<Row>) -> Result<(), AllocError>
     ensures { OnOk result (string_bytes out.new ≡ string_bytes out.old ++ lines.option_row_text row.now) }
 {
     match row {
-        Some(row) => put_row(out, row),
+        Some(row) => add_row(out, row),
         None => write!(out, "-"),
     }
 }

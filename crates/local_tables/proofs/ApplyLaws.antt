@@ -1,5 +1,5 @@
 -- Images put on rows: in which order it is done, and what is restored where memory fails.
-use Rattle.std.proofs.Common.{◌≡◌, Bool, true, false, cond, List, [], ◌∷◌, map, Option, Some, None, IsSome, All, sym, refl, ap, ◌∙◌, subst}
+use Rattle.std.proofs.Common.{◌≡◌, Bool, true, false, cond, List, [], ◌∷◌, map, Option, Some, None, IsSome, All, sym, refl, ap, ◌∙◌, subst, ◌++◌, filter, Bor}
 use Rattle.std.specs.List.{IsDistinct, AllByRecursion}
 use Rattle.std.specs.List.Sorted.{IsStrictlySortedBy}
 use Rattle.std.specs.Map.{lookup, keys_of, set_value}
@@ -11,13 +11,13 @@ use Rattle.seata_types.specs.declared.rows.Row.{Row}
 use Rattle.seata_types.specs.declared.rows.RowKey.{RowKey}
 use Rattle.local_tables.specs.Lookups.{change_at, over}
 use Rattle.local_tables.specs.Rows.{Rows, Change, Database, IsImageOf, IsMap, applied, is_key, key_of, put, put_all, row_at, side}
-use Rattle.local_tables.specs.Sound.{IsSound, restored}
+use Rattle.local_tables.specs.Sound.{IsSound, restored, given_back, kept_at, puts, removes}
 use Rattle.local_tables.specs.declared.schemas.Way.{Way}
 use Rattle.local_tables.specs.declared.schemas.Way.TheVariants as way
 use Rattle.local_tables.proofs.KeyLaws.{is_key_laws, same_key}
 use Rattle.local_tables.proofs.MapLaws.{same_entries}
 use Rattle.local_tables.proofs.PutLaws.{map_put, map_put_all, row_at_put, row_at_put_all}
-use Rattle.local_tables.proofs.SideLaws.{keys-sides}
+use Rattle.local_tables.proofs.SideLaws.{distinct_sides}
 use Rattle.local_tables.proofs.SoundLaws.{sound_put}
 
 -- ---- a removal may come last
@@ -94,40 +94,83 @@ pub applied_inside : (v db : Database) (direction : Way) (images : List Image) (
 applied_inside v db direction images after e is =
     (λ i. record { resource = v.resource; schema = v.schema; rows = is i }) ∙ ap (applied direction images) e
 
--- ---- the first image and the rest
+-- ---- rows first, removals last
 
-pub rest_is_different : (images : List Image) (image : Image) (rest : List Image) → images ≡ image ∷ rest → IsDistinct is_key (map key_of images) → IsDistinct is_key (map key_of rest)
+without : (p : Change → Bool) (k : RowKey) (cs : List Change) → AllByRecursion (λ y. is_key k y ≡ false) (keys_of cs) → AllByRecursion (λ y. is_key k y ≡ false) (keys_of (filter p cs))
+without p k [] h = tt
+without p k (c ∷ cs) h = by (p c) (without p k cs h.1)
+  where
+    by : (b : Bool) → AllByRecursion (λ y. is_key k y ≡ false) (keys_of (filter p cs)) → AllByRecursion (λ y. is_key k y ≡ false) (keys_of (cond b (c ∷ filter p cs) (filter p cs)))
+    by true rest = (h.0, rest)
+    by false rest = rest
+
+distinct_filter : (p : Change → Bool) (cs : List Change) → IsDistinct is_key (keys_of cs) → IsDistinct is_key (keys_of (filter p cs))
 unfolding IsDistinct
-rest_is_different images image rest e d =
-    let d' : IsDistinct is_key (map key_of (image ∷ rest)) = subst (λ (l : List Image). IsDistinct is_key (map key_of l)) e d in
-    d'.1
+distinct_filter p [] d = tt
+distinct_filter p (c ∷ cs) d = by (p c) (distinct_filter p cs d.1)
+  where
+    by : (b : Bool) → IsDistinct is_key (keys_of (filter p cs)) → IsDistinct is_key (keys_of (cond b (c ∷ filter p cs) (filter p cs)))
+    by true rest = (without p c.0 cs d.0, rest)
+    by false rest = rest
 
-side_key : (direction : Way) (image : Image) → (side direction image).0 ≡ image.key
+apart : (rows : Rows) (cs : List Change) → IsMap rows → IsDistinct is_key (keys_of cs) → put_all (put_all rows (filter puts cs)) (filter removes cs) ≡ put_all rows cs
+unfolding IsDistinct
+apart rows [] s d = refl
+apart rows ((k, Some row) ∷ cs) s d = apart (put rows k (Some row)) cs (map_put rows k (Some row) s) d.1
+apart rows ((k, None) ∷ cs) s d =
+    ap (λ l. put_all l (filter removes cs)) (put_last rows (k, None) (filter puts cs) s (without puts k cs d.0, distinct_filter puts cs d.1))
+    ∙ apart (put rows k None) cs (map_put rows k None s) d.1
+
+-- the rows of the images first, then the removals
+pub both_put : (rows first last : Rows) (direction : Way) (images : List Image) → IsMap rows → IsDistinct is_key (map key_of images) → first ≡ put_all rows (filter puts (map (side direction) images))
+    → last ≡ put_all first (filter removes (map (side direction) images)) → last ≡ put_all rows (map (side direction) images)
+both_put rows first last direction images s d is_first is_last =
+    is_last ∙ ap (λ l. put_all l (filter removes (map (side direction) images))) is_first ∙ apart rows (map (side direction) images) s (distinct_sides direction images d)
+
+pub side_key : (direction : Way) (image : Image) → (side direction image).0 ≡ image.key
 side_key way.Do image = refl
 side_key way.Undo image = refl
 
--- an image that puts no row: first the rest, then its removal
-pub removed_last : (rows after last : Rows) (direction : Way) (images : List Image) (image : Image) (rest : List Image) → images ≡ image ∷ rest → IsDistinct is_key (map key_of images) → IsMap rows → (side direction image).1 ≡ None
-    → after ≡ put_all rows (map (side direction) rest) → last ≡ put after image.key None → last ≡ put_all rows (map (side direction) images)
-removed_last rows after last direction images image rest e d s none is_after is_last =
-    let keys : map key_of images ≡ keys_of (map (side direction) (image ∷ rest)) = ap (map key_of) e ∙ sym (keys-sides direction (image ∷ rest)) in
-    let d' : IsDistinct is_key (keys_of (map (side direction) (image ∷ rest))) = subst (λ (ks : List RowKey). IsDistinct is_key ks) keys d in
+-- an image's change by what it puts
+pub side_is : (direction : Way) (image : Image) (o : Option Row) → o ≡ (side direction image).1 → side direction image ≡ (image.key, o)
+side_is way.Do image o e = ap (λ (r : Option Row). (image.key, r)) (sym e)
+side_is way.Undo image o e = ap (λ (r : Option Row). (image.key, r)) (sym e)
+
+-- ---- what was kept gives all back
+
+pub given_back_last : (rows : Rows) (ks : List (RowKey × Option Row)) (k : RowKey × Option Row) → given_back rows (ks ++ k ∷ []) ≡ given_back (restored rows k.0 k.1) ks
+given_back_last rows [] k = refl
+given_back_last rows (j ∷ ks) k = ap (λ l. restored l j.0 j.1) (given_back_last rows ks k)
+
+map_last : (ks : List (Bor RowKey × Option Row)) (k : Bor RowKey × Option Row) → map kept_at (ks ++ k ∷ []) ≡ map kept_at ks ++ kept_at k ∷ []
+map_last [] k = refl
+map_last (j ∷ ks) k = ap (λ l. kept_at j ∷ l) (map_last ks k)
+
+-- what was put, with what stood there kept, gives back what stood before
+pub put_kept : (rows first : Rows) (ks more : List (Bor RowKey × Option Row)) (k : RowKey) (row : Row) (key : Bor RowKey) (old : Option Row) → IsMap rows → old ≡ row_at rows k → first ≡ put rows k (Some row)
+    → more ≡ ks ++ (key, old) ∷ [] → key.now ≡ k → given_back first (map kept_at more) ≡ given_back rows (map kept_at ks)
+put_kept rows first ks more k row key old s was is_first is_more same =
+    ap (λ l. given_back first (map kept_at l)) is_more
+    ∙ ap (given_back first) (map_last ks (key, old))
+    ∙ given_back_last first (map kept_at ks) (key.now, old)
+    ∙ ap (λ j. given_back (restored first j old) (map kept_at ks)) same
+    ∙ ap (λ l. given_back (restored l k old) (map kept_at ks)) is_first
+    ∙ ap (λ l. given_back l (map kept_at ks)) (put_restored rows k row old s was)
+
+-- what was put and could not be kept is put back at once
+pub put_refused : (rows first last : Rows) (refused : Bor RowKey × Option Row) (k : RowKey) (row : Row) (key : Bor RowKey) (old : Option Row) → IsMap rows → old ≡ row_at rows k → first ≡ put rows k (Some row)
+    → refused ≡ (key, old) → key.now ≡ k → last ≡ restored first refused.0.now refused.1 → last ≡ rows
+put_refused rows first last refused k row key old s was is_first is_refused same is_last =
     is_last
-    ∙ ap (λ l. put l image.key None) is_after
-    ∙ ap (λ k. put (put_all rows (map (side direction) rest)) k None) (sym (side_key direction image))
-    ∙ ap (put (put_all rows (map (side direction) rest)) (side direction image).0) (sym none)
-    ∙ put_last rows (side direction image) (map (side direction) rest) s d'
-    ∙ ap (λ l. put_all rows (map (side direction) l)) (sym e)
+    ∙ ap (λ (r : Bor RowKey × Option Row). restored first r.0.now r.1) is_refused
+    ∙ ap (λ j. restored first j old) same
+    ∙ ap (λ l. restored l k old) is_first
+    ∙ put_restored rows k row old s was
 
--- an image that puts a row: first it, then the rest
-pub put_first : (rows first after : Rows) (row : Row) (direction : Way) (images : List Image) (image : Image) (rest : List Image) → images ≡ image ∷ rest → (side direction image).1 ≡ Some row
-    → first ≡ put rows image.key (Some row) → after ≡ put_all first (map (side direction) rest) → after ≡ put_all rows (map (side direction) images)
-put_first rows first after row direction images image rest e some is_first is_after =
-    is_after
-    ∙ ap (λ l. put_all l (map (side direction) rest)) (is_first ∙ ap (λ k. put rows k (Some row)) (sym (side_key direction image)) ∙ ap (put rows (side direction image).0) (sym some))
-    ∙ ap (λ l. put_all rows (map (side direction) l)) (sym e)
-
--- a row that was put and taken back
-pub put_and_restored : (rows first after last : Rows) (k : RowKey) (row : Row) (old : Option Row) → IsMap rows → old ≡ row_at rows k → first ≡ put rows k (Some row) → after ≡ first → last ≡ restored after k old → last ≡ rows
-put_and_restored rows first after last k row old s was is_first is_after is_last =
-    is_last ∙ ap (λ l. restored l k old) (is_after ∙ is_first) ∙ put_restored rows k row old s was
+-- the last row that was kept stands again
+pub one_back : (rows after : Rows) (all left : List (Bor RowKey × Option Row)) (last : Bor RowKey × Option Row) → all ≡ left ++ last ∷ [] → after ≡ restored rows last.0.now last.1 → given_back after (map kept_at left) ≡ given_back rows (map kept_at all)
+one_back rows after all left last is_all is_after =
+    ap (λ l. given_back l (map kept_at left)) is_after
+    ∙ sym (given_back_last rows (map kept_at left) (last.0.now, last.1))
+    ∙ ap (given_back rows) (sym (map_last left last))
+    ∙ ap (λ l. given_back rows (map kept_at l)) (sym is_all)

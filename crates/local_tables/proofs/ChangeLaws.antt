@@ -1,5 +1,5 @@
 -- What a statement puts are changes of its table, whose rows have their keys.
-use Rattle.std.proofs.Common.{◌≡◌, ◌≢◌, ℕ, zero, suc, ◌==◌, Bool, true, false, cond, eqb-true, eq-eqb, List, [], ◌∷◌, map, filter, slice_get, slice_set, Option, Some, None, option_map, option_and_then, sym, refl, ap, ◌∙◌, subst, true≢false, Ordering, Less, Equal, Greater}
+use Rattle.std.proofs.Common.{◌≡◌, ◌≢◌, ℕ, zero, suc, ◌==◌, Bool, true, false, cond, eqb-true, eq-eqb, List, [], ◌∷◌, map, filter, slice_get, slice_set, Option, Some, None, option_map, option_and_then, sym, refl, ap, ◌∙◌, subst, true≢false, Ordering, Less, Equal, Greater, ap₂}
 use Rattle.std.specs.BTreeMap.{insert_entry}
 use Rattle.std.specs.List.{AllByRecursion, list_any, cons_option}
 use Rattle.std.specs.Map.{keys_of}
@@ -15,9 +15,9 @@ use Rattle.seata_types.specs.declared.statements.Stmt.{Stmt}
 use Rattle.seata_types.specs.declared.statements.Stmt.TheVariants as stmt
 use Rattle.local_tables.specs.Calls.{insert_all}
 use Rattle.local_tables.specs.Cells.{place_of}
-use Rattle.local_tables.specs.Checks.{Set, is_place, sets_key, leaves_key}
+use Rattle.local_tables.specs.Checks.{Set, is_place, is_among, sets_key, leaves_key}
 use Rattle.local_tables.specs.Lookups.{IsRising, HasKeysOf, change_at, over}
-use Rattle.local_tables.specs.Rows.{Rows, Change, HasKey, HasRowKey, IsMap, comes, goes, is_in, is_key, put_all, row_at, table_named}
+use Rattle.local_tables.specs.Rows.{Rows, Change, HasKey, HasRowKey, IsMap, comes, goes, is_in, is_key, put_all, row_at, table_named, each_of, key_values}
 use Rattle.local_tables.specs.Sound.{IsSound, IsChangeOf, AreChangesOf}
 use Rattle.local_tables.specs.Sums.{expr_value, set_at, set_cells, row_of, updated}
 use Rattle.local_tables.specs.Touches.{becomes, inserted, inserted_row, is_matched, touches, tuple_row}
@@ -54,7 +54,7 @@ module _ (schema : Schema) (resource : ℕ) (rows : Rows) (changes : List Change
       let there = row_at_put_all rows changes key s.in_order (IsDistinct-from_sorted key_cmp (keys_of changes) t) in
       own_key key row (change_at changes key) refl (sym there ∙ h) def (ap (table_named schema) (same ∙ named schema name def e) ∙ e)
 
--- ---- the key column of an updated row
+-- ---- the key columns of an updated row
 
 slice_get_set_other : (cells : List Value) (place key : ℕ) (new : Value) → place ≢ key → slice_get (slice_set cells place new) key ≡ slice_get cells key
 slice_get_set_other [] place key new h = refl
@@ -70,8 +70,16 @@ set_at_other (Some place) key new cells h = slice_get_set_other cells place key 
     same_itself : (n : ℕ) → (n == n) ≡ true
     same_itself n = eq-eqb n n refl
 
-set_cells_key : (def : TableDef) (old : Row) (sets : List Set) (cells after : List Value) → list_any (sets_key def) sets ≡ false → set_cells def old sets cells ≡ Some after → slice_get after def.key ≡ slice_get cells def.key
-set_cells_key def old [] cells after h e = let same : cells ≡ after = cc in ap (λ l. slice_get l def.key) (sym same)
+set_at_others : (keys : List ℕ) (place : Option ℕ) (new : Value) (cells : List Value) → is_among keys place ≡ false → each_of (slice_get (set_at place new cells)) keys ≡ each_of (slice_get cells) keys
+set_at_others keys None new cells h = refl
+set_at_others [] (Some place) new cells h = refl
+set_at_others (key ∷ keys) (Some place) new cells h =
+    let parts = or_parts (place == key) (list_any (λ k. place == k) keys) h in
+    ap₂ (λ (o : Option Value) (r : Option (List Value)). option_and_then (λ v. option_map (λ vs. v ∷ vs) r) o)
+    (set_at_other (Some place) key new cells parts.0) (set_at_others keys (Some place) new cells parts.1)
+
+set_cells_key : (def : TableDef) (old : Row) (sets : List Set) (cells after : List Value) → list_any (sets_key def) sets ≡ false → set_cells def old sets cells ≡ Some after → each_of (slice_get after) def.key ≡ each_of (slice_get cells) def.key
+set_cells_key def old [] cells after h e = let same : cells ≡ after = cc in ap (λ (l : List Value). each_of (slice_get l) def.key) (sym same)
 set_cells_key def old (x ∷ xs) cells after h e =
     by (expr_value def old x.1) e (λ new. set_cells_key def old xs (set_at (place_of def x.0) new cells) after parts.1)
   where
@@ -79,19 +87,19 @@ set_cells_key def old (x ∷ xs) cells after h e =
     parts = or_parts (sets_key def x) (list_any (sets_key def) xs) h
 
     by : (o : Option Value) → option_and_then (λ new. set_cells def old xs (set_at (place_of def x.0) new cells)) o ≡ Some after
-        → ((new : Value) → set_cells def old xs (set_at (place_of def x.0) new cells) ≡ Some after → slice_get after def.key ≡ slice_get (set_at (place_of def x.0) new cells) def.key)
-        → slice_get after def.key ≡ slice_get cells def.key
+        → ((new : Value) → set_cells def old xs (set_at (place_of def x.0) new cells) ≡ Some after → each_of (slice_get after) def.key ≡ each_of (slice_get (set_at (place_of def x.0) new cells)) def.key)
+        → each_of (slice_get after) def.key ≡ each_of (slice_get cells) def.key
     by None f rest = cc
-    by (Some new) f rest = rest new f ∙ set_at_other (place_of def x.0) def.key new cells parts.0
+    by (Some new) f rest = rest new f ∙ set_at_others def.key (place_of def x.0) new cells parts.0
 
-updated_key : (def : TableDef) (sets : List Set) (old new : Row) → list_any (sets_key def) sets ≡ false → updated def sets old ≡ Some new → slice_get new.0 def.key ≡ slice_get old.0 def.key
+updated_key : (def : TableDef) (sets : List Set) (old new : Row) → list_any (sets_key def) sets ≡ false → updated def sets old ≡ Some new → key_values def new ≡ key_values def old
 updated_key def sets old new h e = by (set_cells def old sets old.0) refl e
   where
-    by : (o : Option (List Value)) → set_cells def old sets old.0 ≡ o → option_map row_of o ≡ Some new → slice_get new.0 def.key ≡ slice_get old.0 def.key
+    by : (o : Option (List Value)) → set_cells def old sets old.0 ≡ o → option_map row_of o ≡ Some new → key_values def new ≡ key_values def old
     by None f g = cc
     by (Some cells) f g =
         let same : row_of cells ≡ new = cc in
-        ap (λ (r : Row). slice_get r.0 def.key) (sym same) ∙ set_cells_key def old sets old.0 cells h f
+        ap (λ (r : Row). key_values def r) (sym same) ∙ set_cells_key def old sets old.0 cells h f
 
 -- ---- each entry of a map is found at its key
 
@@ -124,10 +132,10 @@ module _ (resource : ℕ) (schema : Schema) (name : List ℕ) (def : TableDef) (
   has_table : (key : RowKey) → key.table ≡ def.name → table_named schema key.table ≡ Some def
   has_table key h = ap (table_named schema) (h ∙ named schema name def t) ∙ t
 
-  is_change : (key : RowKey) (c : Option Row) → key.resource ≡ resource → key.table ≡ def.name → ((row : Row) → c ≡ Some row → slice_get row.0 def.key ≡ Some key.pk) → IsChangeOf resource schema (key, c)
+  is_change : (key : RowKey) (c : Option Row) → key.resource ≡ resource → key.table ≡ def.name → ((row : Row) → c ≡ Some row → key_values def row ≡ Some key.pk) → IsChangeOf resource schema (key, c)
   is_change key c number same has = record { number = number; in_table = (def, has_table key same); has_key = by c has }
     where
-      by : (o : Option Row) → ((row : Row) → o ≡ Some row → slice_get row.0 def.key ≡ Some key.pk) → HasRowKey schema key o
+      by : (o : Option Row) → ((row : Row) → o ≡ Some row → key_values def row ≡ Some key.pk) → HasRowKey schema key o
       by None cell = tt
       by (Some row) cell = has_key_from schema name def key row t same (cell row refl)
 
@@ -139,7 +147,7 @@ module _ (resource : ℕ) (schema : Schema) (name : List ℕ) (def : TableDef) (
       by None f rest = rest
       by (Some e) f rest =
           let has = keyed_has resource def (tuple_row def columns x) e f in
-          (is_change e.0 (Some e.1) has.0 has.1 (λ row same. ap (λ (r : Row). slice_get r.0 def.key) (sym (some_same e.1 row same)) ∙ has.2), rest)
+          (is_change e.0 (Some e.1) has.0 has.1 (λ row same. ap (λ (r : Row). key_values def r) (sym (some_same e.1 row same)) ∙ has.2), rest)
 
   matched_in : (asked : Option Condition) (e : RowKey × Row) → is_matched resource def asked e ≡ true → (e.0.resource ≡ resource) × (e.0.table ≡ def.name)
   matched_in asked e h =

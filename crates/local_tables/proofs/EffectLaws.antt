@@ -12,7 +12,6 @@ use Rattle.seata_types.specs.declared.rows.RowKey.{RowKey}
 use Rattle.seata_types.specs.declared.statements.Stmt.{Stmt}
 use Rattle.local_tables.specs.Calls.{Call, nothing, steps, image_of, read_of, to_effect, effect, Means}
 use Rattle.local_tables.specs.Lookups.{IsRising}
-use Rattle.local_tables.specs.Refusals.{Runs}
 use Rattle.local_tables.specs.Rows.{Rows, Change, Database, HasRowKey, IsImageOf, AreImagesOf, AreRising, is_key, key_of, row_at}
 use Rattle.local_tables.specs.Sound.{IsSound, AreChangesOf}
 use Rattle.local_tables.specs.declared.schemas.Effect.{Effect}
@@ -20,12 +19,12 @@ use Rattle.local_tables.specs.declared.schemas.EffectError.{EffectError}
 use Rattle.local_tables.specs.declared.schemas.EffectError.TheVariants as answer
 use Rattle.local_tables.specs.declared.schemas.Schema.{Schema}
 
-pub means_of_err : (db : Database) (ss : List Stmt) (e : EffectError) → Runs (steps db 0 (Ok nothing) ss) (Err e) → Means (effect db ss) (Err e)
+pub means_of_err : (db : Database) (ss : List Stmt) (e : EffectError) → Means (steps db 0 (Ok nothing) ss) (Err e) → Means (effect db ss) (Err e)
 unfolding effect
 means_of_err db ss (answer.At index why) h = ap (to_effect db) h
 means_of_err db ss answer.NoMemory h = tt
 
-pub means_of_ok : (v db : Database) (ss : List Stmt) (call : Call) (found : Effect) → v ≡ db → Runs (steps db 0 (Ok nothing) ss) (Ok call) → found.images ≡ map (image_of v.rows) call.changes → found.reads ≡ map read_of call.reads → found.touched ≡ call.touched
+pub means_of_ok : (v db : Database) (ss : List Stmt) (call : Call) (found : Effect) → v ≡ db → Means (steps db 0 (Ok nothing) ss) (Ok call) → found.images ≡ map (image_of v.rows) call.changes → found.reads ≡ map read_of call.reads → found.touched ≡ call.touched
     → Means (effect db ss) (Ok found)
 unfolding effect
 means_of_ok v db ss call found e h images reads touched =

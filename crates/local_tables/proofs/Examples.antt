@@ -22,12 +22,12 @@ acc = codes "acc"
 abbrev db : Database
 db = record {
   resource = 1;
-  schema = record { tables = record { name = codes "acc"; mode = kind.At; columns = (codes "id", type.Int) ∷ (codes "m", type.Int) ∷ []; key = 0 } ∷ [] };
-  rows = (record { resource = 1; table = codes "acc"; pk = value.Int (pos 1) }, record { 0 = value.Int (pos 1) ∷ value.Int (pos 5) ∷ [] }) ∷ [];
+  schema = record { tables = record { name = codes "acc"; mode = kind.At; columns = (codes "id", type.Int) ∷ (codes "m", type.Int) ∷ []; key = 0 ∷ [] } ∷ [] };
+  rows = (record { resource = 1; table = codes "acc"; pk = value.Int (pos 1) ∷ [] }, record { 0 = value.Int (pos 1) ∷ value.Int (pos 5) ∷ [] }) ∷ [];
 }
 
 abbrev key : ℕ → RowKey
-key n = record { resource = 1; table = codes "acc"; pk = value.Int (pos n) }
+key n = record { resource = 1; table = codes "acc"; pk = value.Int (pos n) ∷ [] }
 
 abbrev row : ℕ → ℕ → Row
 row n m = record { 0 = value.Int (pos n) ∷ value.Int (pos m) ∷ [] }

@@ -1,45 +1,20 @@
 -- The order of keys is total, and keys that compare as equal are equal.
-use Rattle.std.proofs.Common.{◌≡◌, ℕ, true, List, Ordering, Less, Equal, Greater, refl, ap, true≢false}
+use Rattle.std.proofs.Common.{◌≡◌, ℕ, true, List, [], ◌∷◌, Ordering, Less, Equal, Greater, refl, ap, ap₂, true≢false}
 use Rattle.std.specs.Cmp.{IsTotalOrder, IsEquivalence}
-use Rattle.std.specs.Ordering.{ordering_reverse, ordering_then, is_eq, is_lt, is_gt, eq_by_cmp}
-use Rattle.std.proofs.lemmas.Cmp.{nat_cmp_total, int_cmp_total, nat_list_cmp_total, on_total, then_total, eq_by_cmp_equiv}
+use Rattle.std.specs.Ordering.{ordering_then, is_eq, is_lt, is_gt, eq_by_cmp}
+use Rattle.std.proofs.lemmas.Cmp.{nat_cmp_total, nat_list_cmp_total, on_total, then_total, lists_total, eq_by_cmp_equiv}
 use Rattle.std.proofs.lemmas.Map.Lookups.{CmpEqualImpliesEq, exact_unsigned, exact_signed, exact_bytes}
-use Rattle.std.specs.Cmp.Lexicographic.{bytes_decides}
+use Rattle.std.specs.Cmp.Lexicographic.{bytes_decides, slice_cmp}
 use Rattle.seata_types.specs.Orders.{value_cmp, key_cmp, same_text}
+use Rattle.seata_types.specs.ValueOrder.{value_cmp_total}
 use Rattle.seata_types.specs.declared.rows.Value.{Value}
 use Rattle.seata_types.specs.declared.rows.Value.TheVariants as value
 use Rattle.seata_types.specs.declared.rows.RowKey.{RowKey}
 use Rattle.local_tables.specs.Rows.{is_key}
 
-value_antisymm : (x y : Value) → value_cmp x y ≡ ordering_reverse (value_cmp y x)
-value_antisymm (value.Int a) (value.Int b) = int_cmp_total.antisymm a b
-value_antisymm (value.Int a) (value.Text t) = refl
-value_antisymm (value.Text s) (value.Int b) = refl
-value_antisymm (value.Text s) (value.Text t) = nat_list_cmp_total.antisymm s t
-
-value_trans : (x y z : Value) → value_cmp x y ≡ Less → value_cmp y z ≡ Less → value_cmp x z ≡ Less
-value_trans (value.Int a) (value.Int b) (value.Int c) p q = int_cmp_total.trans a b c p q
-value_trans (value.Int a) (value.Int b) (value.Text u) p q = refl
-value_trans (value.Int a) (value.Text t) (value.Int c) p q = cc
-value_trans (value.Int a) (value.Text t) (value.Text u) p q = refl
-value_trans (value.Text s) (value.Int b) z p q = cc
-value_trans (value.Text s) (value.Text t) (value.Int c) p q = cc
-value_trans (value.Text s) (value.Text t) (value.Text u) p q = nat_list_cmp_total.trans s t u p q
-
-value_congr : (x y z : Value) → value_cmp x y ≡ Equal → value_cmp x z ≡ value_cmp y z
-value_congr (value.Int a) (value.Int b) (value.Int c) p = int_cmp_total.congr a b c p
-value_congr (value.Int a) (value.Int b) (value.Text u) p = refl
-value_congr (value.Int a) (value.Text t) z p = cc
-value_congr (value.Text s) (value.Int b) z p = cc
-value_congr (value.Text s) (value.Text t) (value.Int c) p = refl
-value_congr (value.Text s) (value.Text t) (value.Text u) p = nat_list_cmp_total.congr s t u p
-
-pub value_cmp_total : IsTotalOrder value_cmp
-value_cmp_total = record { antisymm = value_antisymm; trans = value_trans; congr = value_congr }
-
 pub key_cmp_total : IsTotalOrder key_cmp
 key_cmp_total =
-    then_total (on_total (λ (k : RowKey). k.resource) nat_cmp_total) (then_total (on_total (λ (k : RowKey). k.table) nat_list_cmp_total) (on_total (λ (k : RowKey). k.pk) value_cmp_total))
+    then_total (on_total (λ (k : RowKey). k.resource) nat_cmp_total) (then_total (on_total (λ (k : RowKey). k.table) nat_list_cmp_total) (on_total (λ (k : RowKey). k.pk) (lists_total value_cmp_total)))
 
 -- ---- what compares as equal is equal
 
@@ -54,6 +29,14 @@ both_equal Less b e = absurd (true≢false (ap is_lt e))
 both_equal Equal b e = (refl, e)
 both_equal Greater b e = absurd (true≢false (ap is_gt e))
 
+values_exact : (xs ys : List Value) → slice_cmp value_cmp xs ys ≡ Equal → xs ≡ ys
+values_exact [] [] e = refl
+values_exact [] (y ∷ ys) e = cc
+values_exact (x ∷ xs) [] e = cc
+values_exact (x ∷ xs) (y ∷ ys) e =
+    let both = both_equal (value_cmp x y) (slice_cmp value_cmp xs ys) e in
+    ap₂ (λ (z : Value) (zs : List Value). z ∷ zs) (value_exact x y both.0) (values_exact xs ys both.1)
+
 pub key_exact : CmpEqualImpliesEq key_cmp
 key_exact x y e =
     let first = both_equal _ _ e in
@@ -61,7 +44,7 @@ key_exact x y e =
     λ i. record {
       resource = exact_unsigned x.resource y.resource first.0 i;
       table = exact_bytes x.table y.table second.0 i;
-      pk = value_exact x.pk y.pk second.1 i;
+      pk = values_exact x.pk y.pk second.1 i;
     }
 
 pub equal_from_is_eq : (r : Ordering) → is_eq r ≡ true → r ≡ Equal

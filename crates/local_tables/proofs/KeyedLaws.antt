@@ -1,5 +1,5 @@
 -- Where a condition asks for one key, at most the row at this key is matched.
-use Rattle.std.proofs.Common.{◌≡◌, ℕ, eqb-true, Bool, true, false, cond, ◌&&◌, List, filter, slice_get, Option, Some, None, option_and_then, sym, refl, ap, ◌∙◌, true≢false}
+use Rattle.std.proofs.Common.{◌≡◌, ℕ, eqb-true, Bool, true, false, cond, ◌&&◌, List, [], ◌∷◌, filter, slice_get, Option, Some, None, option_map, option_and_then, sym, refl, ap, ap₂, ◌∙◌, true≢false}
 use Rattle.std.specs.List.Sorted.{IsStrictlySortedBy}
 use Rattle.std.specs.Map.{keys_of}
 use Rattle.std.proofs.lemmas.Bool.{and_parts}
@@ -15,8 +15,8 @@ use Rattle.seata_types.specs.declared.rows.RowKey.{RowKey}
 use Rattle.seata_types.specs.declared.rows.Value.{Value}
 use Rattle.local_tables.specs.Cells.{place_of, holds, compares}
 use Rattle.local_tables.specs.Checks.{is_place}
-use Rattle.local_tables.specs.Lookups.{IsRising, HasKeysOf, over, change_at, kept, is_equality, first_of_two, key_literal, only}
-use Rattle.local_tables.specs.Rows.{Rows, Change, put_all, is_key, key_in, is_in, row_at, IsMap}
+use Rattle.local_tables.specs.Lookups.{IsRising, HasKeysOf, over, change_at, kept, is_equality, first_of_two, literal_at, key_literals, only}
+use Rattle.local_tables.specs.Rows.{Rows, Change, put_all, is_key, each_of, key_values, key_in, is_in, row_at, IsMap}
 use Rattle.local_tables.specs.Touches.{is_matched, matched}
 use Rattle.local_tables.specs.declared.schemas.TableDef.{TableDef}
 use Rattle.local_tables.proofs.KeyLaws.{value_exact, equal_from_is_eq, same_key, same_text_same}
@@ -44,36 +44,52 @@ of_two : (P : Type 0) (left right : Option Value) (v : Value) → first_of_two l
 of_two P (Some x) right v e first second = first e
 of_two P None right v e first second = second e
 
-pub holds_at_literal : (def : TableDef) (row : Row) (asked : Condition) (v : Value) → key_literal def asked ≡ Some v → holds def row asked ≡ true → slice_get row.0 def.key ≡ Some v
-holds_at_literal def row (condition.Cmp column test literal) v e h =
-    at_place def.key row.0 (place_of def column) v (literal_of test literal v _ _ e h)
-holds_at_literal def row (condition.And left right) v e h =
+holds_at_literal : (def : TableDef) (row : Row) (asked : Condition) (place : ℕ) (v : Value) → literal_at def asked place ≡ Some v → holds def row asked ≡ true → slice_get row.0 place ≡ Some v
+holds_at_literal def row (condition.Cmp column test literal) place v e h =
+    at_place place row.0 (place_of def column) v (literal_of test literal v _ _ e h)
+holds_at_literal def row (condition.And left right) place v e h =
     let both = and_parts _ _ h in
-    of_two _ (key_literal def left) (key_literal def right) v e (λ l. holds_at_literal def row left v l both.0) (λ r. holds_at_literal def row right v r both.1)
-holds_at_literal def row (condition.Or left right) v e h = cc
-holds_at_literal def row (condition.Not inner) v e h = cc
+    of_two _ (literal_at def left place) (literal_at def right place) v e (λ l. holds_at_literal def row left place v l both.0) (λ r. holds_at_literal def row right place v r both.1)
+holds_at_literal def row (condition.Or left right) place v e h = cc
+holds_at_literal def row (condition.Not inner) place v e h = cc
+
+-- what gives the same of each that it gives something of, gives the same of all
+each_same : (f g : ℕ → Option Value) (places : List ℕ) (vs : List Value) → ((place : ℕ) (v : Value) → f place ≡ Some v → g place ≡ Some v) → each_of f places ≡ Some vs → each_of g places ≡ Some vs
+each_same f g [] vs same e = e
+each_same f g (place ∷ places) vs same e = by (f place) (each_of f places) refl refl (λ us. each_same f g places us same) e
+  where
+    by : (o : Option Value) (r : Option (List Value)) → f place ≡ o → each_of f places ≡ r → ((us : List Value) → each_of f places ≡ Some us → each_of g places ≡ Some us) → option_and_then (λ v. option_map (λ us. v ∷ us) r) o ≡ Some vs
+        → option_and_then (λ v. option_map (λ us. v ∷ us) (each_of g places)) (g place) ≡ Some vs
+    by None r h k rest d = cc
+    by (Some v) None h k rest d = cc
+    by (Some v) (Some us) h k rest d =
+        ap₂ (λ (o : Option Value) (r : Option (List Value)). option_and_then (λ w. option_map (λ ws. w ∷ ws) r) o) (same place v h) (rest us k) ∙ d
+
+pub holds_at_literals : (def : TableDef) (row : Row) (asked : Condition) (vs : List Value) → key_literals def asked ≡ Some vs → holds def row asked ≡ true → key_values def row ≡ Some vs
+holds_at_literals def row asked vs e h =
+    each_same (literal_at def asked) (slice_get row.0) def.key vs (λ place v f. holds_at_literal def row asked place v f h) e
 
 -- ---- at most one row
 
-module _ (resource : ℕ) (def : TableDef) (asked : Condition) (v : Value) (e : key_literal def asked ≡ Some v) where
+module _ (resource : ℕ) (def : TableDef) (asked : Condition) (v : List Value) (e : key_literals def asked ≡ Some v) where
   abbrev m : RowKey × Row → Bool
   m = is_matched resource def (Some asked)
 
   abbrev the_key : RowKey
   the_key = key_in resource def v
 
-  matched_is_there : (q : RowKey) (row : Row) → (q.table ≡ def.name → slice_get row.0 def.key ≡ Some q.pk) → m (q, row) ≡ true → q ≡ the_key
+  matched_is_there : (q : RowKey) (row : Row) → (q.table ≡ def.name → key_values def row ≡ Some q.pk) → m (q, row) ≡ true → q ≡ the_key
   matched_is_there q row has h =
       let parts = and_parts (is_in resource def q) (holds def row asked) h in
       let place = and_parts _ _ parts.0 in
       let table : q.table ≡ def.name = same_text_same q.table def.name place.1 in
       let number : q.resource ≡ resource = eqb-true q.resource resource place.0 in
-      let cell : slice_get row.0 def.key ≡ Some v = holds_at_literal def row asked v e parts.1 in
-      let own : slice_get row.0 def.key ≡ Some q.pk = has table in
+      let cell : key_values def row ≡ Some v = holds_at_literals def row asked v e parts.1 in
+      let own : key_values def row ≡ Some q.pk = has table in
       let pk : q.pk ≡ v = cc in
       λ i. record { resource = number i; table = table i; pk = pk i }
 
-  at_other : (q : RowKey) (o : Option Row) → ((row : Row) → o ≡ Some row → q.table ≡ def.name → slice_get row.0 def.key ≡ Some q.pk) → is_key q the_key ≡ false → option_filter (λ row. m (q, row)) o ≡ None
+  at_other : (q : RowKey) (o : Option Row) → ((row : Row) → o ≡ Some row → q.table ≡ def.name → key_values def row ≡ Some q.pk) → is_key q the_key ≡ false → option_filter (λ row. m (q, row)) o ≡ None
   at_other q None has other = refl
   at_other q (Some row) has other = by (m (q, row)) refl
     where
@@ -96,7 +112,7 @@ unfolding IsStrictlySortedBy
 map_only k None = tt
 map_only k (Some row) = (tt, tt)
 
-pub matched_only : (resource : ℕ) (def : TableDef) (asked : Condition) (v : Value) (now : Rows) → key_literal def asked ≡ Some v → IsMap now → HasKeysOf def now
+pub matched_only : (resource : ℕ) (def : TableDef) (asked : Condition) (v : List Value) (now : Rows) → key_literals def asked ≡ Some v → IsMap now → HasKeysOf def now
     → only (key_in resource def v) (option_filter (λ row. is_matched resource def (Some asked) (key_in resource def v, row)) (row_at now (key_in resource def v))) ≡ filter (is_matched resource def (Some asked)) now
 matched_only resource def asked v now e s has =
     let k = key_in resource def v in
@@ -110,7 +126,7 @@ matched_only resource def asked v now e s has =
     by q false h = sym (at_other resource def asked v e q (row_at now q) (λ row there. has q row there) h)
 
 -- the same of rows under changes
-pub looked_up_matches : (resource : ℕ) (def : TableDef) (cond : Option Condition) (asked : Condition) (v : Value) (rows : Rows) (changes : List Change) → cond ≡ Some asked → key_literal def asked ≡ Some v → IsMap rows → IsRising changes
+looked_up_matches : (resource : ℕ) (def : TableDef) (cond : Option Condition) (asked : Condition) (v : List Value) (rows : Rows) (changes : List Change) → cond ≡ Some asked → key_literals def asked ≡ Some v → IsMap rows → IsRising changes
     → HasKeysOf def (put_all rows changes) → (found : Rows)
     → found ≡ only (key_in resource def v) (kept (is_matched resource def cond) (key_in resource def v, over (row_at rows (key_in resource def v)) (change_at changes (key_in resource def v)))).1
     → found ≡ matched resource def cond (put_all rows changes)
@@ -123,3 +139,11 @@ looked_up_matches resource def cond asked v rows changes is e s t has found h =
     ∙ ap (λ c. only k (option_filter (λ row. is_matched resource def c (k, row)) (row_at now k))) is
     ∙ matched_only resource def asked v now e (map_put_all rows changes s) has
     ∙ ap (λ c. matched resource def c now) (sym is)
+
+-- the same where the condition may be absent
+pub asked_matches : (resource : ℕ) (def : TableDef) (cond : Option Condition) (v : List Value) (rows : Rows) (changes : List Change) → option_and_then (key_literals def) cond ≡ Some v → IsMap rows → IsRising changes
+    → HasKeysOf def (put_all rows changes) → (found : Rows)
+    → found ≡ only (key_in resource def v) (kept (is_matched resource def cond) (key_in resource def v, over (row_at rows (key_in resource def v)) (change_at changes (key_in resource def v)))).1
+    → found ≡ matched resource def cond (put_all rows changes)
+asked_matches resource def None v rows changes e s t has found h = cc
+asked_matches resource def (Some asked) v rows changes e s t has found h = looked_up_matches resource def (Some asked) asked v rows changes refl e s t has found h

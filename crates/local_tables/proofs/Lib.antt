@@ -10,7 +10,6 @@ mod KeyedLaws
 mod ListLaws
 pub mod MapLaws
 mod MatchLaws
-mod OpeningLaws
 mod PassLaws
 pub mod PutLaws
 pub mod SideLaws

@@ -6,13 +6,12 @@ use Rattle.std.specs.BTreeMap.Range.{entries_between}
 use Rattle.std.specs.Cmp.{IsTotalOrder}
 use Rattle.std.specs.Cmp.Lexicographic.{slice_cmp, bytes_decides}
 use Rattle.std.specs.declared.ops.Bound.TheVariants.{Excluded, Unbounded}
-use Rattle.std.specs.Prelude.{◌==◌, ◌&&◌, not, Option, pos}
+use Rattle.std.specs.Prelude.{◌==◌, ◌&&◌, not, Option}
 use Rattle.std.proofs.lemmas.Bool.Decides.{nat_tests}
 use Rattle.std.proofs.lemmas.Cmp.{nat_cmp_total, nat_list_cmp_total, on_total, then_total, tied_itself}
 use Rattle.std.proofs.lemmas.List.Elements.{filter-append}
 use Rattle.seata_types.specs.Condition.{Condition}
 use Rattle.seata_types.specs.Orders.{key_cmp, value_cmp, same_text}
-use Rattle.seata_types.specs.declared.rows.Value.TheVariants as value
 use Rattle.seata_types.specs.declared.rows.Row.{Row}
 use Rattle.seata_types.specs.declared.rows.RowKey.{RowKey}
 use Rattle.local_tables.specs.Lookups.{IsRising, Passes, key_above, is_before}
@@ -66,7 +65,7 @@ by_tables Greater b c = refl
 
 module _ (resource : ℕ) (def : TableDef) where
   abbrev some_key : RowKey
-  some_key = key_in resource def (value.Int (pos 0))
+  some_key = key_in resource def []
 
   before : (k : RowKey) → is_before resource def k ≡ true → table_cmp k some_key ≡ Less
   unfolding table_cmp
@@ -82,13 +81,13 @@ module _ (resource : ℕ) (def : TableDef) where
   unfolding table_cmp
   before_below j k less e = by (table_cmp j k) refl
     where
-      split : ordering_then (table_cmp j k) (value_cmp j.pk k.pk) ≡ Less
-      split = sym (by_tables (nat_cmp j.resource k.resource) (slice_cmp nat_cmp j.table k.table) (value_cmp j.pk k.pk)) ∙ less
+      split : ordering_then (table_cmp j k) (slice_cmp value_cmp j.pk k.pk) ≡ Less
+      split = sym (by_tables (nat_cmp j.resource k.resource) (slice_cmp nat_cmp j.table k.table) (slice_cmp value_cmp j.pk k.pk)) ∙ less
 
       by : (o : Ordering) → table_cmp j k ≡ o → table_cmp j some_key ≡ Less
       by Less h = table_cmp_total.trans j k some_key h e
       by Equal h = table_cmp_total.congr j k some_key h ∙ e
-      by Greater h = absurd (let no : Greater ≡ Less = ap (λ o. ordering_then o (value_cmp j.pk k.pk)) (sym h) ∙ split in cc)
+      by Greater h = absurd (let no : Greater ≡ Less = ap (λ o. ordering_then o (slice_cmp value_cmp j.pk k.pk)) (sym h) ∙ split in cc)
 
   same_table : (k : RowKey) → is_in resource def k ≡ true → (k.resource ≡ resource) × (k.table ≡ def.name)
   same_table k e = by (k.resource == resource) (same_text k.table def.name) refl refl e
@@ -119,7 +118,7 @@ module _ (resource : ℕ) (def : TableDef) where
   in_above : (k : RowKey) → is_in resource def k ≡ true → key_cmp k (key_above resource def) ≡ Less
   in_above k e =
       let same = same_table k e in
-      let rest : Ordering = value_cmp k.pk (value.Int (pos 0)) in
+      let rest : Ordering = slice_cmp value_cmp k.pk [] in
       ap (λ r. ordering_then (nat_cmp r resource) (ordering_then (slice_cmp nat_cmp k.table (def.name ++ 0 ∷ [])) rest)) same.0
       ∙ ap (λ t. ordering_then (nat_cmp resource resource) (ordering_then (slice_cmp nat_cmp t (def.name ++ 0 ∷ [])) rest)) same.1
       ∙ ap (λ o. ordering_then o (ordering_then (slice_cmp nat_cmp def.name (def.name ++ 0 ∷ [])) rest)) (tied_itself nat_cmp_total resource)

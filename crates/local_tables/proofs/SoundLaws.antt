@@ -1,11 +1,11 @@
 -- Tables stay sound where a row with its key is put, and where a row goes.
-use Rattle.std.proofs.Common.{◌≡◌, ℕ, Bool, true, false, cond, List, [], ◌∷◌, find, slice_get, Option, Some, None, option_map, sym, refl, ap, ◌∙◌, subst}
+use Rattle.std.proofs.Common.{◌≡◌, ℕ, Bool, true, false, cond, List, [], ◌∷◌, find, Option, Some, None, option_map, sym, refl, ap, ◌∙◌, subst}
 use Rattle.std.specs.List.Sorted.{IsStrictlySortedBy}
 use Rattle.std.proofs.lemmas.Option.{none-some}
 use Rattle.seata_types.specs.declared.rows.Row.{Row}
 use Rattle.seata_types.specs.declared.rows.RowKey.{RowKey}
 use Rattle.seata_types.specs.declared.rows.Value.{Value}
-use Rattle.local_tables.specs.Rows.{Rows, HasKey, HasRowKey, is_key, is_named, key_in, keyed, with_key, put, row_at, table_named}
+use Rattle.local_tables.specs.Rows.{Rows, HasKey, HasRowKey, is_key, is_named, key_in, key_values, keyed, with_key, put, row_at, table_named}
 use Rattle.local_tables.specs.Sound.{IsSound}
 use Rattle.local_tables.specs.declared.schemas.Schema.{Schema}
 use Rattle.local_tables.specs.declared.schemas.TableDef.{TableDef}
@@ -30,23 +30,23 @@ same_table schema name def other e f =
     let same : table_named schema def.name ≡ table_named schema name = ap (table_named schema) (named schema name def e) in
     cc
 
-keyed_cell : (resource : ℕ) (def : TableDef) (row : Row) (e : RowKey × Row) (o : Option Value) → slice_get row.0 def.key ≡ o → option_map (with_key resource def row) o ≡ Some e
-    → (e.0.resource ≡ resource) × (e.0.table ≡ def.name) × (slice_get e.1.0 def.key ≡ Some e.0.pk)
+keyed_cell : (resource : ℕ) (def : TableDef) (row : Row) (e : RowKey × Row) (o : Option (List Value)) → key_values def row ≡ o → option_map (with_key resource def row) o ≡ Some e
+    → (e.0.resource ≡ resource) × (e.0.table ≡ def.name) × (key_values def e.1 ≡ Some e.0.pk)
 keyed_cell resource def row e None o f = cc
 keyed_cell resource def row e (Some pk) o f =
     let key : key_in resource def pk ≡ e.0 = cc in
     let same : row ≡ e.1 = cc in
-    (sym (ap (λ (k : RowKey). k.resource) key), sym (ap (λ (k : RowKey). k.table) key), sym (ap (λ (r : Row). slice_get r.0 def.key) same) ∙ o ∙ ap (λ (k : RowKey). Some k.pk) key)
+    (sym (ap (λ (k : RowKey). k.resource) key), sym (ap (λ (k : RowKey). k.table) key), sym (ap (λ (r : Row). key_values def r) same) ∙ o ∙ ap (λ (k : RowKey). Some k.pk) key)
 
 -- what a row is like that was given its key
 pub keyed_has : (resource : ℕ) (def : TableDef) (row : Row) (e : RowKey × Row) → keyed resource def row ≡ Some e
-    → (e.0.resource ≡ resource) × (e.0.table ≡ def.name) × (slice_get e.1.0 def.key ≡ Some e.0.pk)
-keyed_has resource def row e f = keyed_cell resource def row e (slice_get row.0 def.key) refl f
+    → (e.0.resource ≡ resource) × (e.0.table ≡ def.name) × (key_values def e.1 ≡ Some e.0.pk)
+keyed_has resource def row e f = keyed_cell resource def row e (key_values def row) refl f
 
-pub has_key_from : (schema : Schema) (name : List ℕ) (def : TableDef) (key : RowKey) (row : Row) → table_named schema name ≡ Some def → key.table ≡ def.name → slice_get row.0 def.key ≡ Some key.pk → HasKey schema key row
+pub has_key_from : (schema : Schema) (name : List ℕ) (def : TableDef) (key : RowKey) (row : Row) → table_named schema name ≡ Some def → key.table ≡ def.name → key_values def row ≡ Some key.pk → HasKey schema key row
 has_key_from schema name def key row e t h other f =
     let same : def ≡ other = same_table schema name def other e (ap (table_named schema) (sym t) ∙ f) in
-    ap (λ (d : TableDef). slice_get row.0 d.key) (sym same) ∙ h
+    ap (λ (d : TableDef). key_values d row) (sym same) ∙ h
 
 pub sound_nil : (schema : Schema) → IsSound schema []
 unfolding IsStrictlySortedBy

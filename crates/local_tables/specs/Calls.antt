@@ -117,7 +117,7 @@ unfoldable pub effect : Database → List Stmt → Result Effect (ℕ × StmtErr
 effect db ss = to_effect db (steps db 0 (Ok nothing) ss)
 
 -- what the call that computes it answers; want of memory is free
-abbrev pub Means : Result Effect (ℕ × StmtError) → Result Effect EffectError → Type 0
+abbrev pub Means : {X : Type 0} → Result X (ℕ × StmtError) → Result X EffectError → Type 0
 Means meaning (Ok found) = meaning ≡ Ok found
 Means meaning (Err (answer.At index why)) = meaning ≡ Err (index, why)
 Means meaning (Err answer.NoMemory) = Unit {0}

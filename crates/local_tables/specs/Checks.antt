@@ -82,14 +82,22 @@ fills_columns def (stmt.Insert table columns tuples) =
 fills_columns def (stmt.Update table sets asked) = list_all (is_once (map set_name sets)) (map set_name sets)
 fills_columns def _ = true
 
--- ---- an UPDATE leaves the key column
+-- ---- an UPDATE leaves the key columns
 
 abbrev pub is_place : ℕ → Option ℕ → Bool
 is_place key None = false
 is_place key (Some place) = place == key
 
+-- whether it is one of these places
+abbrev pub is_among : List ℕ → Option ℕ → Bool
+is_among keys None = false
+is_among keys (Some place) = list_any (λ key. place == key) keys
+
+abbrev pub is_key_column : TableDef → List ℕ → Bool
+is_key_column def name = is_among def.key (place_of def name)
+
 abbrev pub sets_key : TableDef → Set → Bool
-sets_key def s = is_place def.key (place_of def s.0)
+sets_key def s = is_key_column def s.0
 
 abbrev pub leaves_key : TableDef → Stmt → Bool
 leaves_key def (stmt.Update table sets asked) = not (list_any (sets_key def) sets)

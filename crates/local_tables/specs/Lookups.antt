@@ -1,5 +1,5 @@
--- The rows under a call's changes, key by key, and the key that a condition asks for.
-use Rattle.std.specs.Prelude.{◌≡◌, ℕ, pos, slice_get, Bool, true, false, ◌&&◌, if◌then◌else◌, filter, List, [], ◌∷◌, ◌++◌, Option, Some, None, is_some}
+-- For the proofs alone: the rows under a call's changes, key by key, and the key that a condition asks for.
+use Rattle.std.specs.Prelude.{◌≡◌, ℕ, Bool, true, false, ◌&&◌, if◌then◌else◌, filter, List, [], ◌∷◌, ◌++◌, Option, Some, None, is_some}
 use Rattle.std.specs.Cmp.Lexicographic.{slice_cmp}
 use Rattle.std.specs.Ordering.{is_lt, nat_cmp, ordering_then}
 use Rattle.std.specs.List.Sorted.{IsStrictlySortedBy}
@@ -13,10 +13,9 @@ use Rattle.seata_types.specs.declared.conditions.Op.TheVariants as op
 use Rattle.seata_types.specs.declared.rows.Row.{Row}
 use Rattle.seata_types.specs.declared.rows.RowKey.{RowKey}
 use Rattle.seata_types.specs.declared.rows.Value.{Value}
-use Rattle.seata_types.specs.declared.rows.Value.TheVariants as value
 use Rattle.local_tables.specs.Cells.{place_of}
 use Rattle.local_tables.specs.Checks.{is_place}
-use Rattle.local_tables.specs.Rows.{Rows, Change, is_key, row_at}
+use Rattle.local_tables.specs.Rows.{Rows, Change, is_key, row_at, each_of, key_values}
 use Rattle.local_tables.specs.declared.schemas.TableDef.{TableDef}
 
 -- entries in rising order of their keys
@@ -43,7 +42,7 @@ kept test c = (c.0, option_filter (λ row. test (c.0, row)) c.1)
 -- each row of a table has its key
 abbrev pub HasKeysOf : TableDef → Rows → Type 0
 HasKeysOf def rows =
-    (key : RowKey) (row : Row) → row_at rows key ≡ Some row → key.table ≡ def.name → slice_get row.0 def.key ≡ Some key.pk
+    (key : RowKey) (row : Row) → row_at rows key ≡ Some row → key.table ≡ def.name → key_values def row ≡ Some key.pk
 
 -- ---- the key that a condition asks for
 
@@ -55,12 +54,17 @@ abbrev pub first_of_two : Option Value → Option Value → Option Value
 first_of_two (Some found) other = Some found
 first_of_two None other = other
 
--- the literal that the key column equals wherever the condition holds, where the condition or a side of an AND says so
-abbrev pub key_literal : TableDef → Condition → Option Value
-key_literal def (condition.Cmp column test literal) =
-    if is_equality test && is_place def.key (place_of def column) then Some literal else None
-key_literal def (condition.And left right) = first_of_two (key_literal def left) (key_literal def right)
-key_literal def _ = None
+-- the literal that the column at a place equals wherever the condition holds, where the condition or a side of an AND says
+-- so
+abbrev pub literal_at : TableDef → Condition → ℕ → Option Value
+literal_at def (condition.Cmp column test literal) place =
+    if is_equality test && is_place place (place_of def column) then Some literal else None
+literal_at def (condition.And left right) place = first_of_two (literal_at def left place) (literal_at def right place)
+literal_at def _ place = None
+
+-- the literals of all key columns, where the condition asks for each
+abbrev pub key_literals : TableDef → Condition → Option (List Value)
+key_literals def asked = each_of (literal_at def asked) def.key
 
 -- the one row at a key, if there is one
 abbrev pub only : RowKey → Option Row → Rows
@@ -71,7 +75,7 @@ only key (Some row) = (key, row) ∷ []
 
 -- a key above all keys of a table
 abbrev pub key_above : ℕ → TableDef → RowKey
-key_above resource def = record { resource = resource; table = def.name ++ 0 ∷ []; pk = value.Int (pos 0) }
+key_above resource def = record { resource = resource; table = def.name ++ 0 ∷ []; pk = [] }
 
 -- whether a key is of a table that stands before this one
 abbrev pub is_before : ℕ → TableDef → RowKey → Bool

@@ -1,5 +1,5 @@
--- The errors of a statement one by one: what its table's definition refuses, and what the rows refuse.
-use Rattle.std.specs.Prelude.{◌≡◌, ℕ, nat_le, Bool, if◌then◌else◌, List, find, Option, Some, None, is_none, option_map, Result, Ok, Err}
+-- For the proofs alone: the errors of a statement one by one: what its table's definition refuses, and what the rows refuse.
+use Rattle.std.specs.Prelude.{ℕ, nat_le, Bool, if◌then◌else◌, List, find, Option, Some, None, is_none, option_map, Ok, Err}
 use Rattle.std.specs.Map.{keys_of}
 use Rattle.seata_types.specs.declared.errors.StmtError.{StmtError}
 use Rattle.seata_types.specs.declared.errors.StmtError.TheVariants as errors
@@ -11,8 +11,6 @@ use Rattle.local_tables.specs.Calls.{Call, Meaning}
 use Rattle.local_tables.specs.Checks.{knows_columns, fills_columns, leaves_key, has_types}
 use Rattle.local_tables.specs.Rows.{Rows, Change}
 use Rattle.local_tables.specs.Touches.{first_taken}
-use Rattle.local_tables.specs.declared.schemas.EffectError.{EffectError}
-use Rattle.local_tables.specs.declared.schemas.EffectError.TheVariants as answer
 use Rattle.local_tables.specs.declared.schemas.TableDef.{TableDef}
 
 -- the first of the errors that the definition alone shows
@@ -52,9 +50,3 @@ fault seen None None count =
 abbrev pub answer_of : Option StmtError → Call → Meaning Call
 answer_of None after = Ok after
 answer_of (Some why) after = Err why
-
--- what the statements of a call come to, and what the run of them answers; want of memory is free
-abbrev pub Runs : Result Call (ℕ × StmtError) → Result Call EffectError → Type 0
-Runs meaning (Ok after) = meaning ≡ Ok after
-Runs meaning (Err (answer.At index why)) = meaning ≡ Err (index, why)
-Runs meaning (Err answer.NoMemory) = Unit {0}

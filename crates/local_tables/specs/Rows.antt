@@ -1,5 +1,5 @@
 -- The rows of a resource as one finite map from table and key to row, and what images put on it.
-use Rattle.std.specs.Prelude.{◌≡◌, ◌==◌, ◌&&◌, ℕ, Bool, List, [], ◌∷◌, map, All, Option, Some, None, IsSome, option_map, find, filter_map, slice_get}
+use Rattle.std.specs.Prelude.{◌≡◌, ◌==◌, ◌&&◌, ℕ, Bool, List, [], ◌∷◌, map, All, Option, Some, None, IsSome, option_map, option_and_then, find, filter_map, slice_get}
 use Rattle.std.specs.BTreeMap.{insert_entry, is_at}
 use Rattle.std.specs.Map.{lookup, remove_entry, keys_of}
 use Rattle.std.specs.List.{IsDistinct}
@@ -61,24 +61,33 @@ is_named name def = same_text def.name name
 abbrev pub table_named : Schema → List ℕ → Option TableDef
 table_named schema name = find (is_named name) schema.tables
 
--- the key of a row of a table
-abbrev pub key_in : ℕ → TableDef → Value → RowKey
+-- what f gives of each, where it gives something of all
+abbrev pub each_of : {X Y : Type 0} → (X → Option Y) → List X → Option (List Y)
+each_of f [] = Some []
+each_of f (x ∷ xs) = option_and_then (λ y. option_map (λ ys. y ∷ ys) (each_of f xs)) (f x)
+
+-- a row's values in the key columns, in key order
+abbrev pub key_values : TableDef → Row → Option (List Value)
+key_values def row = each_of (slice_get row.0) def.key
+
+-- the key of a row of a table, by the values of the key columns
+abbrev pub key_in : ℕ → TableDef → List Value → RowKey
 key_in resource def pk = record { resource = resource; table = def.name; pk = pk }
 
 -- whether a key is of this table
 abbrev pub is_in : ℕ → TableDef → RowKey → Bool
 is_in resource def key = (key.resource == resource) && same_text key.table def.name
 
-abbrev pub with_key : ℕ → TableDef → Row → Value → RowKey × Row
+abbrev pub with_key : ℕ → TableDef → Row → List Value → RowKey × Row
 with_key resource def row pk = (key_in resource def pk, row)
 
--- a row of a table with its key, which is the value of the key column
+-- a row of a table with its key, which has the values of the key columns
 abbrev pub keyed : ℕ → TableDef → Row → Option (RowKey × Row)
-keyed resource def row = option_map (with_key resource def row) (slice_get row.0 def.key)
+keyed resource def row = option_map (with_key resource def row) (key_values def row)
 
--- the key column of a row has this key's value
+-- the key columns of a row have this key's values
 abbrev pub HasKey : Schema → RowKey → Row → Type 0
-HasKey schema key row = (def : TableDef) → table_named schema key.table ≡ Some def → slice_get row.0 def.key ≡ Some key.pk
+HasKey schema key row = (def : TableDef) → table_named schema key.table ≡ Some def → key_values def row ≡ Some key.pk
 
 -- ---- the tables at the opening
 
@@ -97,7 +106,7 @@ abbrev pub opened : ℕ → Schema → List (List ℕ × Row) → Database
 opened resource schema opening =
     record { resource = resource; schema = schema; rows = put_all [] (map comes (opening_rows resource schema opening)) }
 
--- opening rows of the schema's tables, each with a value in its key column, and no two with one key
+-- opening rows of the schema's tables, each with values in its key columns, and no two with one key
 pub record IsOpening (resource : ℕ) (schema : Schema) (opening : List (List ℕ × Row)) : Type 0 where
   pub each : All (λ o. IsSome (keyed_row resource schema o)) opening
   pub different : IsDistinct is_key (keys_of (opening_rows resource schema opening))

@@ -1,5 +1,6 @@
--- What holds of the tables of a resource at all times, and of the changes of a call on them.
-use Rattle.std.specs.Prelude.{◌≡◌, ℕ, List, Option, Some, None}
+-- For the proofs alone: what holds of the tables of a resource at all times, and of the changes of a call on them.
+use Rattle.std.specs.Prelude.{◌≡◌, ℕ, Bool, List, [], ◌∷◌, Option, Some, None, is_some, is_none}
+use Rattle.std.proofs.Common.{Bor}
 use Rattle.std.specs.List.{AllByRecursion}
 use Rattle.std.specs.Map.{set_value, remove_entry}
 use Rattle.seata_types.specs.declared.rows.Row.{Row}
@@ -31,3 +32,19 @@ AreChangesOf resource schema changes = AllByRecursion (IsChangeOf resource schem
 abbrev pub restored : Rows → RowKey → Option Row → Rows
 restored rows key (Some row) = set_value (is_key key) rows row
 restored rows key None = remove_entry (is_key key) rows
+
+-- whether a change puts a row, or takes one away
+abbrev pub puts : Change → Bool
+puts c = is_some c.1
+
+abbrev pub removes : Change → Bool
+removes c = is_none c.1
+
+-- a key with the row that stood there
+abbrev pub kept_at : Bor RowKey × Option Row → RowKey × Option Row
+kept_at k = (k.0.now, k.1)
+
+-- the rows after all that was kept stands again, from the last one on
+abbrev pub given_back : Rows → List (RowKey × Option Row) → Rows
+given_back rows [] = rows
+given_back rows (k ∷ ks) = restored (given_back rows ks) k.0 k.1

@@ -1,9 +1,9 @@
 //! Images put on the tables, or taken back.
-ghost use Rattle.std.specs.Prelude.{◌≡◌, map, Some, None, IfOk, OnOk, OnErr};
+ghost use Rattle.std.specs.Prelude.{◌≡◌, ◌∷◌, [], map, filter, Some, None, IfOk, OnOk, OnErr};
 ghost use Rattle.std.specs.List.{IsDistinct};
 ghost use Rattle.std.specs.Map.{set_value};
 ghost use Rattle.local_tables.specs.Rows.{IsMap, is_key, key_of, put, put_all, row_at, side};
-ghost use Rattle.local_tables.specs.Sound.{restored};
+ghost use Rattle.local_tables.specs.Sound.{restored, given_back, kept_at, puts, removes};
 
 use crate::schemas::Way;
 use crate::tables::Tables;
@@ -16,7 +16,6 @@ impl Tables {
     ghost use Rattle.local_tables.specs.Rows.{AreImagesOf, applied};
 
     /// Puts every image's after, or with `Way::Undo` every image's before. Without memory the tables stay as they are.
-    /// Recurses as deep as there are images.
     pub fn apply(&mut self, alloc: Global, images: &[Image], way: Way) -> Result<(), NoMemory>
         requires { AreImagesOf self.old images.now }
         ensures done { OnOk result (self.new ≡ applied way images.now self.old) }
@@ -37,8 +36,8 @@ fn side(image: &Image, way: Way) -> &Option<Row>
     }
 }
 
-/// Puts one side of each image: its insertions first, and its removals, which need no memory, last. Without memory all
-/// is as before.
+/// Puts one side of each image: its rows first, and its removals, which need no memory, last. Without memory all is as
+/// before.
 fn put_sides(
     alloc: Global,
     rows: &mut BTreeMap<RowKey, Row>,
@@ -50,20 +49,77 @@ fn put_sides(
     ensures done { OnOk result (rows.new.entries ≡ put_all rows.old.entries (map (side way) images.now)) }
     ensures failed { OnErr result (rows.new.entries ≡ rows.old.entries) }
 {
-    let Some((image, rest)) = images.split_first() else {
-        return Ok(());
-    };
+    put_rows(alloc, rows, images, way)?;
+    remove_rows(rows, images, way);
+    Ok(())
+}
+
+/// Puts the rows of one side of the images. Without memory all is as before.
+fn put_rows(
+    alloc: Global,
+    rows: &mut BTreeMap<RowKey, Row>,
+    images: &[Image],
+    way: Way,
+) -> Result<(), NoMemory>
+    requires { IsMap rows.old.entries }
+    ensures done { OnOk result (rows.new.entries ≡ put_all rows.old.entries (filter puts (map (side way) images.now))) }
+    ensures failed { OnErr result (rows.new.entries ≡ rows.old.entries) }
+{
+    let mut kept = Vec::new(alloc);
+    for image in images {
+        if let Err(error) = put_row(alloc, rows, image, way, &mut kept) {
+            put_all_back(rows, kept);
+            return Err(error);
+        }
+    }
+    Ok(())
+}
+
+/// Puts the row of one side of an image, if it has one there, and keeps what stood at its key. Without memory what is kept
+/// still gives all back.
+fn put_row<'a>(
+    alloc: Global,
+    rows: &mut BTreeMap<RowKey, Row>,
+    image: &'a Image,
+    way: Way,
+    kept: &mut Vec<(&'a RowKey, Option<Row>)>,
+) -> Result<(), NoMemory>
+    requires { IsMap rows.old.entries }
+    ensures done { OnOk result (rows.new.entries ≡ put_all rows.old.entries (filter puts (side way image.now ∷ []))) }
+    ensures kept { given_back rows.new.entries (map kept_at kept.new.items) ≡ given_back rows.old.entries (map kept_at kept.old.items) }
+    ensures in_order { IsMap rows.new.entries }
+{
     let Some(row) = side(image, way) else {
-        put_sides(alloc, rows, rest, way)?;
-        remove(rows, &image.key);
         return Ok(());
     };
     let old = exchange(alloc, rows, &image.key, row)?;
-    if let Err(error) = put_sides(alloc, rows, rest, way) {
-        put_back(rows, &image.key, old);
-        return Err(error);
+    if let Err(refused) = kept.push((&image.key, old)) {
+        let (key, old) = refused.value;
+        put_back(rows, key, old);
+        return Err(NoMemory);
     }
     Ok(())
+}
+
+/// Lets all rows stand again that were kept, from the last one on; takes no memory.
+fn put_all_back(rows: &mut BTreeMap<RowKey, Row>, kept: Vec<(&RowKey, Option<Row>)>)
+    ensures { rows.new.entries ≡ given_back rows.old.entries (map kept_at kept.entry.items) }
+{
+    let mut left = kept;
+    while let Some((key, old)) = left.pop() {
+        put_back(rows, key, old);
+    }
+}
+
+/// Takes the rows away at the keys of the images that put none; takes no memory.
+fn remove_rows(rows: &mut BTreeMap<RowKey, Row>, images: &[Image], way: Way)
+    ensures { rows.new.entries ≡ put_all rows.old.entries (filter removes (map (side way) images.now)) }
+{
+    for image in images {
+        if side(image, way).is_none() {
+            remove(rows, &image.key);
+        }
+    }
 }
 
 /// Puts a copy of a row at a key: the row that stood there. Without memory all is as before.
@@ -73,9 +129,11 @@ fn exchange(
     key: &RowKey,
     row: &Row,
 ) -> Result<Option<Row>, NoMemory>
+    requires { IsMap rows.old.entries }
     ensures old { IfOk result (λ old. old ≡ row_at rows.old.entries key.now) }
     ensures done { OnOk result (rows.new.entries ≡ put rows.old.entries key.now (Some row.now)) }
     ensures failed { OnErr result (rows.new.entries ≡ rows.old.entries) }
+    ensures in_order { IsMap rows.new.entries }
 {
     let (key, row) = (key.copy(alloc)?, row.copy(alloc)?);
     let old = rows.insert(key, row).map_err(|_| NoMemory)?;

@@ -1,7 +1,7 @@
 //! What is asked of a statement by its table's definition alone, whatever the rows are.
-ghost use Rattle.std.specs.Prelude.{◌≡◌, map};
+ghost use Rattle.std.specs.Prelude.{◌≡◌, map, Some};
 ghost use Rattle.std.specs.List.{list_all, list_any};
-ghost use Rattle.local_tables.specs.Checks.{table_of, passes, is_column, knows_term, knows_part, knows_set, knows_condition, knows_columns, times, is_once, name_of, has_length, set_name, fills_columns, is_place, sets_key, leaves_key};
+ghost use Rattle.local_tables.specs.Checks.{table_of, passes, is_column, knows_term, knows_part, knows_set, knows_condition, knows_columns, times, is_once, name_of, has_length, set_name, fills_columns, is_among, is_key_column, sets_key, leaves_key};
 
 use crate::conditions::place_of;
 use crate::schemas::{ColType, TableDef};
@@ -48,10 +48,7 @@ fn knows_terms(def: &TableDef, expr: &Expr) -> bool
 fn knows_set(def: &TableDef, set: &(Text, Expr)) -> bool
     ensures { result ≡ knows_set def.now set.now }
 {
-    if !is_column(def, &set.0) || !knows_term(def, &set.1.first) {
-        return false;
-    }
-    knows_terms(def, &set.1)
+    is_column(def, &set.0) && knows_term(def, &set.1.first) && knows_terms(def, &set.1)
 }
 
 fn knows_condition(def: &TableDef, cond: &Cond) -> bool
@@ -59,18 +56,8 @@ fn knows_condition(def: &TableDef, cond: &Cond) -> bool
 {
     match &cond.node {
         CondNode::Cmp { column, .. } => is_column(def, column),
-        CondNode::And(left, right) => {
-            if !knows_condition(def, left) {
-                return false;
-            }
-            knows_condition(def, right)
-        }
-        CondNode::Or(left, right) => {
-            if !knows_condition(def, left) {
-                return false;
-            }
-            knows_condition(def, right)
-        }
+        CondNode::And(left, right) => knows_condition(def, left) && knows_condition(def, right),
+        CondNode::Or(left, right) => knows_condition(def, left) && knows_condition(def, right),
         CondNode::Not(inner) => knows_condition(def, inner),
     }
 }
@@ -103,10 +90,7 @@ pub fn knows_columns(def: &TableDef, stmt: &Stmt) -> bool
     match stmt {
         Stmt::Insert { columns, .. } => knows_names(def, columns.as_slice()),
         Stmt::Update { sets, cond, .. } => {
-            if !knows_sets(def, sets.as_slice()) {
-                return false;
-            }
-            knows_asked(def, cond)
+            knows_sets(def, sets.as_slice()) && knows_asked(def, cond)
         }
         Stmt::Delete { cond, .. } => knows_asked(def, cond),
         Stmt::Select { cond, .. } => knows_asked(def, cond),
@@ -162,10 +146,7 @@ pub fn fills_columns(def: &TableDef, stmt: &Stmt) -> bool
     match stmt {
         Stmt::Insert { columns, rows, .. } => {
             let names = columns.as_slice();
-            if !each_once(names, def.columns.as_slice()) {
-                return false;
-            }
-            have_length(rows.as_slice(), names.len())
+            each_once(names, def.columns.as_slice()) && have_length(rows.as_slice(), names.len())
         }
         Stmt::Update { sets, .. } => sets_once(sets.as_slice()),
         Stmt::Delete { .. } => true,
@@ -173,13 +154,21 @@ pub fn fills_columns(def: &TableDef, stmt: &Stmt) -> bool
     }
 }
 
-// ---- an UPDATE leaves the key column
+// ---- an UPDATE leaves the key columns
 
-fn sets_key(def: &TableDef, set: &(Text, Expr)) -> bool
-    ensures { result ≡ sets_key def.now set.now }
+/// Whether a place is one of those of the key columns.
+fn is_among(keys: &[u16], place: usize) -> bool
+    ensures { result ≡ is_among keys.now (Some place) }
 {
-    match place_of(def, &set.0) {
-        Some(place) => place == usize::from(def.key),
+    keys.iter().any(|key| place == usize::from(*key))
+}
+
+/// Whether a column is a key column.
+pub fn is_key_column(def: &TableDef, name: &Text) -> bool
+    ensures { result ≡ is_key_column def.now name.now }
+{
+    match place_of(def, name) {
+        Some(place) => is_among(def.key.as_slice(), place),
         None => false,
     }
 }
@@ -187,7 +176,7 @@ fn sets_key(def: &TableDef, set: &(Text, Expr)) -> bool
 fn set_the_key(def: &TableDef, sets: &[(Text, Expr)]) -> bool
     ensures { result ≡ list_any (sets_key def.now) sets.now }
 {
-    sets.iter().any(|set| sets_key(def, set))
+    sets.iter().any(|set| is_key_column(def, &set.0))
 }
 
 /// Whether an UPDATE leaves the key column as it is.

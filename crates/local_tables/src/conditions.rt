@@ -69,18 +69,8 @@ pub fn holds(def: &TableDef, row: &Row, cond: &Cond) -> bool
 {
     match &cond.node {
         CondNode::Cmp { column, op, value } => compares(*op, value, cell(def, row, column)),
-        CondNode::And(left, right) => {
-            if !holds(def, row, left) {
-                return false;
-            }
-            holds(def, row, right)
-        }
-        CondNode::Or(left, right) => {
-            if holds(def, row, left) {
-                return true;
-            }
-            holds(def, row, right)
-        }
+        CondNode::And(left, right) => holds(def, row, left) && holds(def, row, right),
+        CondNode::Or(left, right) => holds(def, row, left) || holds(def, row, right),
         CondNode::Not(inner) => !holds(def, row, inner),
     }
 }

@@ -15,13 +15,12 @@ impl Tables {
     ghost use Rattle.std.specs.Prelude.{◌≡◌, ◌≤◌, length, Ok, IfOk};
     ghost use Rattle.local_tables.specs.Calls.{nothing, steps, Means, effect};
     ghost use Rattle.local_tables.specs.Rows.{AreRising, AreImagesOf};
-    ghost use Rattle.local_tables.specs.Refusals.{Runs};
     ghost use Rattle.local_tables.specs.Sound.{AreChangesOf};
 
     /// The statements one after the other: what they did, or the first without a meaning, counted from 1, and why.
     fn run(&self, alloc: Global, stmts: &[Stmt]) -> Result<CallState, EffectError>
         requires { length stmts.now ≤ 65535 }
-        ensures meaning { Runs (steps self.now 0 (Ok nothing) stmts.now) result }
+        ensures meaning { Means (steps self.now 0 (Ok nothing) stmts.now) result }
         ensures changes { IfOk result (λ call. AreChangesOf self.now.resource self.now.schema call.changes) }
     {
         let mut call = CallState::new(alloc);

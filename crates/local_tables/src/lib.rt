@@ -12,13 +12,9 @@ mod maps;
 mod matching;
 mod refusing;
 pub mod schemas;
-#[cfg(test)]
-mod scripts;
 mod state;
 mod steps;
 mod tables;
-#[cfg(test)]
-mod tests;
 mod touching;
 mod typing;
 

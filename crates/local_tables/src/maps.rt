@@ -4,9 +4,10 @@ ghost use Rattle.std.specs.BTreeMap.{insert_entry};
 ghost use Rattle.std.specs.Option.{option_copied};
 ghost use Rattle.seata_types.specs.Orders.{key_cmp};
 ghost use Rattle.local_tables.specs.Lookups.{IsRising, change_at, over};
-ghost use Rattle.local_tables.specs.Rows.{row_at};
+ghost use Rattle.local_tables.specs.Rows.{key_in, row_at};
 
-use seata_types::{Duplicate, NoMemory, Row, RowKey};
+use crate::schemas::TableDef;
+use seata_types::{Duplicate, List, NoMemory, Row, RowKey, Value};
 use std::alloc::Global;
 use std::collections::BTreeMap;
 
@@ -18,6 +19,22 @@ pub fn copied<T: Duplicate>(alloc: Global, value: Option<&T>) -> Result<Option<T
         Some(value) => Ok(Some(value.copy(alloc)?)),
         None => Ok(None),
     }
+}
+
+/// The key of a row of a table, by the values of its key columns.
+pub fn key_in(
+    alloc: Global,
+    resource: u16,
+    def: &TableDef,
+    values: List<Value>,
+) -> Result<RowKey, NoMemory>
+    ensures { IfOk result (λ key. key ≡ key_in resource def.now values) }
+{
+    Ok(RowKey {
+        resource,
+        table: def.name.copy(alloc)?,
+        pk: values,
+    })
 }
 
 /// Puts a value at a key. Without memory all is as before.

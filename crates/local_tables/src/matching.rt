@@ -1,18 +1,18 @@
 //! The rows of a table of which a condition holds, under the changes of a call so far.
-ghost use Rattle.std.specs.Prelude.{◌≡◌, map, IfOk, OnOk, OnErr};
+ghost use Rattle.std.specs.Prelude.{◌≡◌, map, option_and_then, IfOk, OnOk, OnErr};
+ghost use Rattle.local_tables.specs.Cells.{place_of};
+ghost use Rattle.local_tables.specs.Checks.{is_place};
 ghost use Rattle.std.specs.Option.{option_copied};
 ghost use Rattle.seata_types.specs.Orders.{key_cmp};
 ghost use Rattle.local_tables.specs.Rows.{is_in, key_in, row_at, put, put_all, IsMap};
 ghost use Rattle.local_tables.specs.Touches.{is_matched, matched};
 ghost use Rattle.local_tables.specs.Calls.{insert_all};
-ghost use Rattle.local_tables.specs.Checks.{is_place};
-ghost use Rattle.local_tables.specs.Lookups.{IsRising, HasKeysOf, over, change_at, kept, is_equality, key_literal, key_above, is_before, Passes, only};
-ghost use Rattle.local_tables.specs.Cells.{place_of};
+ghost use Rattle.local_tables.specs.Lookups.{IsRising, HasKeysOf, over, change_at, kept, is_equality, literal_at, key_literals, key_above, is_before, Passes, only};
 
 use crate::conditions::{place_of, selects};
-use crate::maps::{insert, present};
+use crate::maps::{insert, key_in, present};
 use crate::schemas::TableDef;
-use seata_types::{Cond, CondNode, Duplicate, NoMemory, Op, Row, RowKey, Text, Value};
+use seata_types::{Cond, CondNode, Duplicate, List, NoMemory, Op, Row, RowKey, Text, Value};
 use std::alloc::Global;
 use std::collections::BTreeMap;
 
@@ -20,20 +20,14 @@ use std::collections::BTreeMap;
 fn is_in(resource: u16, def: &TableDef, key: &RowKey) -> bool
     ensures { result ≡ is_in resource def.now key.now }
 {
-    if key.resource != resource {
-        return false;
-    }
-    key.table == def.name
+    key.resource == resource && key.table == def.name
 }
 
 /// Whether a row is of a table and a condition holds of it.
 fn is_matched(resource: u16, def: &TableDef, cond: &Option<Cond>, key: &RowKey, row: &Row) -> bool
     ensures { result ≡ is_matched resource def.now cond.now (key.now, row.now) }
 {
-    if !is_in(resource, def, key) {
-        return false;
-    }
-    selects(def, cond, row)
+    is_in(resource, def, key) && selects(def, cond, row)
 }
 
 /// Whether a key is of a table that stands before this one.
@@ -55,7 +49,7 @@ fn key_above(alloc: Global, resource: u16, def: &TableDef) -> Result<RowKey, NoM
     Ok(RowKey {
         resource,
         table: Text::of(name),
-        pk: Value::Int(0),
+        pk: List::of(Vec::new(alloc)),
     })
 }
 
@@ -123,20 +117,31 @@ fn passed(
     Ok(found)
 }
 
-/// The literal that the key column equals wherever a condition holds, where the condition says so.
-fn key_literal<'a>(def: &TableDef, cond: &'a Cond) -> Option<&'a Value>
-    ensures { option_copied result ≡ key_literal def.now cond.now }
+/// Whether a column stands at a place.
+fn is_place(def: &TableDef, name: &Text, place: u16) -> bool
+    ensures { result ≡ is_place place (place_of def.now name.now) }
+{
+    match place_of(def, name) {
+        Some(other) => other == usize::from(place),
+        None => false,
+    }
+}
+
+/// The literal that the column at a place equals wherever a condition holds, where the condition says so. Recurses over
+/// the condition, which has at most as many levels as a statement's 2,000 bytes have comparisons.
+fn literal_at<'a>(def: &TableDef, cond: &'a Cond, place: u16) -> Option<&'a Value>
+    ensures { option_copied result ≡ literal_at def.now cond.now place }
 {
     match &cond.node {
         CondNode::Cmp { column, op, value } => {
-            if !is_equality(*op) || !is_key_column(def, column) {
+            if !is_equality(*op) || !is_place(def, column, place) {
                 return None;
             }
             Some(value)
         }
-        CondNode::And(left, right) => match key_literal(def, left) {
+        CondNode::And(left, right) => match literal_at(def, left, place) {
             Some(literal) => Some(literal),
-            None => key_literal(def, right),
+            None => literal_at(def, right, place),
         },
         CondNode::Or(_, _) => None,
         CondNode::Not(_) => None,
@@ -149,34 +154,49 @@ fn is_equality(op: Op) -> bool
     matches!(op, Op::Eq)
 }
 
-fn is_key_column(def: &TableDef, name: &Text) -> bool
-    ensures { result ≡ is_place def.now.key (place_of def.now name.now) }
+/// The literals of all key columns, where a condition asks for each.
+fn key_literals(alloc: Global, def: &TableDef, cond: &Cond) -> Result<Option<List<Value>>, NoMemory>
+    ensures { IfOk result (λ found. found ≡ key_literals def.now cond.now) }
 {
-    match place_of(def, name) {
-        Some(place) => place == usize::from(def.key),
-        None => false,
+    let mut values = Vec::new(alloc);
+    for place in def.key.as_slice() {
+        let Some(literal) = literal_at(def, cond, *place) else {
+            return Ok(None);
+        };
+        values.push(literal.copy(alloc)?).map_err(|_| NoMemory)?;
+    }
+    Ok(Some(List::of(values)))
+}
+
+/// The values of the one key that a condition asks for, where there is a condition and it asks for one.
+fn asked_key(
+    alloc: Global,
+    def: &TableDef,
+    cond: &Option<Cond>,
+) -> Result<Option<List<Value>>, NoMemory>
+    ensures { IfOk result (λ found. found ≡ option_and_then (key_literals def.now) cond.now) }
+{
+    match cond {
+        Some(asked) => key_literals(alloc, def, asked),
+        None => Ok(None),
     }
 }
 
-/// The one row of which a condition may hold that asks for the key of this value.
+/// The one row of which a condition may hold that asks for the key of these values.
 fn looked_up(
     alloc: Global,
     resource: u16,
     def: &TableDef,
     cond: &Option<Cond>,
-    literal: &Value,
+    values: List<Value>,
     rows: &BTreeMap<RowKey, Row>,
     changes: &BTreeMap<RowKey, Option<Row>>,
 ) -> Result<BTreeMap<RowKey, Row>, NoMemory>
-    ensures { let key = key_in resource def.now literal.now in
+    ensures { let key = key_in resource def.now values in
         IfOk result (λ found. found.entries ≡ only key
         (kept (is_matched resource def.now cond.now) (key, over (row_at rows.now.entries key) (change_at changes.now.entries key))).1) }
 {
-    let key = RowKey {
-        resource,
-        table: def.name.copy(alloc)?,
-        pk: literal.copy(alloc)?,
-    };
+    let key = key_in(alloc, resource, def, values)?;
     let mut found = BTreeMap::new(alloc);
     if let Some(row) = present(rows, changes, &key)
         && is_matched(resource, def, cond, &key, row)
@@ -186,8 +206,8 @@ fn looked_up(
     Ok(found)
 }
 
-/// The rows of a table of which the condition holds, under the changes. Where the condition asks for one key the row is
-/// looked up, else the rows of the table are passed.
+/// The rows of a table of which the condition holds, under the changes. Where the condition asks for one key, that
+/// is for all its columns, the row is looked up, else the rows of the table are passed.
 pub fn matched(
     alloc: Global,
     resource: u16,
@@ -201,11 +221,12 @@ pub fn matched(
     requires keyed { HasKeysOf def.now (put_all rows.now.entries changes.now.entries) }
     ensures { IfOk result (λ found. found.entries ≡ matched resource def.now cond.now (put_all rows.now.entries changes.now.entries)) }
 {
-    if let Some(asked) = cond
-        && let Some(literal) = key_literal(def, asked)
-    {
-        let found = looked_up(alloc, resource, def, cond, literal, rows, changes)?;
-        return Ok(found);
+    let asked = asked_key(alloc, def, cond)?;
+    match asked {
+        Some(values) => {
+            let found = looked_up(alloc, resource, def, cond, values, rows, changes)?;
+            Ok(found)
+        }
+        None => passed(alloc, resource, def, cond, rows, changes),
     }
-    passed(alloc, resource, def, cond, rows, changes)
 }

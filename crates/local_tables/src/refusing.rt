@@ -92,10 +92,7 @@ fn is_taken(
     requires rising { IsRising changes.now.entries }
     ensures { result ≡ is_taken (put_all rows.now.entries changes.now.entries) (keys_of made.now) key.now }
 {
-    if is_there(rows, changes, key) {
-        return true;
-    }
-    times(made, key) > 1
+    is_there(rows, changes, key) || times(made, key) > 1
 }
 
 /// The first key of changes that is there already, or that stands twice.

@@ -1,5 +1,6 @@
 //! What a resource's tables are like, and what calls on them answer.
-use seata_types::{BranchKind, Image, List, ReadRow, StmtError, Text};
+use seata_types::{BranchKind, Duplicate, Image, List, NoMemory, ReadRow, StmtError, Text};
+use std::alloc::Global;
 
 /// The type of a column.
 #[derive(Clone, Copy, PartialEq, Eq)]
@@ -8,19 +9,45 @@ pub enum ColType {
     Text,
 }
 
-/// A table: its name, its mode, its columns in order, and the place of its key column among them, counted from 0.
+impl Duplicate for ColType {
+    fn copy(&self, _alloc: Global) -> Result<Self, NoMemory> {
+        Ok(*self)
+    }
+}
+
+/// A table: its name, its mode, its columns in order, and the places of its key columns among them, counted from 0, in
+/// key order. A key has one to four columns.
 #[derive(Drop)]
 pub struct TableDef {
     pub name: Text,
     pub mode: BranchKind,
     pub columns: List<(Text, ColType)>,
-    pub key: u16,
+    pub key: List<u16>,
+}
+
+impl Duplicate for TableDef {
+    fn copy(&self, alloc: Global) -> Result<Self, NoMemory> {
+        Ok(TableDef {
+            name: self.name.copy(alloc)?,
+            mode: self.mode,
+            columns: self.columns.copy(alloc)?,
+            key: self.key.copy(alloc)?,
+        })
+    }
 }
 
 /// The tables of a resource.
 #[derive(Drop)]
 pub struct Schema {
     pub tables: List<TableDef>,
+}
+
+impl Duplicate for Schema {
+    fn copy(&self, alloc: Global) -> Result<Self, NoMemory> {
+        Ok(Schema {
+            tables: self.tables.copy(alloc)?,
+        })
+    }
 }
 
 /// Whether images are done, which puts their afters, or undone, which puts their befores.

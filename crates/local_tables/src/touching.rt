@@ -1,12 +1,13 @@
 //! The rows that a statement touches and reads, under the changes of its call so far.
-ghost use Rattle.std.specs.Prelude.{◌≡◌, map, position, IfOk};
+ghost use Rattle.std.specs.Prelude.{◌≡◌, map, position, slice_get, IfOk};
 ghost use Rattle.seata_types.specs.Orders.{same_text};
 ghost use Rattle.std.specs.Option.{option_copied};
-ghost use Rattle.local_tables.specs.Rows.{comes, goes, keyed, put_all, IsMap};
+ghost use Rattle.local_tables.specs.Rows.{comes, goes, key_values, keyed, put_all, IsMap};
 ghost use Rattle.local_tables.specs.Touches.{value_for, tuple_row, inserted, becomes, touches, readings};
 ghost use Rattle.local_tables.specs.Lookups.{IsRising, HasKeysOf};
 
 use crate::expressions::updated;
+use crate::maps::key_in;
 use crate::matching::matched;
 use crate::schemas::{ColType, TableDef};
 use seata_types::{Duplicate, Expr, List, NoMemory, Row, RowKey, Stmt, Text, Value};
@@ -52,6 +53,27 @@ fn tuple_row(
     Ok(Row(List::of(cells)))
 }
 
+/// The cell at a place, counted from 0.
+fn cell_at(row: &Row, place: u16) -> Option<&Value>
+    ensures { option_copied result ≡ slice_get row.now.0 place }
+{
+    row.0.as_slice().get(usize::from(place))
+}
+
+/// A row's values in the key columns, in key order, where all are there.
+fn key_values(alloc: Global, def: &TableDef, row: &Row) -> Result<Option<List<Value>>, NoMemory>
+    ensures { IfOk result (λ found. found ≡ key_values def.now row.now) }
+{
+    let mut values = Vec::new(alloc);
+    for place in def.key.as_slice() {
+        let Some(value) = cell_at(row, *place) else {
+            return Ok(None);
+        };
+        values.push(value.copy(alloc)?).map_err(|_| NoMemory)?;
+    }
+    Ok(Some(List::of(values)))
+}
+
 /// A row of a table with its key.
 pub fn keyed(
     alloc: Global,
@@ -61,14 +83,10 @@ pub fn keyed(
 ) -> Result<Option<(RowKey, Row)>, NoMemory>
     ensures { IfOk result (λ entry. entry ≡ keyed resource def.now row) }
 {
-    let Some(value) = row.0.as_slice().get(usize::from(def.key)) else {
+    let Some(values) = key_values(alloc, def, &row)? else {
         return Ok(None);
     };
-    let key = RowKey {
-        resource,
-        table: def.name.copy(alloc)?,
-        pk: value.copy(alloc)?,
-    };
+    let key = key_in(alloc, resource, def, values)?;
     Ok(Some((key, row)))
 }
 

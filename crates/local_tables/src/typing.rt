@@ -69,10 +69,7 @@ fn sum_fits(def: &TableDef, wanted: Option<ColType>, expr: &Expr) -> bool
     if rest.is_empty() {
         return same_type(wanted, term_type(def, &expr.first));
     }
-    if !same_type(wanted, Some(ColType::Int)) || !is_number(def, &expr.first) {
-        return false;
-    }
-    are_numbers(def, rest)
+    same_type(wanted, Some(ColType::Int)) && is_number(def, &expr.first) && are_numbers(def, rest)
 }
 
 fn fits_set(def: &TableDef, set: &(Text, Expr)) -> bool
@@ -92,18 +89,8 @@ fn fits_condition(def: &TableDef, cond: &Cond) -> bool
 {
     match &cond.node {
         CondNode::Cmp { column, value, .. } => fits_column(def, column, value),
-        CondNode::And(left, right) => {
-            if !fits_condition(def, left) {
-                return false;
-            }
-            fits_condition(def, right)
-        }
-        CondNode::Or(left, right) => {
-            if !fits_condition(def, left) {
-                return false;
-            }
-            fits_condition(def, right)
-        }
+        CondNode::And(left, right) => fits_condition(def, left) && fits_condition(def, right),
+        CondNode::Or(left, right) => fits_condition(def, left) && fits_condition(def, right),
         CondNode::Not(inner) => fits_condition(def, inner),
     }
 }
@@ -141,10 +128,7 @@ pub fn has_types(def: &TableDef, stmt: &Stmt) -> bool
     match stmt {
         Stmt::Insert { columns, rows, .. } => fits_tuples(def, columns.as_slice(), rows.as_slice()),
         Stmt::Update { sets, cond, .. } => {
-            if !fits_sets(def, sets.as_slice()) {
-                return false;
-            }
-            fits_asked(def, cond)
+            fits_sets(def, sets.as_slice()) && fits_asked(def, cond)
         }
         Stmt::Delete { cond, .. } => fits_asked(def, cond),
         Stmt::Select { cond, .. } => fits_asked(def, cond),

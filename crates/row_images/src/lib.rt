@@ -4,8 +4,6 @@
 mod compared;
 mod joined;
 pub mod laws;
-#[cfg(test)]
-mod tests;
 mod undone;
 
 pub use compared::differs;

@@ -1,4 +1,14 @@
+pub mod Faults
 pub mod Numbers
+pub mod Names
+pub mod Tables
+pub mod Resources
+pub mod Calls
+pub mod Managers
+pub mod Nodes
+pub mod Steps
 pub mod Form
+pub mod Bases
 pub mod Reading
+pub mod Contents
 pub mod Runnable

@@ -1,7 +1,12 @@
 //! Why an input isn't a scenario.
-use seata_types::Text;
+ghost use Rattle.std.specs.Prelude.{◌≡◌, ◌≢◌, ◌++◌, [], IfOk};
+ghost use Rattle.scenario_reader.specs.Faults.{IsMoved, moved, to_member, to_item};
+ghost use Rattle.scenario_reader.specs.declared.errors.ScenarioError.TheVariants as fault;
 
-/// Why an input isn't a scenario. Paths are JSON pointers; the root is `.`.
+use seata_types::{NoMemory, Text};
+use std::alloc::{AllocError, AllocFailed, Global};
+
+/// Why an input isn't a scenario. Paths are JSON pointers, with places counted from 0; the root is `.`.
 #[derive(Drop)]
 pub enum ScenarioError {
     /// Not JSON of nesting at most 127.
@@ -17,4 +22,139 @@ pub enum ScenarioError {
     /// A name that is used twice, or that isn't there.
     Name { path: Text },
     NoMemory,
+}
+
+/// The path of a value from itself.
+fn here(alloc: Global) -> Text
+    ensures { result ≡ [] }
+{
+    Text::of(String::new(alloc))
+}
+
+/// This path in front of that one.
+fn joined(alloc: Global, front: &str, path: &Text) -> Result<Text, NoMemory>
+    ensures { IfOk result (λ whole. whole ≡ front.now ++ path.now) }
+{
+    let mut whole = String::from_str(alloc, front).map_err(|_| NoMemory)?;
+    whole.push_str(path.as_str()).map_err(|_| NoMemory)?;
+    Ok(Text::of(whole))
+}
+
+impl ScenarioError {
+    /// The value's own shape.
+    pub(crate) fn shape(alloc: Global) -> ScenarioError
+        ensures { result ≡ fault.Shape [] }
+    {
+        ScenarioError::Shape { path: here(alloc) }
+    }
+
+    /// The value's own size, with the bound that it passes.
+    pub(crate) fn beyond(alloc: Global, limit: u64) -> ScenarioError
+        ensures { result ≡ fault.Limit [] limit }
+    {
+        let path = here(alloc);
+        ScenarioError::Limit { path, limit }
+    }
+
+    /// The value is a statement of another mode.
+    pub(crate) fn mode(alloc: Global) -> ScenarioError
+        ensures { result ≡ fault.Mode [] }
+    {
+        ScenarioError::Mode { path: here(alloc) }
+    }
+
+    /// The value is a name that is used, or that isn't there.
+    pub(crate) fn name(alloc: Global) -> ScenarioError
+        ensures { result ≡ fault.Name [] }
+    {
+        ScenarioError::Name { path: here(alloc) }
+    }
+
+    /// The value is no statement.
+    pub(crate) fn sql(alloc: Global, at: usize) -> ScenarioError
+        ensures { result ≡ fault.Sql [] at }
+    {
+        let path = here(alloc);
+        ScenarioError::Sql { path, at }
+    }
+
+    fn moved(self, alloc: Global, front: &str) -> Result<ScenarioError, NoMemory>
+        ensures ok { IfOk result (λ fault. fault ≡ moved front.now self) }
+        ensures told { IfOk result (λ fault. fault ≢ ScenarioError.NoMemory → self ≢ ScenarioError.NoMemory) }
+    {
+        match self {
+            ScenarioError::Shape { path } => {
+                let path = joined(alloc, front, &path)?;
+                Ok(ScenarioError::Shape { path })
+            }
+            ScenarioError::Limit { path, limit } => {
+                let path = joined(alloc, front, &path)?;
+                Ok(ScenarioError::Limit { path, limit })
+            }
+            ScenarioError::Sql { path, at } => {
+                let path = joined(alloc, front, &path)?;
+                Ok(ScenarioError::Sql { path, at })
+            }
+            ScenarioError::Mode { path } => {
+                let path = joined(alloc, front, &path)?;
+                Ok(ScenarioError::Mode { path })
+            }
+            ScenarioError::Name { path } => {
+                let path = joined(alloc, front, &path)?;
+                Ok(ScenarioError::Name { path })
+            }
+            ScenarioError::NotJson => Ok(ScenarioError::NotJson),
+            ScenarioError::NoMemory => Ok(ScenarioError::NoMemory),
+        }
+    }
+
+    /// The fault of a value, as one of the value that has it under this name.
+    pub(crate) fn in_member(self, alloc: Global, name: &str) -> ScenarioError
+        ensures { IsMoved (to_member name.now) self result }
+    {
+        match format!(in alloc; "/{name}") {
+            Ok(front) => match self.moved(alloc, front.as_str()) {
+                Ok(fault) => fault,
+                Err(NoMemory) => ScenarioError::NoMemory,
+            },
+            Err(_) => ScenarioError::NoMemory,
+        }
+    }
+
+    /// The fault of a value, as one of the list that has it at this place, counted from 0.
+    pub(crate) fn in_item(self, alloc: Global, place: usize) -> ScenarioError
+        ensures { IsMoved (to_item place) self result }
+    {
+        match format!(in alloc; "/{place}") {
+            Ok(front) => match self.moved(alloc, front.as_str()) {
+                Ok(fault) => fault,
+                Err(NoMemory) => ScenarioError::NoMemory,
+            },
+            Err(_) => ScenarioError::NoMemory,
+        }
+    }
+}
+
+impl From<NoMemory> for ScenarioError {
+    ghost from_gives = { λ _ e. e ≡ fault.NoMemory };
+
+    fn from(_refused: NoMemory) -> ScenarioError {
+        ScenarioError::NoMemory
+    }
+}
+
+impl From<AllocError> for ScenarioError {
+    ghost from_gives = { λ _ e. e ≡ fault.NoMemory };
+
+    fn from(_refused: AllocError) -> ScenarioError {
+        ScenarioError::NoMemory
+    }
+}
+
+impl<T: Drop> From<AllocFailed<T>> for ScenarioError {
+    ghost from_gives = { λ _ e. e ≡ fault.NoMemory };
+
+    fn from(_refused: AllocFailed<T>) -> ScenarioError {
+        ScenarioError::NoMemory
+    }
 }

@@ -1,17 +1,25 @@
 //! Scenarios: what the program runs, and the JSON form that they are read from.
-//! `read` accepts exactly the form of docs/SCENARIO.md and names the cause otherwise.
+//! `read` accepts exactly the form of docs/SCENARIO.md and names the first cause otherwise.
 #![tactic(auto)]
 
+mod bases;
+mod calls;
 mod errors;
 mod forms;
+mod managers;
 mod names;
+mod nodes;
 mod numbers;
 mod reading;
+mod resources;
+mod rows;
 pub mod scenarios;
 mod schedules;
-#[cfg(test)]
-mod tests;
+mod settings;
+mod shapes;
+mod statements;
+mod tables;
 
 pub use errors::ScenarioError;
 pub use reading::read;
-pub use scenarios::{ManagerDef, Scenario, ScheduleItem};
+pub use scenarios::{ManagerDef, ResourceDef, Scenario, ScheduleItem};

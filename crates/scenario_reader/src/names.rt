@@ -1,10 +1,17 @@
-//! Names of nodes, and the words of the form.
-ghost use Rattle.std.specs.Prelude.{◌≡◌, ◌<◌, length, position, IfSome};
+//! Names of nodes, tables and columns, and where a name is looked up.
+ghost use Rattle.std.specs.Prelude.{◌≡◌, ◌<◌, ◌≤◌, ◌||◌, length, position, option_map, option_copied, IfSome, IfOk, IfErr};
 ghost use Rattle.std.specs.List.{list_all, list_any};
-ghost use Rattle.scenario_reader.specs.Form as form;
+ghost use Rattle.serde_json.specs.View.{view};
+ghost use Rattle.scenario_reader.specs.Names as form;
+ghost use Rattle.scenario_reader.specs.Faults.{Answers};
 
-use crate::scenarios::ManagerDef;
-use seata_types::limits::NODE_NAME_BYTES;
+use crate::errors::ScenarioError;
+use crate::scenarios::{ManagerDef, ResourceDef};
+use crate::shapes::text;
+use seata_types::Text;
+use seata_types::limits::{NAME_BYTES, NODE_NAME_BYTES};
+use serde_json::Value;
+use std::alloc::Global;
 
 fn is_letter(byte: u8) -> bool
     ensures { result ≡ form.is_letter byte }
@@ -12,26 +19,26 @@ fn is_letter(byte: u8) -> bool
     matches!(byte, b'A'..=b'Z' | b'a'..=b'z')
 }
 
-fn is_word(byte: u8) -> bool
-    ensures { result ≡ form.is_word byte }
+fn is_word_byte(byte: u8) -> bool
+    ensures { result ≡ form.is_word_byte byte }
 {
     matches!(byte, b'A'..=b'Z' | b'a'..=b'z' | b'0'..=b'9' | b'_')
 }
 
-fn all_words(text: &[u8]) -> bool
-    ensures { result ≡ list_all form.is_word text.now }
+fn all_word_bytes(text: &[u8]) -> bool
+    ensures { result ≡ list_all form.is_word_byte text.now }
 {
-    text.iter().all(|byte| is_word(*byte))
+    text.iter().all(|byte| is_word_byte(*byte))
 }
 
-/// A letter and then letters, digits and `_`.
-fn is_word_text(text: &[u8]) -> bool
-    ensures { result ≡ form.is_word_text text.now }
+/// Whether a text is a letter and then letters, digits and `_`.
+pub fn is_word(text: &str) -> bool
+    ensures { result ≡ form.is_word text.now }
 {
-    match text.split_first() {
+    match text.as_bytes().split_first() {
         Some((first, rest)) => {
             if is_letter(*first) {
-                return all_words(rest);
+                return all_word_bytes(rest);
             }
             false
         }
@@ -39,15 +46,12 @@ fn is_word_text(text: &[u8]) -> bool
     }
 }
 
-/// Whether a text may be a node's name.
-#[tactic(auto, unfolding(crate::specs::Form::is_node_name))]
-pub fn is_node_name(name: &str) -> bool
+/// Whether a text may be a node's name, however long.
+#[tactic(auto, unfolding(crate::specs::Names::is_node_name))]
+fn is_node_name(name: &str) -> bool
     ensures { result ≡ form.is_node_name name.now }
 {
-    if !is_word_text(name.as_bytes()) {
-        return false;
-    }
-    if name.len() > NODE_NAME_BYTES {
+    if !is_word(name) {
         return false;
     }
     if name == "tc" {
@@ -56,31 +60,154 @@ pub fn is_node_name(name: &str) -> bool
     name != "net"
 }
 
-/// Where among the managers this name stands.
-pub fn position_of(managers: &[ManagerDef], name: &str) -> Option<usize>
-    ensures value { result ≡ position (form.is_named name.now) managers.now }
+/// Where among the resources this name stands, counted from 0.
+pub fn resource_position(resources: &[ResourceDef], name: &str) -> Option<usize>
+    ensures value { result ≡ position (form.is_resource_named name.now) resources.now }
+    ensures within { IfSome result (λ k. k < length resources.now) }
+{
+    resources
+        .iter()
+        .position(|resource| name == resource.name.as_str())
+}
+
+/// Where among the managers this name stands, counted from 0.
+pub fn manager_position(managers: &[ManagerDef], name: &str) -> Option<usize>
+    ensures value { result ≡ position (form.is_manager_named name.now) managers.now }
     ensures within { IfSome result (λ k. k < length managers.now) }
 {
     managers
         .iter()
-        .position(|manager| manager.name.as_str() == name)
+        .position(|manager| name == manager.name.as_str())
 }
 
-/// Whether one of the managers has this name.
-fn has_name(managers: &[ManagerDef], name: &str) -> bool
-    ensures { result ≡ list_any (form.is_named name.now) managers.now }
+fn is_resource(resources: &[ResourceDef], name: &str) -> bool
+    ensures { result ≡ list_any (form.is_resource_named name.now) resources.now }
 {
-    managers.iter().any(|manager| manager.name.as_str() == name)
+    resources
+        .iter()
+        .any(|resource| name == resource.name.as_str())
 }
 
-/// Whether all managers have different names.
-pub fn are_distinct(managers: &[ManagerDef]) -> bool
-    ensures { result ≡ form.are_distinct managers.now }
+fn is_manager(managers: &[ManagerDef], name: &str) -> bool
+    ensures { result ≡ list_any (form.is_manager_named name.now) managers.now }
 {
-    for (k, manager) in managers.iter().enumerate() {
-        if has_name(&managers[k + 1..], manager.name.as_str()) {
-            return false;
-        }
+    managers.iter().any(|manager| name == manager.name.as_str())
+}
+
+/// A text's own copy.
+pub fn owned(alloc: Global, text: &str) -> Result<Text, ScenarioError>
+    ensures value { IfOk result (λ copy. copy ≡ text.now) }
+    ensures refused { IfErr result (λ e. e ≡ ScenarioError.NoMemory) }
+{
+    let copy = String::from_str(alloc, text)?;
+    Ok(Text::of(copy))
+}
+
+/// A node's name that no node has.
+#[tactic(auto, unfolding(crate::specs::Names::new_node_name))]
+fn new_node_name(
+    alloc: Global,
+    resources: &[ResourceDef],
+    managers: &[ManagerDef],
+    name: &str,
+) -> Result<Text, ScenarioError>
+    ensures { Answers (form.new_node_name resources.now managers.now name.now) result }
+{
+    if !is_node_name(name) {
+        return Err(ScenarioError::shape(alloc));
     }
-    true
+    if name.len() > NODE_NAME_BYTES {
+        return Err(ScenarioError::beyond(alloc, NODE_NAME_BYTES as u64));
+    }
+    if is_resource(resources, name) || is_manager(managers, name) {
+        return Err(ScenarioError::name(alloc));
+    }
+    owned(alloc, name)
+}
+
+/// A node's name that has to be there and that no node has.
+#[tactic(auto, unfolding(crate::specs::Names::new_node))]
+pub fn new_node(
+    alloc: Global,
+    resources: &[ResourceDef],
+    managers: &[ManagerDef],
+    found: Option<&Value>,
+) -> Result<Text, ScenarioError>
+    ensures { Answers (form.new_node resources.now managers.now (option_map view (option_copied found.entry))) result }
+{
+    let name = text(alloc, found)?;
+    new_node_name(alloc, resources, managers, name)
+}
+
+fn is_name_byte(byte: u8) -> bool
+    ensures { result ≡ form.is_name_byte byte }
+{
+    matches!(byte, b'a'..=b'z' | b'0'..=b'9' | b'_')
+}
+
+fn all_name_bytes(text: &[u8]) -> bool
+    ensures { result ≡ list_all form.is_name_byte text.now }
+{
+    text.iter().all(|byte| is_name_byte(*byte))
+}
+
+fn is_lower_word(text: &[u8]) -> bool
+    ensures { result ≡ form.is_lower_word text.now }
+{
+    match text.split_first() {
+        Some((first, rest)) => {
+            if matches!(*first, b'a'..=b'z') {
+                return all_name_bytes(rest);
+            }
+            false
+        }
+        None => false,
+    }
+}
+
+/// Whether this is a word of statements.
+fn is_keyword(name: &str) -> bool
+    ensures { result ≡ form.is_keyword name.now }
+{
+    name == "insert"
+        || name == "into"
+        || name == "values"
+        || name == "update"
+        || name == "set"
+        || name == "where"
+        || name == "delete"
+        || name == "from"
+        || name == "select"
+        || name == "for"
+        || name == "and"
+        || name == "or"
+        || name == "not"
+}
+
+/// Whether a text may be a table's or column's name, however long.
+#[tactic(auto, unfolding(crate::specs::Names::is_table_name))]
+pub fn is_table_name(name: &str) -> bool
+    ensures { result ≡ form.is_table_name name.now }
+{
+    if !is_lower_word(name.as_bytes()) {
+        return false;
+    }
+    !is_keyword(name)
+}
+
+/// A table's or column's name that isn't used.
+#[tactic(auto, unfolding(crate::specs::Names::new_name))]
+pub fn new_name(alloc: Global, used: bool, name: &str) -> Result<Text, ScenarioError>
+    ensures { Answers (form.new_name used name.now) result }
+{
+    if !is_table_name(name) {
+        return Err(ScenarioError::shape(alloc));
+    }
+    if name.len() > NAME_BYTES {
+        return Err(ScenarioError::beyond(alloc, NAME_BYTES as u64));
+    }
+    if used {
+        return Err(ScenarioError::name(alloc));
+    }
+    owned(alloc, name)
 }

@@ -1,68 +1,119 @@
 //! Numbers of the form: members that are numbers, and numbers in texts.
-ghost use Rattle.std.specs.Prelude.{◌≡◌, ◌≤◌, ◌<◌, IfSome};
+ghost use Rattle.std.specs.Prelude.{◌≡◌, ◌≤◌, ◌^◌, ◌-◌, min, IfOk, option_map, option_copied};
+ghost use Rattle.std.specs.List.{list_all};
 ghost use Rattle.serde_json.specs.Find.{get};
 ghost use Rattle.serde_json.specs.View.{view};
+ghost use Rattle.scenario_reader.specs.Faults.{Answers, member};
 ghost use Rattle.scenario_reader.specs.Numbers as numbers;
 
+use crate::errors::ScenarioError;
 use serde_json::Value;
+use std::alloc::Global;
 
-/// A whole number in a range.
+/// A number of a range.
+fn in_range(alloc: Global, least: u64, most: u64, number: u64) -> Result<u64, ScenarioError>
+    ensures exact { Answers (numbers.in_range least most number) result }
+    ensures within { IfOk result (λ n. n ≤ most) }
+    ensures counted { IfOk result (λ n. least ≤ n) }
+{
+    if number < least {
+        return Err(ScenarioError::beyond(alloc, least));
+    }
+    if most < number {
+        return Err(ScenarioError::beyond(alloc, most));
+    }
+    Ok(number)
+}
+
+/// A whole number of a range.
 #[tactic(auto, unfolding(crate::specs::Numbers::number_in))]
-pub fn number_in(value: &Value, least: u64, most: u64) -> Option<u64>
-    ensures value { result ≡ numbers.number_in least most (view value.now) }
-    ensures within { IfSome result (λ n. n ≤ most) }
-    ensures counted { IfSome result (λ n. least ≤ n) }
+pub fn number_in(alloc: Global, least: u64, most: u64, value: &Value) -> Result<u64, ScenarioError>
+    ensures exact { Answers (numbers.number_in least most (view value.now)) result }
+    ensures within { IfOk result (λ n. n ≤ most) }
+    ensures counted { IfOk result (λ n. least ≤ n) }
 {
-    let number = value.as_u64()?;
-    if least <= number && number <= most {
-        Some(number)
-    } else {
-        None
+    match value.as_u64() {
+        Some(number) => in_range(alloc, least, most, number),
+        None => match value.as_i64() {
+            Some(_) => Err(ScenarioError::beyond(alloc, least)),
+            None => Err(ScenarioError::shape(alloc)),
+        },
     }
 }
 
-/// A member that is a whole number in a range, or its default where it is left out.
+/// The same of a member that may be left out.
 #[tactic(auto, unfolding(crate::specs::Numbers::number_or))]
-pub fn number_or(value: &Value, name: &str, default: u64, least: u64, most: u64) -> Option<u64>
-    ensures value { result ≡ numbers.number_or default least most (get name.now (view value.now)) }
-    ensures within { default ≤ most → IfSome result (λ n. n ≤ most) }
-    ensures counted { least ≤ default → IfSome result (λ n. least ≤ n) }
+fn number_or(
+    alloc: Global,
+    default: u64,
+    least: u64,
+    most: u64,
+    found: Option<&Value>,
+) -> Result<u64, ScenarioError>
+    ensures exact { Answers (numbers.number_or default least most (option_map view (option_copied found.entry))) result }
+    ensures within { default ≤ most → IfOk result (λ n. n ≤ most) }
+    ensures counted { least ≤ default → IfOk result (λ n. least ≤ n) }
 {
-    match value.get(name) {
-        Some(member) => number_in(member, least, most),
-        None => Some(default),
+    match found {
+        Some(value) => number_in(alloc, least, most, value),
+        None => Ok(default),
     }
 }
 
-/// The number of some decimal digits, where it is at most so much.
-fn digits_number(digits: &[u8], most: u64) -> Option<u64>
-    requires { most < 1000000000000 }
-    ensures value { result ≡ numbers.number_after most 0 digits.now }
-    ensures within { IfSome result (λ n. n ≤ most) }
+/// A member that is a number of a range, with its default where it is left out.
+pub fn number_member(
+    alloc: Global,
+    name: &str,
+    default: u64,
+    least: u64,
+    most: u64,
+    value: &Value,
+) -> Result<u64, ScenarioError>
+    ensures exact { Answers (member name.now (numbers.number_or default least most) (view value.now)) result }
+    ensures within { default ≤ most → IfOk result (λ n. n ≤ most) }
+    ensures counted { least ≤ default → IfOk result (λ n. least ≤ n) }
 {
-    let mut value = 0;
+    number_or(alloc, default, least, most, value.get(name)).map_err(|fault| fault.in_member(
+        alloc, name,
+    ))
+}
+
+fn are_digits(digits: &[u8]) -> bool
+    ensures { result ≡ list_all numbers.is_digit digits.now }
+{
+    digits.iter().all(|digit| digit.is_ascii_digit())
+}
+
+/// Whether a text is a plain decimal number.
+pub fn is_plain(text: &str) -> bool
+    ensures { result ≡ numbers.is_plain text.now }
+{
+    match text.as_bytes() {
+        [] => false,
+        [digit] => digit.is_ascii_digit(),
+        [first, rest @ ..] => b'1' <= *first && *first <= b'9' && are_digits(rest),
+    }
+}
+
+/// The number of a text of digits, up to the greatest of 64 bits.
+pub fn number_of_text(digits: &[u8]) -> u64
+    ensures { result ≡ numbers.number_of_text digits.now }
+{
+    let mut number = 0u64;
     for digit in digits {
-        if !digit.is_ascii_digit() {
-            return None;
-        }
-        value = value * 10 + (*digit - b'0') as u64;
-        if value > most {
-            return None;
-        }
+        number = number
+            .saturating_mul(10)
+            .saturating_add((*digit as u64).saturating_sub(b'0' as u64));
     }
-    Some(value)
+    number
 }
 
-/// A plain decimal number from 1 to so much: digits, the first not 0.
+/// A plain decimal number of a range.
 #[tactic(auto, unfolding(crate::specs::Numbers::plain_number))]
-pub fn plain_number(text: &str, most: u64) -> Option<u64>
-    requires { most < 1000000000000 }
-    ensures value { result ≡ numbers.plain_number most text.now }
-    ensures within { IfSome result (λ n. n ≤ most) }
+pub fn plain_number(alloc: Global, least: u64, most: u64, text: &str) -> Result<u64, ScenarioError>
+    ensures exact { Answers (numbers.plain_number least most text.now) result }
+    ensures within { IfOk result (λ n. n ≤ most) }
+    ensures counted { IfOk result (λ n. least ≤ n) }
 {
-    let digits = text.as_bytes();
-    match digits.first() {
-        None | Some(b'0') => None,
-        Some(_) => digits_number(digits, most),
-    }
+    in_range(alloc, least, most, number_of_text(text.as_bytes()))
 }

@@ -1,9 +1,14 @@
 //! Reading a scenario.
-ghost use Rattle.std.specs.Prelude.{◌≡◌, ◌≢◌, IfOk, IfErr, MatchOption, codes};
+ghost use Rattle.std.specs.Prelude.{◌≡◌, ◌≢◌, ◌≤◌, IfOk, IfErr, MatchOption, Err, codes};
+ghost use Rattle.seata_types.specs.declared.limits.TheConstants.{INPUT_BYTES};
+ghost use Rattle.serde_json.specs.Data.{depth};
 ghost use Rattle.serde_json.specs.View.{view};
-ghost use Rattle.scenario_reader.specs.Reading.{IsJson, IsNoJson, IsScenario, IsFault, IsShapeAt, IsLimitAt};
+ghost use Rattle.scenario_reader.specs.Reading.{IsJson, IsNoJson, IsScenario, IsScenarioOf, IsFault, IsTooLong};
+ghost use Rattle.scenario_reader.specs.Form.{scenario_of as form};
+ghost use Rattle.scenario_reader.specs.declared.errors.ScenarioError.TheVariants as fault;
 ghost use Rattle.scenario_reader.specs.Runnable.{IsRunnable};
 
+use crate::bases::base_of;
 use crate::errors::ScenarioError;
 use crate::forms::scenario_of;
 use crate::scenarios::Scenario;
@@ -13,18 +18,10 @@ use serde_json::Value;
 use serde_json::error::Category;
 use std::alloc::Global;
 
-/// The root's path.
-fn root(alloc: Global) -> Result<Text, NoMemory>
-    ensures { IfOk result (λ path. path ≡ codes ".") }
-{
-    let path = String::from_str(alloc, ".").map_err(|_| NoMemory)?;
-    Ok(Text::of(path))
-}
-
 /// The JSON of the bytes; none where they are no JSON of nesting at most 127.
 #[tactic(auto, unfolding(crate::specs::Reading::IsJson, crate::specs::Reading::IsNoJson))]
 fn json_of(alloc: Global, bytes: &[u8]) -> Result<Option<Value>, NoMemory>
-    ensures { IfOk result (λ found. MatchOption found (IsNoJson bytes.now) (λ value. IsJson bytes.now (view value))) }
+    ensures { IfOk result (λ found. MatchOption found (IsNoJson bytes.now) (λ value. IsJson bytes.now (view value) × (depth (view value) ≤ 127))) }
 {
     match Value::from_slice(alloc, bytes) {
         Ok(value) => Ok(Some(value)),
@@ -35,47 +32,56 @@ fn json_of(alloc: Global, bytes: &[u8]) -> Result<Option<Value>, NoMemory>
     }
 }
 
-/// The fault of the form.
-fn shape(alloc: Global) -> ScenarioError
-    ensures { result ≢ ScenarioError.NoMemory → IsShapeAt (codes ".") result }
-{
-    match root(alloc) {
-        Ok(path) => ScenarioError::Shape { path },
-        Err(NoMemory) => ScenarioError::NoMemory,
-    }
-}
-
 /// The fault of an input that is too long.
 fn too_long(alloc: Global) -> ScenarioError
-    ensures { result ≢ ScenarioError.NoMemory → IsLimitAt (codes ".") 4194304 result }
+    ensures { result ≢ fault.NoMemory → result ≡ fault.Limit (codes ".") INPUT_BYTES }
 {
-    match root(alloc) {
+    let limit = INPUT_BYTES as u64;
+    match String::from_str(alloc, ".") {
         Ok(path) => ScenarioError::Limit {
-            path,
-            limit: INPUT_BYTES as u64,
+            path: Text::of(path),
+            limit,
         },
-        Err(NoMemory) => ScenarioError::NoMemory,
+        Err(_) => ScenarioError::NoMemory,
     }
 }
 
-/// Reads a scenario from JSON text of at most 4,194,304 bytes. It names the first cause that keeps
-/// the input from being one; want of memory is no cause.
-#[tactic(auto, unfolding(crate::specs::Reading::IsScenario, crate::specs::Reading::IsFault, crate::specs::Reading::IsOtherForm))]
-pub fn read(alloc: Global, bytes: &[u8]) -> Result<Scenario, ScenarioError>
+/// The scenario of a JSON value, with the text under which it is kept.
+#[tactic(auto, unfolding(crate::specs::Reading::IsScenarioOf))]
+fn kept_scenario(alloc: Global, value: Value) -> Result<Scenario, ScenarioError>
+    requires { depth (view value) ≤ 127 }
+    ensures ok { IfOk result (IsScenarioOf (view value)) }
+    ensures err { IfErr result (λ e. e ≢ ScenarioError.NoMemory → form (view value) ≡ Err e) }
+{
+    let mut scenario = scenario_of(alloc, &value)?;
+    scenario.base = base_of(alloc, value)?;
+    Ok(scenario)
+}
+
+/// The scenario of JSON bytes, or what keeps them from being one.
+#[tactic(auto, unfolding(crate::specs::Reading::IsScenario, crate::specs::Reading::IsFault, crate::specs::Reading::IsTooLong, crate::specs::Reading::IsNotJson, crate::specs::Reading::IsOtherForm))]
+fn read_bytes(alloc: Global, bytes: &[u8]) -> Result<Scenario, ScenarioError>
     ensures ok { IfOk result (IsScenario bytes.now) }
-    ensures runnable { IfOk result IsRunnable }
     ensures err { IfErr result (λ error. error ≢ ScenarioError.NoMemory → IsFault bytes.now error) }
 {
     if bytes.len() > INPUT_BYTES {
         return Err(too_long(alloc));
     }
     match json_of(alloc, bytes) {
-        Ok(Some(value)) => match scenario_of(alloc, &value) {
-            Ok(Some(scenario)) => Ok(scenario),
-            Ok(None) => Err(shape(alloc)),
-            Err(NoMemory) => Err(ScenarioError::NoMemory),
-        },
+        Ok(Some(value)) => kept_scenario(alloc, value),
         Ok(None) => Err(ScenarioError::NotJson),
         Err(NoMemory) => Err(ScenarioError::NoMemory),
     }
+}
+
+/// Reads a scenario from JSON text of at most 4,194,304 bytes. It names the first cause in the order
+/// of the members that keeps the input from being one; want of memory is no cause. What it gives can be
+/// run: all that it names is there, and within its limits.
+#[tactic(auto, using(crate::proofs::RunnableFacts::given))]
+pub fn read(alloc: Global, bytes: &[u8]) -> Result<Scenario, ScenarioError>
+    ensures ok { IfOk result (IsScenario bytes.now) }
+    ensures runnable { IfOk result IsRunnable }
+    ensures err { IfErr result (λ error. error ≢ ScenarioError.NoMemory → IsFault bytes.now error) }
+{
+    read_bytes(alloc, bytes)
 }

@@ -1,4 +1,5 @@
 -- A run before its first step, and its steps one after another.
+use Rattle.coordinator_core.specs.declared.nodes.TheConstants.{NODE_STEPS}
 use Rattle.std.proofs.Common.{◌≡◌, ◌+◌, ◌<◌, ℕ, nat_lt, Bool, true, false, List, [], ◌∷◌, ◌++◌, length, slice_get, Some, refl, ap, sym, subst, ◌∙◌, arith, length-append}
 use Rattle.std.proofs.lemmas.Bool.Decides.{nat_tests}
 use Rattle.std.proofs.lemmas.Option.{same_Some, slice_get_within}
@@ -39,7 +40,7 @@ pub first_whole : (defs : List ManagerDef) (managers : List Manager) → AreFirs
 first_whole defs managers t = record { count = t.count_is; each = λ k def at. t.each k def (slice_get_within defs k def at) at }
 
 -- a run that made nothing plays the empty history
-pub plays_nothing : (s : Scenario) (r : Run) → StandsFor r.coordinator [] → retry_of r.coordinator ≡ s.retry → steps_of r.coordinator ≡ 4294967294
+pub plays_nothing : (s : Scenario) (r : Run) → StandsFor r.coordinator [] → retry_of r.coordinator ≡ s.retry → steps_of r.coordinator ≡ NODE_STEPS
     → AreManagers s.managers r.managers.items → r.letters.items ≡ [] → r.entries.items ≡ [] → r.clock ≡ 0 → Plays s r []
 plays_nothing s r fresh retry steps managers letters entries time = record {
   nodes = record {

@@ -5,7 +5,7 @@ use Rattle.seata_types.specs.declared.messages.Message.{Message}
 use Rattle.frame_codec.specs.declared.errors.FrameError.{FrameError}
 use Rattle.frame_codec.specs.Frames.{Framed, HasFrame, frame_bytes, decoded, BeginsWithFrame}
 use Rattle.frame_codec.proofs.FrameLaws.{decoded_back, decoded_only, length-frame}
-use Rattle.seata_lab.specs.FrameLines.{frame_line, lines_behind, lines_from, FrameAddsLine, NothingHasNoLine, BadFrameEnds, FrameOrFault, PutsFrame}
+use Rattle.seata_lab.specs.FrameLines.{frame_line, lines_behind, lines_from, FrameAddsLine, NothingHasNoLine, BadFrameEnds, FrameOrFault}
 
 -- the bytes of a frame that has its line are passed
 passed : (at : ℕ) (front rest : List ℕ) → lines_behind (length front) at (front ++ rest) ≡ lines_from (at + length front) rest
@@ -26,7 +26,7 @@ added at stamp message (byte ∷ frame) rest some read =
     ap (λ n. lines_behind n (at + 1) (frame ++ rest)) size ∙ passed (at + 1) frame rest ∙ ap (λ n. lines_from n rest) step in
     rw read (ap (λ l. frame_line at stamp message ++ l) behind)
 
-frame_is_some : (message : Message) (stamp : ℕ) → 0 < length (frame_bytes message stamp)
+pub frame_is_some : (message : Message) (stamp : ℕ) → 0 < length (frame_bytes message stamp)
 frame_is_some message stamp = omega (arith, length-frame message stamp)
 
 pub frame_adds_line : FrameAddsLine
@@ -43,7 +43,7 @@ bad_frame_ends at [] error some read = absurd (some refl)
 bad_frame_ends at (byte ∷ bytes) error some read = rw read refl
 
 -- a frame's bytes, and the bytes behind it
-begins_whole : (bytes : List ℕ) (message : Message) (stamp size : ℕ) → BeginsWithFrame bytes message stamp size → bytes ≡ frame_bytes message stamp ++ drop size bytes
+pub begins_whole : (bytes : List ℕ) (message : Message) (stamp size : ℕ) → BeginsWithFrame bytes message stamp size → bytes ≡ frame_bytes message stamp ++ drop size bytes
 begins_whole bytes message stamp size begins = sym (take-append-drop size bytes) ∙ ap (λ l. l ++ drop size bytes) begins.frame
 
 pub frame_or_fault : FrameOrFault
@@ -56,26 +56,3 @@ frame_or_fault bytes all = by (decoded bytes) refl
         let begins = decoded_only bytes message stamp size all is in
         inl (message, stamp, drop size bytes, begins.fits, begins_whole bytes message stamp size begins)
     by (Err error) is = inr (error, is)
-
--- ---- one frame
-
-pub puts_frame : (at stamp size : ℕ) (message : Message) (bytes old new : List ℕ) → BeginsWithFrame bytes message stamp size →
-    new ≡ old ++ frame_line at stamp message → PutsFrame at bytes old new size
-puts_frame at stamp size message bytes old new begins put =
-    let frame = frame_bytes message stamp in
-    let count : size ≡ length frame = omega (arith, begins.there, ap length begins.frame, length-take size bytes) in
-    let whole = begins_whole bytes message stamp size begins in
-    let line : lines_from at bytes ≡ frame_line at stamp message ++ lines_from (at + size) (drop size bytes) =
-    ap (lines_from at) whole ∙ frame_adds_line at stamp message (drop size bytes) begins.fits
-    ∙ ap (λ n. frame_line at stamp message ++ lines_from (at + n) (drop size bytes)) (sym count) in
-    record {
-      some = omega (arith, count, frame_is_some message stamp);
-      within = begins.there;
-      lines = rw (put, line, append_assoc) refl;
-    }
-
--- at the end of the bytes there are no lines left
-pub lines_end : (at : ℕ) (bytes out text : List ℕ) → length bytes ≤ at → out ++ lines_from at (drop at bytes) ≡ text → out ≡ text
-lines_end at bytes out text end whole =
-    let nothing : drop at bytes ≡ [] = nil_from_length _ (omega (arith, length-drop at bytes)) in
-    sym (append-nil out) ∙ ap (λ l. out ++ l) (sym (ap (lines_from at) nothing ∙ nothing_has_no_line at)) ∙ whole

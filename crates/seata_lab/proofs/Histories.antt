@@ -1,5 +1,5 @@
 -- Facts on histories that follow a schedule.
-use Rattle.std.proofs.Common.{◌≡◌, ◌≢◌, ◌+◌, ◌<◌, ◌≤◌, ◌==◌, ℕ, zero, suc, nat_eq, nat_lt, Bool, true, false, List, [], ◌∷◌, ◌++◌, length, slice_get, Option, Some, None, option_map, refl, arith, length-append}
+use Rattle.std.proofs.Common.{inl, ◌≡◌, ◌≢◌, ◌+◌, ◌<◌, ◌≤◌, ◌==◌, ℕ, zero, suc, nat_eq, nat_lt, Bool, true, false, List, [], ◌∷◌, ◌++◌, length, slice_get, Option, Some, None, option_map, refl, ap, sym, ◌∙◌, arith, length-append}
 use Rattle.std.proofs.lemmas.Bool.Decides.{nat_tests}
 use Rattle.seata_types.specs.declared.ids.Place.{Place}
 use Rattle.seata_types.specs.declared.ids.Place.TheVariants as place
@@ -7,7 +7,7 @@ use Rattle.seata_types.specs.declared.messages.Outgoing.{Outgoing}
 use Rattle.scenario_reader.specs.declared.scenarios.Scenario.{Scenario}
 use Rattle.scenario_reader.specs.declared.scenarios.ScheduleItem.{ScheduleItem}
 use Rattle.history_text.specs.Own.{Event}
-use Rattle.history_text.specs.History.{Moment, own, own_if, same_place, sent_by, sent_at, sent_from, first_sent, last_stamp, clock, owned_clock, Follows, IsStep}
+use Rattle.history_text.specs.History.{Moment, own, own_if, same_place, sent_by, sent_at, sent_from, first_sent, Rises, clock, owned_clock, Follows, IsStep}
 use Rattle.seata_lab.specs.declared.runner.Letter.{Letter}
 use Rattle.seata_lab.specs.Runs.{letters, letter_of, letter_at, the_letter, letter_from}
 
@@ -51,9 +51,10 @@ step_clock None ms m h = absurd h
 step_clock (Some step) ms m h = let e = h.1 in omega (arith, e)
 
 module _ (s : Scenario) where
-  pub last_stamp_is : (ms : List Moment) → Follows s ms → last_stamp ms ≡ length ms
-  last_stamp_is [] f = refl
-  last_stamp_is (m ∷ ms) f = let e = step_stamp _ ms m f.1 in omega (arith, e)
+  -- a moment whose stamp is its position stands after the newest one
+  pub rises_after : (ms : List Moment) (m : Moment) → Follows s ms → m.stamp ≡ length ms + 1 → Rises ms m
+  rises_after [] m f here = tt
+  rises_after (last ∷ ms) m f here = let e = step_stamp _ ms last f.1 in inl (omega (arith, e, here))
 
   pub owned_clock-le : (p : Place) (ms : List Moment) → Follows s ms → owned_clock (own p ms) ≤ clock ms
   owned_clock-le p [] f = omega arith
@@ -138,6 +139,23 @@ module _ (s : Scenario) where
           let past : length ms < j = grind (arith, nat_tests) in
           let beyond : length (letters ms) < j = omega (arith, past, size) in
           rw (snoc_past (letters ms) (letter_of m) j beyond) (none_later (stamped (suc j)) (suc j) (stamped-is (suc j)) (m ∷ ms) f (omega (arith, past)))
+
+  -- a letter that is there was sent before
+  pub letter_below : (ms : List Moment) (k : ℕ) (l : Letter) → letter_at k (letters ms) ≡ Some l → k < length ms + 1
+  letter_below ms zero l e = omega arith
+  letter_below ms (suc j) l e = by (nat_lt j (length ms)) refl
+    where
+      past : {A : Type 0} (xs : List A) (i : ℕ) → length xs ≤ i → slice_get xs i ≡ None
+      past [] i h = refl
+      past (x ∷ xs) zero h = absurd (omega (arith, h))
+      past (x ∷ xs) (suc i) h = past xs i (omega (arith, h))
+
+      none_some : None ≡ Some l → ⊥
+      none_some e = cc
+
+      by : (b : Bool) → nat_lt j (length ms) ≡ b → suc j < length ms + 1
+      by true below = grind (arith, nat_tests)
+      by false above = absurd (none_some (sym (ap the_letter (past (letters ms) j (grind (arith, nat_tests, length-letters ms)))) ∙ e))
 
   -- the same of any number
   pub letters_at : (ms : List Moment) → Follows s ms → (k : ℕ) → Found k ms (letter_at k (letters ms))

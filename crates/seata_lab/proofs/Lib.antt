@@ -1,5 +1,7 @@
 mod Begun
+mod Built
 mod Concluded
+mod Fed
 mod Flow
 mod FrameLaws
 mod FramesListed

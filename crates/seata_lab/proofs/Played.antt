@@ -1,4 +1,5 @@
 -- What a run keeps after each kind of step.
+use Rattle.seata_types.specs.declared.limits.TheConstants.{STEPS, TICKS}
 use Rattle.std.proofs.Common.{◌≡◌, ◌+◌, ◌*◌, ◌<◌, ◌≤◌, ℕ, zero, suc, nat_eq, nat_lt, Bool, true, false, List, [], ◌∷◌, ◌++◌, length, slice_get, Option, Some, None, option_map, refl, ap, sym, subst, ◌∙◌, arith, length-append}
 use Rattle.std.proofs.lemmas.Bool.Decides.{nat_tests}
 use Rattle.std.proofs.lemmas.Option.{same_Some}
@@ -17,12 +18,12 @@ use Rattle.history_text.specs.declared.entries.Cause.{Cause}
 use Rattle.history_text.specs.declared.entries.Cause.TheVariants as cause
 use Rattle.history_text.specs.Own.{Event, Given, still}
 use Rattle.history_text.specs.Rules.{Coordinator as CoordinatorRole, Manager as ManagerRole}
-use Rattle.history_text.specs.History.{Moment, ticks_of, IsAnswer, IsDone, Stands, IsStep, IsNamed, ComesToNone, entries, entry_of, own, role_at, settings_of, brings, sent_from}
+use Rattle.history_text.specs.History.{Moment, IsAbove, ticks_of, IsAnswer, IsDone, Stands, IsStep, IsNamed, ComesToNone, entries, entry_of, own, role_at, settings_of, brings, sent_from}
 use Rattle.seata_lab.specs.declared.runner.Delivery.{Delivery}
 use Rattle.seata_lab.specs.declared.runner.Letter.{Letter}
 use Rattle.seata_lab.specs.declared.runner.Run.{Run}
 use Rattle.seata_lab.specs.Runs.{CanStep, Plays, Nodes, AllPost, IsPost, IsNode, IsGiven, Gives, IsRecorded, letters, letter_of, letter_at, letter_from, the_letter, delivery_of, next, printed_entry}
-use Rattle.seata_lab.proofs.Histories.{last_stamp_is, owned_clock-le, letters_at, Found, same_place-refl, snoc_below, snoc_end, snoc_past}
+use Rattle.seata_lab.proofs.Histories.{rises_after, letter_below, owned_clock-le, letters_at, Found, same_place-refl, snoc_below, snoc_end, snoc_past}
 use Rattle.seata_lab.proofs.Stepped.{nodes_net, StepsAt}
 
 length-entries : (ms : List Moment) → length (entries ms) ≡ length ms
@@ -37,10 +38,10 @@ item_at (x ∷ xs) zero below = (x, refl)
 item_at (x ∷ xs) (suc k) below = item_at xs k (omega arith)
 
 -- a place among the nodes is one
-pub node_at : (s : Scenario) (p : Place) → IsPlaceAmong (length s.managers) p → IsNode s p
+pub node_at : (s : Scenario) (p : Place) → IsPlaceAmong 0 (length s.managers) p → IsNode s p
 node_at s place.Net among = absurd among
 node_at s place.Tc among = (CoordinatorRole s.retry, refl)
-node_at s (place.Res n) among = absurd among
+node_at s (place.Res n) among = absurd (let low = among.0 in let high = among.1 in omega (arith, low, high))
 node_at s (place.Man zero) among = absurd (let low = among.0 in omega (arith, low))
 node_at s (place.Man (suc k)) among =
     let found = item_at s.managers k (let high = among.1 in omega (arith, high)) in
@@ -92,7 +93,7 @@ pub record Made (s : Scenario) (old new : Run) (ms : List Moment) (m : Moment) (
   pub kept : new.letters.items ≡ old.letters.items ++ letter_of m ∷ []
   pub printed : new.entries.items ≡ old.entries.items ++ entry_of m ∷ []
   pub clocked : new.clock ≡ m.now
-  pub slow : m.now ≤ (length ms + 1) * 1000000000
+  pub slow : m.now ≤ (length ms + 1) * TICKS
   pub stands : Stands s ms m
   pub is_step : IsStep (Some step) ms m
   pub posts : (out : Outgoing) → m.step.sent ≡ Some out → IsPost s m.place out.to out.message
@@ -116,13 +117,14 @@ module _ (s : Scenario) (old : Run) (ms : List Moment) (t : Plays s old ms) wher
   size = ap length t.printed ∙ length-entries ms
 
   -- how many entries there are, as a bound
-  pub few_moments : length old.entries.items < 20000 → length ms < 20000
+  pub few_moments : length old.entries.items < STEPS → length ms < STEPS
   few_moments short = let e = size in omega (arith, e)
 
   rising : (p : Place) (now : ℕ) (why : Cause) (event : Option Event) (step : Step) → old.clock ≤ now
-      → event ≡ brings ms p why → IsDone s ms (next ms p now why event step) event → Stands s ms (next ms p now why event step)
-  rising p now why event step later brought done = record {
-    rises = let e = last_stamp_is s ms t.follows in omega (arith, e);
+      → IsAbove why (length ms + 1) → event ≡ brings ms p why → IsDone s ms (next ms p now why event step) event → Stands s ms (next ms p now why event step)
+  rising p now why event step later above brought done = record {
+    rises = rises_after s ms (next ms p now why event step) t.follows refl;
+    above = above;
     clock_rises = λ at. let le = owned_clock-le s place.Tc ms t.follows in let now_is = t.clocked in omega (arith, le, now_is);
     brought = brought;
     done = done;
@@ -130,9 +132,9 @@ module _ (s : Scenario) (old : Run) (ms : List Moment) (t : Plays s old ms) wher
 
   -- a node took a step
   given_made : (new : Run) (p : Place) (why : Cause) (given : Input) (step : ScheduleItem) → Gives old new p why given → IsNode s p → IsGiven s given
-      → Some (Given given) ≡ brings ms p why → ((m : Moment) → m.place ≡ p → m.cause ≡ why → IsNamed step m.place m.cause) → ticks_of step ≡ 0
+      → IsAbove why (length ms + 1) → Some (Given given) ≡ brings ms p why → ((m : Moment) → m.place ≡ p → m.cause ≡ why → IsNamed step m.place m.cause) → ticks_of step ≡ 0
       → (m : Moment) × Made s old new ms m step
-  given_made new p why given step gives node is_given brought named still_time =
+  given_made new p why given step gives node is_given above brought named still_time =
       let g = gives s ms t.nodes node in
       let m : Moment = next ms p old.clock why (Some (Given given)) g.0 in (
         m,
@@ -142,7 +144,7 @@ module _ (s : Scenario) (old : Run) (ms : List Moment) (t : Plays s old ms) wher
           printed = g.5 ∙ ap (λ n. old.entries.items ++ printed_entry n p old.clock why g.0 ∷ []) size;
           clocked = g.6;
           slow = let slow = t.slow in omega (arith, slow);
-          stands = rising p old.clock why (Some (Given given)) g.0 (omega arith) brought g.1;
+          stands = rising p old.clock why (Some (Given given)) g.0 (omega arith) above brought g.1;
           is_step = (refl, (let now_is = t.clocked in omega (arith, now_is, still_time)), named m refl refl);
           posts = g.3 is_given t.post;
         },
@@ -151,10 +153,10 @@ module _ (s : Scenario) (old : Run) (ms : List Moment) (t : Plays s old ms) wher
   -- the network did nothing
   passed_made : (mid new : Run) (why : Cause) (step : ScheduleItem) → IsRecorded mid new place.Net why (still act.Nothing)
       → mid.coordinator ≡ old.coordinator → mid.managers ≡ old.managers → mid.letters ≡ old.letters → mid.entries ≡ old.entries
-      → mid.clock ≡ old.clock + ticks_of step → ticks_of step ≤ 1000000000
-      → None ≡ brings ms place.Net why → ComesToNone ms place.Net why → IsNamed step place.Net why
+      → mid.clock ≡ old.clock + ticks_of step → ticks_of step ≤ TICKS
+      → IsAbove why (length ms + 1) → None ≡ brings ms place.Net why → ComesToNone ms place.Net why → IsNamed step place.Net why
       → (m : Moment) × Made s old new ms m step
-  passed_made mid new why step rec same_coordinator same_managers same_letters same_entries time short brought comes named =
+  passed_made mid new why step rec same_coordinator same_managers same_letters same_entries time short above brought comes named =
       let m : Moment = next ms place.Net mid.clock why None (still act.Nothing) in (
         m,
         record {
@@ -166,7 +168,7 @@ module _ (s : Scenario) (old : Run) (ms : List Moment) (t : Plays s old ms) wher
               ∙ ap (λ n. old.entries.items ++ printed_entry n place.Net mid.clock why (still act.Nothing) ∷ []) size;
           clocked = rec.same_clock;
           slow = let slow = t.slow in omega (arith, slow, time, short);
-          stands = rising place.Net mid.clock why None (still act.Nothing) (omega (arith, time)) brought (comes, refl);
+          stands = rising place.Net mid.clock why None (still act.Nothing) (omega (arith, time)) above brought (comes, refl);
           is_step = (refl, (let now_is = t.clocked in omega (arith, now_is, time)), named);
           posts = λ out e. absurd (let no : None ≡ Some out = e in cc);
         },
@@ -182,14 +184,14 @@ module _ (s : Scenario) (old : Run) (ms : List Moment) (t : Plays s old ms) wher
   pub turn_plays : (new : Run) (p : Place) → Gives old new p cause.Turn input.Turn → IsNode s p
       → slice_get s.schedule (length ms) ≡ Some (item.Turn p) → (m : Moment) × Plays s new (m ∷ ms)
   turn_plays new p gives node at =
-      more new (item.Turn p) at (given_made s old ms t new p cause.Turn input.Turn (item.Turn p) gives node tt refl (λ m here why. (here, why)) refl)
+      more new (item.Turn p) at (given_made s old ms t new p cause.Turn input.Turn (item.Turn p) gives node tt tt refl (λ m here why. (here, why)) refl)
 
   pub wait_plays : (mid new : Run) (ticks : ℕ) → IsRecorded mid new place.Net (cause.Wait ticks) (still act.Nothing)
       → mid.coordinator ≡ old.coordinator → mid.managers ≡ old.managers → mid.letters ≡ old.letters → mid.entries ≡ old.entries
-      → mid.clock ≡ old.clock + ticks → ticks ≤ 1000000000
+      → mid.clock ≡ old.clock + ticks → ticks ≤ TICKS
       → slice_get s.schedule (length ms) ≡ Some (item.Wait ticks) → (m : Moment) × Plays s new (m ∷ ms)
   wait_plays mid new ticks rec a b c d time short at =
-      more new (item.Wait ticks) at (passed_made s old ms t mid new (cause.Wait ticks) (item.Wait ticks) rec a b c d time short refl tt (refl, refl))
+      more new (item.Wait ticks) at (passed_made s old ms t mid new (cause.Wait ticks) (item.Wait ticks) rec a b c d time short tt refl tt (refl, refl))
 
   -- what the letters say of a stamp
   found : (stamp : ℕ) (r : Option Letter) → letter_at stamp old.letters.items ≡ r → Found s stamp ms r
@@ -201,7 +203,7 @@ module _ (s : Scenario) (old : Run) (ms : List Moment) (t : Plays s old ms) wher
   missing_plays new stamp rec missing at =
       let none = none_kept (letter_at stamp old.letters.items) missing in
       more new (item.Deliver stamp) at
-      (passed_made s old ms t old new (cause.Missing stamp) (item.Deliver stamp) rec refl refl refl refl (omega arith) (omega arith) refl (found stamp None none) refl)
+      (passed_made s old ms t old new (cause.Missing stamp) (item.Deliver stamp) rec refl refl refl refl (omega arith) (omega arith) tt refl (found stamp None none) refl)
 
   letter_node : (stamp : ℕ) (l : Letter) → letter_at stamp old.letters.items ≡ Some l → IsPost s l.from l.to l.packet.message
   letter_node stamp l e = letter_posts s ms t.post stamp l (ap (letter_at stamp) (sym t.sent) ∙ e)
@@ -219,7 +221,7 @@ module _ (s : Scenario) (old : Run) (ms : List Moment) (t : Plays s old ms) wher
       let sent : sent_from l.from stamp ms ≡ Some (record { to = l.to; message = l.packet.message }) = found stamp (Some l) e in
       more new (item.Deliver stamp) at
       (given_made s old ms t new l.to (cause.Deliver stamp l.from) (input.Message l.from l.packet.message) (item.Deliver stamp) gives post.receiver
-      (post.sender, post.named) (rw (sent, same_place-refl l.to) refl) (λ m here why. named_by m why) refl)
+      (post.sender, post.named) (letter_below s ms stamp l (ap (letter_at stamp) (sym t.sent) ∙ e)) (rw (sent, same_place-refl l.to) refl) (λ m here why. named_by m why) refl)
     where
       named_by : (m : Moment) → m.cause ≡ cause.Deliver stamp l.from → IsNamed (item.Deliver stamp) m.place m.cause
       named_by m why = subst (λ w. IsNamed (item.Deliver stamp) m.place w) (sym why) refl
@@ -232,18 +234,18 @@ module _ (s : Scenario) (old : Run) (ms : List Moment) (t : Plays s old ms) wher
       kept_plays new stamp l kept (subst (λ (k : Delivery). Gives old new k.to (cause.Deliver stamp k.from) (input.Message k.from k.message)) (sym same) gives) at
 
   -- the clock of a short run
-  pub slow_clock : length old.entries.items < 20000 → old.clock ≤ 20000000000000
+  pub slow_clock : length old.entries.items < STEPS → old.clock ≤ STEPS * TICKS
   slow_clock short =
       let few = few_moments s old ms t short in
       let slow = t.slow in
       omega (arith, few, slow)
 
-  pub can_step : (p : Place) → length old.entries.items < 20000 → IsNode s p → CanStep old p
+  pub can_step : (p : Place) → length old.entries.items < STEPS → IsNode s p → CanStep old p
   can_step p short node = record { s = s; ms = ms; nodes = t.nodes; node = node; short = few_moments s old ms t short }
 
   -- a node among those of the run
-  pub run_node : (p : Place) → IsPlaceAmong (length old.managers.items) p → IsNode s p
-  run_node p among = node_at s p (subst (λ n. IsPlaceAmong n p) t.nodes.count among)
+  pub run_node : (p : Place) → IsPlaceAmong 0 (length old.managers.items) p → IsNode s p
+  run_node p among = node_at s p (subst (λ n. IsPlaceAmong 0 n p) t.nodes.count among)
 
 -- a step was taken and its entry added
 pub gives_by : (s : Scenario) (ms : List Moment) (old mid new : Run) (p : Place) (why : Cause) (given : Input) (step : Step)

@@ -179,12 +179,16 @@ module _ (s : Scenario) where
   heard_posts os now from (message.Begin m timeout) g = begin_posts (transaction_of os m) (begun os + 1) m g.1
   heard_posts os now from (message.GlobalCommit xid) g = commit_posts (is_begin (status_of os xid.0)) (is_late os now xid.0) (status_of os xid.0) xid from refl g.0
   heard_posts os now from (message.GlobalRollback xid) g = rollback_posts (is_begin (status_of os xid.0)) (status_of os xid.0) xid from refl g.0
+  heard_posts os now from (message.GlobalStatus xid) g =
+      some_posts place.Tc from (message.StatusAnswer xid (status_of os xid.0)) (record { sender = coordinator_node; receiver = g.0; named = tt })
   heard_posts os now from _ g = none_posts place.Tc
 
   -- what the coordinator sends goes to nodes
   pub coordinator_posts : (retry : ℕ) (os : List Own) (given : Input) (now : ℕ) → IsGiven s given → SendsPost place.Tc (coordinator_answer retry os given now)
   coordinator_posts retry os input.Turn now g = turn_posts os now retry (least (is_late os now) (begun os))
   coordinator_posts retry os (input.Message from heard) now g = heard_posts os now from heard g
+  coordinator_posts retry os (input.Local number) now g = none_posts place.Tc
+  coordinator_posts retry os (input.Outside number) now g = none_posts place.Tc
 
   module _ (m : Settings) (node : IsNode s (place.Man m.number)) (sent : ℕ) where
     speaks_posts : (done : Act) (msg : Message) → NamesNode s msg → SendsPost (place.Man m.number) (speaks m sent done msg)
@@ -227,6 +231,8 @@ module _ (s : Scenario) where
       → ((msg : Message) → last_sent os ≡ Some msg → NamesNode s msg) → SendsPost (place.Man m.number) (manager_answer m os given)
   manager_posts m node os input.Turn named = turns_post m node (sent_count os) (is_closed os) (last_sent os) named
   manager_posts m node os (input.Message from heard) named = heards_post m node (sent_count os) (is_closed os) (answer_to (last_sent os)) heard
+  manager_posts m node os (input.Local number) named = none_posts (place.Man m.number)
+  manager_posts m node os (input.Outside number) named = none_posts (place.Man m.number)
 
 -- two managers of one role have the same settings
 abbrev role_settings : Settings → Role → Settings

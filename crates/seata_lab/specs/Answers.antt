@@ -1,5 +1,6 @@
 -- What the program answers: the status, and what is written.
-use Rattle.std.specs.Prelude.{◌≡◌, ◌⊎◌, ◌<◌, ◌≤◌, ◌++◌, ◌∷◌, ℕ, nat_eq, nat_le, Bool, false, if◌then◌else◌, List, [], length, Option, Some, codes}
+use Rattle.std.specs.Prelude.{◌≡◌, ◌⊎◌, ◌+◌, ◌<◌, ◌≤◌, ◌++◌, ◌∷◌, ℕ, nat_eq, nat_le, Bool, true, false, if◌then◌else◌, List, [], length, take, drop, Option, Some, codes}
+use Rattle.std.specs.List.{list_any}
 use Rattle.std.specs.Fmt.{decimal}
 use Rattle.std.specs.Cmp.Lexicographic.{pointwise}
 use Rattle.seata_types.specs.declared.limits.TheConstants.{INPUT_BYTES}
@@ -7,10 +8,14 @@ use Rattle.scenario_reader.specs.declared.errors.ScenarioError.{ScenarioError}
 use Rattle.scenario_reader.specs.declared.errors.ScenarioError.TheVariants as fault
 use Rattle.scenario_reader.specs.declared.scenarios.Scenario.{Scenario}
 use Rattle.scenario_reader.specs.Reading.{IsScenario, IsFault}
+use Rattle.seata_lab.specs.declared.unbuilt.Unbuilt.{Unbuilt}
+use Rattle.seata_lab.specs.Unbuilt.{path_of, first_unbuilt, IsBuilt}
 use Rattle.history_text.specs.History.{Moment, IsRun}
 use Rattle.history_text.specs.Report.{line, report}
 use Rattle.seata_lab.specs.FrameLines.{frames_text}
-use Rattle.seata_lab.specs.Streams.{Gains, GainsFront}
+use Rattle.disk_model.specs.Disk.{Rose}
+use Rattle.seata_lab.specs.Streams.{GainsFront, Devices, IsCalm}
+use Rattle.std.specs.Io.KnownBytes.{Appends}
 
 -- the words are this one word
 abbrev pub is_word : List ℕ → List (List ℕ) → Bool
@@ -27,7 +32,22 @@ is_frames words = is_word (codes "frames") words
 
 -- the line that is written for other words
 abbrev pub usage_text : List ℕ
-usage_text = line (codes "usage: seata_lab replay | run | make | stress | frames")
+usage_text = line (codes "usage: seata_lab replay | run | make | stress | frames | audit | show")
+
+-- what stays unread of an input: it is read to its end, or one byte past the most that is taken
+abbrev pub unread : List ℕ → List ℕ
+unread input = drop (INPUT_BYTES + 1) input
+
+-- these bytes of an input were read, and the others are left
+pub record HasRead (input bytes : List ℕ) (left : Option (List ℕ)) : Type 0 where
+  pub bytes_are : bytes ≡ take (INPUT_BYTES + 1) input
+  pub left_are : left ≡ Some (unread input)
+
+-- a source was read, and this text and status are the answer to its input, where that is told
+pub record Answers (IsAnswer : List ℕ → List ℕ → ℕ → Type 0) (old new : Option (List ℕ)) (text : List ℕ) (status : ℕ) : Type 0 where
+  pub done_or_refused : (status ≡ 0) ⊎ (status ≡ 3)
+  pub is_answer : (input : List ℕ) → old ≡ Some input → IsAnswer input text status
+  pub read : (input : List ℕ) → old ≡ Some input → new ≡ Some (unread input)
 
 -- ---- replays
 
@@ -41,44 +61,66 @@ fault_text (fault.Mode path) = codes "scenario: Mode " ++ path
 fault_text (fault.Name path) = codes "scenario: Name " ++ path
 fault_text fault.NoMemory = []
 
--- the report of a legal history that follows the schedule of the scenario that the bytes are
+-- the line of a part of the scenario that can't be run yet
+abbrev pub unbuilt_text : Unbuilt → List ℕ
+unbuilt_text part = codes "scenario: Unbuilt " ++ path_of part
+
+-- the report of a legal history that follows the schedule of the scenario that the bytes are, all of which can be run
 unfoldable pub IsReportOf : List ℕ → List ℕ → Type 0
-IsReportOf bytes text = (s : Scenario) × IsScenario bytes s × (ms : List Moment) × IsRun s ms × (text ≡ report s ms)
+IsReportOf bytes text = (s : Scenario) × IsScenario bytes s × IsBuilt s × (ms : List Moment) × IsRun s ms × (text ≡ report s ms)
 
 -- the line of what keeps the bytes from being a scenario
 unfoldable pub IsFaultOf : List ℕ → List ℕ → Type 0
 IsFaultOf bytes text = (e : ScenarioError) × IsFault bytes e × (text ≡ line (fault_text e))
 
+-- the line of the first part that can't be run yet, of the scenario that the bytes are
+unfoldable pub IsUnbuiltOf : List ℕ → List ℕ → Type 0
+IsUnbuiltOf bytes text = (s : Scenario) × IsScenario bytes s × (part : Unbuilt) × (first_unbuilt s ≡ Some part) × (text ≡ line (unbuilt_text part))
+
+-- the line of what keeps the bytes from being replayed
+abbrev pub IsRefusalOf : List ℕ → List ℕ → Type 0
+IsRefusalOf bytes text = IsFaultOf bytes text ⊎ IsUnbuiltOf bytes text
+
 -- the text of an input with its status
 unfoldable pub IsAnswerTo : List ℕ → List ℕ → ℕ → Type 0
-IsAnswerTo bytes text status = ((status ≡ 0) × IsReportOf bytes text) ⊎ ((status ≡ 3) × IsFaultOf bytes text)
+IsAnswerTo bytes text status = ((status ≡ 0) × IsReportOf bytes text) ⊎ ((status ≡ 3) × IsRefusalOf bytes text)
 
--- at status 0: the source was read to its end, its bytes are a scenario, and the sink got the report of a legal
--- history that follows its schedule
-pub record Replays (input : List ℕ) (left : Option (List ℕ)) (old new : Option (List ℕ)) : Type 0 where
-  pub read_to_end : left ≡ Some []
+-- at status 0: the source was read to its end, its bytes are a scenario, all of which can be run, and the sink got the
+-- report of a legal history that follows its schedule
+pub record Replays (input : List ℕ) (old new : Devices) : Type 0 where
+  pub read_to_end : new.left ≡ Some []
   pub scenario : Scenario
   pub is_scenario : IsScenario input scenario
+  pub is_built : IsBuilt scenario
   pub history : List Moment
   pub is_run : IsRun scenario history
-  pub printed : Gains old new (report scenario history)
+  pub printed : Appends old.written new.written (report scenario history)
 
--- at status 3: the sink got the line of what keeps the input from being a scenario
-pub record Refuses (input : List ℕ) (old new : Option (List ℕ)) : Type 0 where
-  pub cause : ScenarioError
-  pub is_cause : IsFault input cause
-  pub printed : Gains old new (line (fault_text cause))
+-- at status 3: the source was read as far as inputs are, and the sink got the line of what keeps the input from being
+-- a scenario, or of the first part of the scenario that it is, which can't be run yet
+pub record Refuses (input : List ℕ) (old new : Devices) : Type 0 where
+  pub read_to_end : new.left ≡ Some (unread input)
+  pub text : List ℕ
+  pub is_refusal : IsRefusalOf input text
+  pub printed : Appends old.written new.written text
 
 -- at status 5: the sink got the front of the text that another status would have
-pub record CutsShort (input : List ℕ) (old new : Option (List ℕ)) : Type 0 where
+pub record CutsShort (input : List ℕ) (old new : Devices) : Type 0 where
   pub text : List ℕ
   pub status : ℕ
   pub is_answer : IsAnswerTo input text status
-  pub printed : GainsFront old new text
+  pub printed : GainsFront old.written new.written text
 
--- a scenario was to be replayed and no device failed, or memory was refused
+-- what can be run was replayed, or memory was refused
 abbrev pub IsDone : ℕ → Type 0
 IsDone status = (status ≡ 0) ⊎ (status ≡ 6)
+
+-- what the status of a replay says of the input, where that is told
+pub record TellsReplay (status : ℕ) (old new : Devices) : Type 0 where
+  pub done : status ≡ 0 → (input : List ℕ) → old.left ≡ Some input → Replays input old new
+  pub refused : status ≡ 3 → (input : List ℕ) → old.left ≡ Some input → Refuses input old new
+  pub cut_short : status ≡ 5 → (input : List ℕ) → old.left ≡ Some input → CutsShort input old new
+  pub complete : (input : List ℕ) (scenario : Scenario) → old.left ≡ Some input → IsScenario input scenario → IsBuilt scenario → IsCalm old new → IsDone status
 
 -- ---- frames
 
@@ -103,21 +145,35 @@ pub record IsFramesAnswer (input text : List ℕ) (status : ℕ) : Type 0 where
   pub status_is : status ≡ frames_status input
 
 -- at status 0: the source was read to its end, its bytes are few enough, and the sink got the lines of their frames
-pub record ListsFrames (input : List ℕ) (left : Option (List ℕ)) (old new : Option (List ℕ)) : Type 0 where
-  pub read_to_end : left ≡ Some []
+pub record ListsFrames (input : List ℕ) (old new : Devices) : Type 0 where
+  pub read_to_end : new.left ≡ Some []
   pub short : length input ≤ INPUT_BYTES
-  pub printed : Gains old new (frames_text input)
+  pub printed : Appends old.written new.written (frames_text input)
 
--- at status 3: there are too many bytes, and the sink got the line that says so
-pub record IsOver (input : List ℕ) (old new : Option (List ℕ)) : Type 0 where
+-- at status 3: there are too many bytes, one more than are taken was read, and the sink got the line that says so
+pub record IsOver (input : List ℕ) (old new : Devices) : Type 0 where
+  pub read_to_end : new.left ≡ Some (unread input)
   pub long : INPUT_BYTES < length input
-  pub printed : Gains old new over_text
+  pub printed : Appends old.written new.written over_text
 
--- ---- reading and writing
+-- what the status of a listing of frames says of the input, where that is told
+pub record TellsFrames (status : ℕ) (old new : Devices) : Type 0 where
+  pub listed : status ≡ 0 → (input : List ℕ) → old.left ≡ Some input → ListsFrames input old new
+  pub over : status ≡ 3 → (input : List ℕ) → old.left ≡ Some input → IsOver input old new
+  pub cut_short : status ≡ 5 → (input : List ℕ) → old.left ≡ Some input → GainsFront old.written new.written (frames_answer input)
+  pub complete : (input : List ℕ) → old.left ≡ Some input → IsCalm old new → (status ≡ frames_status input) ⊎ (status ≡ 6)
 
--- the input is the bytes that were read and a rest, which is empty where the bytes are few enough
-pub record IsInput (input bytes : List ℕ) (left : Option (List ℕ)) : Type 0 where
-  pub rest : List ℕ
-  pub whole : input ≡ bytes ++ rest
-  pub is_left : left ≡ Some rest
-  pub ended : length bytes ≤ INPUT_BYTES → rest ≡ []
+-- ---- all words
+
+-- the status is one of these; the source failed at 4 and the sink at 5, each in this call; nothing was written at 4 and 6
+pub record TellsFaults (possible : List ℕ) (status : ℕ) (old new : Devices) : Type 0 where
+  pub statuses : list_any (nat_eq status) possible ≡ true
+  pub source_failed : status ≡ 4 → Rose old.source_faults new.source_faults × (new.written ≡ old.written)
+  pub sink_failed : status ≡ 5 → Rose old.sink_faults new.sink_faults
+  pub no_memory : status ≡ 6 → new.written ≡ old.written
+
+-- what the status says of other words than the program's: the sink got the usage line, or the front of it
+pub record TellsUsage (status : ℕ) (old new : Devices) : Type 0 where
+  pub statuses : (status ≡ 2) ⊎ (status ≡ 5)
+  pub usage : status ≡ 2 → Appends old.written new.written usage_text
+  pub cut_short : status ≡ 5 → GainsFront old.written new.written usage_text

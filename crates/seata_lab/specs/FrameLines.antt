@@ -9,6 +9,7 @@ use Rattle.history_text.specs.Lines.{note_text}
 use Rattle.history_text.specs.Report.{line}
 use Rattle.frame_codec.specs.declared.errors.FrameError.{FrameError}
 use Rattle.frame_codec.specs.declared.errors.FrameError.TheVariants as fault
+use Rattle.frame_codec.specs.declared.framed.Framed.{Framed as Given}
 use Rattle.frame_codec.specs.Frames.{Framed, HasFrame, frame_bytes, decoded}
 
 -- ---- lines
@@ -82,10 +83,9 @@ FrameOrFault = (bytes : List ℕ) → All (λ byte. byte < 256) bytes →
     ((message : Message) × (stamp : ℕ) × (rest : List ℕ) × HasFrame message stamp × (bytes ≡ frame_bytes message stamp ++ rest))
     ⊎ ((error : FrameError) × (decoded bytes ≡ Err error))
 
--- ---- one frame
+-- ---- frames that are given
 
--- the line of the frame at an offset was put behind a text; what is behind the frame has the lines that are still to come
-pub record PutsFrame (at : ℕ) (bytes old new : List ℕ) (size : ℕ) : Type 0 where
-  pub some : 0 < size
-  pub within : size ≤ length bytes
-  pub lines : new ++ lines_from (at + size) (drop size bytes) ≡ old ++ lines_from at bytes
+-- the lines of frames, one behind the other
+abbrev pub given_lines : List Given → List ℕ
+given_lines [] = []
+given_lines (frame ∷ frames) = frame_line frame.at frame.stamp frame.message ++ given_lines frames

@@ -1,8 +1,10 @@
+pub mod Unbuilt
 pub mod Talks
 pub mod ManagerStanding
 pub mod Streams
 pub mod Runs
 pub mod FrameLines
+pub mod Listings
 pub mod Answers
 pub mod MemStreams
 pub mod StdStreams

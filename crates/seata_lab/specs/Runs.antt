@@ -1,5 +1,7 @@
 -- What a run of the schedule keeps of the history that it made.
-use Rattle.std.specs.Prelude.{◌≡◌, ◌+◌, ◌*◌, ◌<◌, ◌≤◌, ℕ, zero, suc, List, [], ◌∷◌, ◌++◌, length, slice_get, slice_set as set, Option, Some, None, option_map}
+use Rattle.seata_types.specs.declared.limits.TheConstants.{STEPS, TICKS}
+use Rattle.coordinator_core.specs.declared.nodes.TheConstants.{NODE_STEPS}
+use Rattle.std.specs.Prelude.{◌≡◌, ◌+◌, ◌*◌, ◌<◌, ◌≤◌, ℕ, zero, suc, false, List, [], ◌∷◌, ◌++◌, length, slice_get, slice_set as set, Option, Some, None, option_map}
 use Rattle.seata_types.specs.declared.ids.Place.{Place}
 use Rattle.seata_types.specs.declared.ids.Place.TheVariants as place
 use Rattle.seata_types.specs.declared.messages.Input.{Input}
@@ -12,6 +14,7 @@ use Rattle.scenario_reader.specs.declared.scenarios.ManagerDef.{ManagerDef}
 use Rattle.scenario_reader.specs.declared.scenarios.Scenario.{Scenario}
 use Rattle.scenario_reader.specs.declared.scenarios.ScheduleItem.{ScheduleItem}
 use Rattle.scenario_reader.specs.Runnable.{FitsNodes}
+use Rattle.seata_lab.specs.Unbuilt.{is_unbuilt}
 use Rattle.history_text.specs.declared.entries.Cause.{Cause}
 use Rattle.history_text.specs.declared.entries.Entry.{Entry}
 use Rattle.history_text.specs.Notes.{sent_of}
@@ -79,7 +82,7 @@ AllPost s (m ∷ ms) = AllPost s ms × ((out : Outgoing) → m.step.sent ≡ Som
 pub record IsManagerOf (s : Scenario) (ms : List Moment) (n : ℕ) (def : ManagerDef) (m : Manager) : Type 0 where
   pub stands : ManagerStandsFor m (own (place.Man n) ms)
   pub same : settings m ≡ settings_of n def
-  pub able : 4294967294 ≤ manager_steps_of m + length ms
+  pub able : NODE_STEPS ≤ manager_steps_of m + length ms
 
 -- the k-th manager of a list is that of the scenario
 abbrev pub HasManager : Scenario → List Moment → ℕ → List Manager → Type 0
@@ -90,7 +93,7 @@ HasManager s ms k managers =
 pub record Nodes (s : Scenario) (coordinator : Coordinator) (managers : List Manager) (ms : List Moment) : Type 0 where
   pub coordinated : StandsFor coordinator (own place.Tc ms)
   pub retry : retry_of coordinator ≡ s.retry
-  pub able : 4294967294 ≤ steps_of coordinator + length ms
+  pub able : NODE_STEPS ≤ steps_of coordinator + length ms
   pub count : length managers ≡ length s.managers
   pub managed : (k : ℕ) → HasManager s ms k managers
 
@@ -100,7 +103,7 @@ pub record Plays (s : Scenario) (r : Run) (ms : List Moment) : Type 0 where
   pub printed : r.entries.items ≡ entries ms
   pub sent : r.letters.items ≡ letters ms
   pub clocked : r.clock ≡ clock ms
-  pub slow : r.clock ≤ length ms * 1000000000
+  pub slow : r.clock ≤ length ms * TICKS
   pub legal : Legal s ms
   pub follows : Follows s ms
   pub post : AllPost s ms
@@ -126,6 +129,8 @@ pub record IsRecorded (old new : Run) (at : Place) (why : Cause) (step : Step) :
 abbrev pub IsGiven : Scenario → Input → Type 0
 IsGiven s input.Turn = Unit {0}
 IsGiven s (input.Message from heard) = IsNode s from × NamesNode s heard
+IsGiven s (input.Local number) = Unit {0}
+IsGiven s (input.Outside number) = Unit {0}
 
 -- a node of the scenario can take a step after these moments
 pub record CanStep (old : Run) (at : Place) : Type 0 where
@@ -133,7 +138,7 @@ pub record CanStep (old : Run) (at : Place) : Type 0 where
   pub ms : List Moment
   pub nodes : Nodes s old.coordinator old.managers.items ms
   pub node : IsNode s at
-  pub short : length ms < 20000
+  pub short : length ms < STEPS
 
 -- the k-th manager took a step, and no other
 pub record StepsManager (old new : List Manager) (k : ℕ) (given : Input) (now : ℕ) (step : Step) : Type 0 where
@@ -169,9 +174,9 @@ Gives old new at why given =
 abbrev pub CanPlay : Run → Type 0
 CanPlay r = (s : Scenario) × (ms : List Moment) × Plays s r ms
 
--- a step of the schedule that each scenario of the run's managers can have
+-- a step of the schedule of a kind that is built, that each scenario of the run's managers can have
 abbrev pub Fits : Run → ScheduleItem → Type 0
-Fits r step = FitsNodes (length r.managers.items) step
+Fits r step = (is_unbuilt step ≡ false) × FitsNodes 0 (length r.managers.items) 0 step
 
 -- said of each history that the run made: a step of the schedule adds the moment that it names
 abbrev pub PlaysOn : Run → Run → ScheduleItem → Type 0
@@ -182,7 +187,7 @@ PlaysOn old new step =
 pub record IsNew (n : ℕ) (def : ManagerDef) (m : Manager) : Type 0 where
   pub stands : ManagerStandsFor m []
   pub same : settings m ≡ settings_of n def
-  pub able : manager_steps_of m ≡ 4294967294
+  pub able : manager_steps_of m ≡ NODE_STEPS
 
 -- the managers of these definitions, before they do anything
 pub record AreManagers (defs : List ManagerDef) (managers : List Manager) : Type 0 where

@@ -1,31 +1,25 @@
--- What sources and sinks tell.
-use Rattle.std.specs.Prelude.{◌≡◌, ◌+◌, ◌-◌, ◌^◌, ◌≤◌, ℕ, min, List, [], ◌++◌, take, Option, option_map}
-
--- a count of faults rose, or stands at its greatest value
-abbrev pub Rose : ℕ → ℕ → Type 0
-Rose before now = min (before + 1) (2 ^ 64 - 1) ≤ now
-
-abbrev pub behind : List ℕ → List ℕ → List ℕ
-behind bytes rest = bytes ++ rest
-
-abbrev pub before : List ℕ → List ℕ → List ℕ
-before bytes front = front ++ bytes
-
--- these bytes were taken from the front of what is left, where told
-abbrev pub Loses : Option (List ℕ) → Option (List ℕ) → List ℕ → Type 0
-Loses old new bytes = old ≡ option_map (behind bytes) new
-
--- these bytes were put behind what was written, where told
-abbrev pub Gains : Option (List ℕ) → Option (List ℕ) → List ℕ → Type 0
-Gains old new bytes = new ≡ option_map (before bytes) old
-
-abbrev pub none_left : List ℕ → List ℕ
-none_left rest = []
-
--- nothing is left, where told
-abbrev pub Ends : Option (List ℕ) → Type 0
-Ends left = left ≡ option_map none_left left
+-- What sources and sinks tell. What was taken from them or put into them is said in std's words for readers and
+-- writers, which say nothing where nothing is told.
+use Rattle.std.specs.Prelude.{ℕ, List, take, Option}
+use Rattle.std.specs.Io.KnownBytes.{Appends}
+use Rattle.disk_model.specs.Disk.{Rose}
 
 -- some bytes of the front of a text were put behind what was written
 abbrev pub GainsFront : Option (List ℕ) → Option (List ℕ) → List ℕ → Type 0
-GainsFront old new text = (n : ℕ) × Gains old new (take n text)
+GainsFront old new text = (n : ℕ) × Appends old new (take n text)
+
+-- what a source and a sink tell at one moment: the bytes that are left, those that were written, and the faults
+pub record Devices : Type 0 where
+  pub left : Option (List ℕ)
+  pub written : Option (List ℕ)
+  pub source_faults : ℕ
+  pub sink_faults : ℕ
+
+abbrev pub devices : {S K : Type 0} → (S → Option (List ℕ)) → (S → ℕ) → (K → Option (List ℕ)) → (K → ℕ) → S → K → Devices
+devices left source_faults written sink_faults source sink =
+    record { left = left source; written = written sink; source_faults = source_faults source; sink_faults = sink_faults sink }
+
+-- neither failed in a call
+pub record IsCalm (old new : Devices) : Type 0 where
+  pub source : ¬ Rose old.source_faults new.source_faults
+  pub sink : ¬ Rose old.sink_faults new.sink_faults

@@ -1,12 +1,21 @@
 -- What a manager keeps of its own entries.
-use Rattle.std.specs.Prelude.{◌≡◌, ◌+◌, ℕ, Bool, true, false, List, Option, Some, None}
+use Rattle.std.specs.Prelude.{◌≡◌, ◌+◌, ◌≤◌, ℕ, Bool, true, false, List, Option, Some, None}
 use Rattle.seata_types.specs.declared.messages.Message.{Message}
 use Rattle.seata_types.specs.declared.messages.Message.TheVariants as message
 use Rattle.seata_types.specs.declared.ids.Xid.{Xid}
 use Rattle.seata_types.specs.declared.statuses.Ending.{Ending}
 use Rattle.seata_types.specs.declared.statuses.Ending.TheVariants as ending
 use Rattle.history_text.specs.Own.{Own}
-use Rattle.history_text.specs.ManagerRules.{Settings, sent_count, is_closed, last_sent}
+use Rattle.seata_types.specs.declared.acts.Act.TheVariants as act
+use Rattle.seata_types.specs.declared.limits.TheConstants.{MANAGERS, TICKS}
+use Rattle.seata_types.specs.declared.messages.Input.{Input}
+use Rattle.seata_types.specs.declared.messages.Step.{Step}
+use Rattle.frame_codec.specs.Limits.{IsCounted}
+use Rattle.history_text.specs.Framing.{SendsFramable}
+use Rattle.history_text.specs.Own.{still}
+use Rattle.history_text.specs.ManagerRules.{Settings, sent_count, is_closed, last_sent, is_silent}
+use Rattle.history_text.specs.Rules.{Manager as ManagerRole, TakesStep}
+use Rattle.coordinator_core.specs.declared.nodes.TheConstants.{NODE_STEPS}
 use Rattle.seata_lab.specs.declared.managers.Phase.{Phase}
 use Rattle.seata_lab.specs.declared.managers.Phase.TheVariants as phase
 use Rattle.seata_lab.specs.declared.managers.Talk.{Talk}
@@ -38,3 +47,24 @@ pub record Keeps (m : Talk) (count : ℕ) (closed : Bool) (last : Option Message
 -- the manager is the one of these own entries
 abbrev pub Tracks : Talk → List Own → Type 0
 Tracks m os = Keeps m (sent_count os) (is_closed os) (last_sent os)
+
+-- it can send one more message, and its Begin can be framed
+pub record CanTalk (m : Talk) : Type 0 where
+  pub room : m.sent ≤ NODE_STEPS
+  pub numbered : IsCounted MANAGERS m.number
+  pub timed : IsCounted TICKS m.timeout
+
+-- a message was said, and its answer is waited for; or the manager has gone silent
+pub record Says (old new : Talk) (next : Phase) (spoken step : Step) : Type 0 where
+  pub said : is_silent old.silent old.sent ≡ false → (step ≡ spoken) × (new ≡ says old next)
+  pub silent : is_silent old.silent old.sent ≡ true → (step ≡ still act.Silent) × (new ≡ old)
+  pub framable : SendsFramable step
+  pub same : settings_of new ≡ settings_of old
+  pub grows : new.sent ≤ old.sent + 1
+
+-- the answer to an input is the rule's and can be framed; the settings stay, and one message was sent at the most
+pub record IsAnswered (old new : Talk) (given : Input) (now : ℕ) (step : Step) : Type 0 where
+  pub takes : TakesStep Tracks (ManagerRole (settings_of old)) old new given now step
+  pub framable : SendsFramable step
+  pub same : settings_of new ≡ settings_of old
+  pub grows : new.sent ≤ old.sent + 1

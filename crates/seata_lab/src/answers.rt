@@ -4,10 +4,12 @@ ghost use Rattle.std.specs.Fmt.{decimal};
 ghost use Rattle.history_text.specs.Report.{line};
 ghost use Rattle.scenario_reader.specs.Reading.{IsScenario};
 ghost use Rattle.scenario_reader.specs.Runnable.{IsRunnable};
-ghost use Rattle.seata_lab.specs.Answers.{fault_text, IsReportOf, IsAnswerTo};
+ghost use Rattle.seata_lab.specs.Unbuilt.{IsBuilt};
+ghost use Rattle.seata_lab.specs.Answers.{fault_text, unbuilt_text, IsReportOf, IsAnswerTo};
 
 use crate::replays::replay;
 use crate::reports::write_report;
+use crate::unbuilt::{Unbuilt, first_unbuilt, put_path};
 use scenario_reader::{Scenario, ScenarioError, read};
 use seata_types::{NoMemory, Text};
 use std::alloc::{AllocError, Global};
@@ -60,6 +62,14 @@ fn fault_line(alloc: Global, error: &ScenarioError) -> Result<String, AllocError
     Ok(out)
 }
 
+/// The answer to an input that isn't replayed.
+fn refusal(text: String) -> Answer
+    ensures text { result.text ≡ text }
+    ensures status { result.status ≡ 3 }
+{
+    Answer { text, status: 3 }
+}
+
 /// The answer to an input that is no scenario.
 fn refused(alloc: Global, error: &ScenarioError) -> Result<Answer, NoMemory>
     ensures fault { IfOk result (λ answer. error.now ≢ ScenarioError.NoMemory) }
@@ -70,7 +80,7 @@ fn refused(alloc: Global, error: &ScenarioError) -> Result<Answer, NoMemory>
         return Err(NoMemory);
     }
     let text = fault_line(alloc, error).map_err(|_| NoMemory)?;
-    Ok(Answer { text, status: 3 })
+    Ok(refusal(text))
 }
 
 /// Whether memory was refused.
@@ -81,15 +91,53 @@ fn is_memory(error: &ScenarioError) -> bool
     matches!(error, ScenarioError::NoMemory)
 }
 
-/// The answer to an input that is a scenario.
+/// The line of a part of a scenario that can't be run yet, with its line feed.
+fn unbuilt_line(alloc: Global, part: Unbuilt) -> Result<String, AllocError>
+    ensures { IfOk result (λ text. string_bytes text ≡ line (unbuilt_text part)) }
+{
+    let mut out = String::from_str(alloc, "scenario: Unbuilt ")?;
+    put_path(&mut out, part)?;
+    out.push_str("\n")?;
+    Ok(out)
+}
+
+/// The answer to a scenario with a part that can't be run yet.
+fn not_built(alloc: Global, part: Unbuilt) -> Result<Answer, NoMemory>
+    ensures text { IfOk result (λ answer. string_bytes answer.text ≡ line (unbuilt_text part)) }
+    ensures status { IfOk result (λ answer. answer.status ≡ 3) }
+{
+    let text = unbuilt_line(alloc, part).map_err(|_| NoMemory)?;
+    Ok(refusal(text))
+}
+
+/// The answer to a scenario that can be run.
 fn replayed(alloc: Global, scenario: &Scenario) -> Result<Answer, NoMemory>
-    requires { IsRunnable scenario.now }
+    requires runnable { IsRunnable scenario.now }
+    requires built { IsBuilt scenario.now }
     ensures text { IfOk result (λ answer. (bytes : List ℕ) → IsScenario bytes scenario.now → IsReportOf bytes (string_bytes answer.text)) }
     ensures status { IfOk result (λ answer. answer.status ≡ 0) }
 {
     let run = replay(alloc, scenario)?;
     let text = write_report(alloc, scenario, &run)?;
     Ok(Answer { text, status: 0 })
+}
+
+/// The answer to an input that is a scenario.
+#[tactic(auto, unfolding(crate::specs::Answers::IsAnswerTo, crate::specs::Answers::IsUnbuiltOf))]
+fn answer_of(alloc: Global, scenario: &Scenario) -> Result<Answer, NoMemory>
+    requires { IsRunnable scenario.now }
+    ensures { IfOk result (λ answer. (bytes : List ℕ) → IsScenario bytes scenario.now → IsAnswerTo bytes (string_bytes answer.text) answer.status) }
+{
+    match first_unbuilt(scenario) {
+        Some(part) => {
+            let answer = not_built(alloc, part)?;
+            Ok(answer)
+        }
+        None => {
+            let answer = replayed(alloc, scenario)?;
+            Ok(answer)
+        }
+    }
 }
 
 /// The text of an input, with its status.
@@ -99,7 +147,7 @@ pub fn answer_to(alloc: Global, bytes: &[u8]) -> Result<Answer, NoMemory>
 {
     match read(alloc, bytes) {
         Ok(scenario) => {
-            let answer = replayed(alloc, &scenario)?;
+            let answer = answer_of(alloc, &scenario)?;
             Ok(answer)
         }
         Err(error) => {

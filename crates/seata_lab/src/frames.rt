@@ -1,12 +1,17 @@
 //! The lines of an input of frames.
-ghost use Rattle.std.specs.Prelude.{◌≡◌, ◌≢◌, ◌++◌, [], IfOk, OnOk, IfSome, IfNone, string_bytes};
-ghost use Rattle.seata_lab.specs.Answers.{over_text, IsFramesAnswer};
+ghost use Rattle.std.specs.Prelude.{◌≡◌, ◌≢◌, ◌++◌, [], ℕ, List as Items, IfOk, IfErr, OnOk, string_bytes};
+ghost use Rattle.disk_model.specs.Disk.{Rose};
+ghost use Rattle.seata_lab.specs.Answers.{over_text, Answers, IsFramesAnswer};
 ghost use Rattle.seata_lab.specs.FrameLines as lines;
+ghost use Rattle.seata_lab.specs.Listings.{Awaits, IsReady};
 
 use crate::answers::Answer;
-use frame_codec::{FrameError, decode};
+use crate::listings::Listing;
+use crate::streams::{Failed, Source};
+use crate::transfer::{ReadFault, read_some, zeros};
+use frame_codec::{FrameError, Framed};
 use history_text::{Names, Note, note_of, put_note};
-use seata_types::limits::INPUT_BYTES;
+use seata_types::limits::{INPUT_BYTES, PIECE_BYTES};
 use seata_types::{List, Message, NoMemory};
 use std::alloc::{AllocError, Global};
 
@@ -23,7 +28,7 @@ fn no_names(alloc: Global) -> Names
 /// An offset, a request number and a note, as a line.
 fn put_note_line(
     out: &mut String,
-    at: usize,
+    at: u64,
     stamp: u32,
     note: &Note,
     names: &Names,
@@ -40,7 +45,7 @@ fn put_note_line(
 #[tactic(auto, unfolding(crate::specs::FrameLines::frame_line))]
 fn put_frame(
     out: &mut String,
-    at: usize,
+    at: u64,
     stamp: u32,
     message: Message,
     names: &Names,
@@ -70,7 +75,7 @@ fn put_fault(out: &mut String, fault: FrameError) -> Result<(), AllocError>
 
 /// The line of a bad frame.
 #[tactic(auto, unfolding(crate::specs::FrameLines::bad_frame_line))]
-fn put_bad_frame(out: &mut String, at: usize, fault: FrameError) -> Result<(), AllocError>
+pub fn put_bad_frame(out: &mut String, at: u64, fault: FrameError) -> Result<(), AllocError>
     ensures text { OnOk result (string_bytes out.new ≡ string_bytes out.old ++ lines.bad_frame_line at fault) }
     ensures fault { OnOk result (fault ≢ FrameError.NoMemory) }
 {
@@ -82,45 +87,24 @@ fn put_bad_frame(out: &mut String, at: usize, fault: FrameError) -> Result<(), A
     write!(out, "\n")
 }
 
-/// The line of the frame or bad frame that stands at an offset. The frame's size in bytes, or none where it is bad.
-fn put_line(
-    alloc: Global,
-    out: &mut String,
-    at: usize,
-    bytes: &[u8],
-    names: &Names,
-) -> Result<Option<usize>, AllocError>
-    requires some { bytes.now ≢ [] }
-    requires names { names.now ≡ lines.no_names }
-    ensures frame { IfOk result (λ next. IfSome next (lines.PutsFrame at bytes.now (string_bytes out.old) (string_bytes out.new))) }
-    ensures bad_frame { IfOk result (λ next. IfNone next (string_bytes out.new ≡ string_bytes out.old ++ lines.lines_from at bytes.now)) }
+/// The line of a frame that was given.
+fn put_given(out: &mut String, given: Framed, names: &Names) -> Result<(), AllocError>
+    requires { names.now ≡ lines.no_names }
+    ensures { OnOk result (string_bytes out.new ≡ string_bytes out.old ++ lines.frame_line given.at given.stamp given.message) }
 {
-    match decode(alloc, bytes) {
-        Ok((message, stamp, size)) => {
-            put_frame(out, at, stamp, message, names)?;
-            Ok(Some(size))
-        }
-        Err(fault) => {
-            put_bad_frame(out, at, fault)?;
-            Ok(None)
-        }
-    }
+    let Framed { at, message, stamp } = given;
+    put_frame(out, at, stamp, message, names)
 }
 
-/// A line for each frame, one behind the other, up to the first bad one, whose line is the last.
-fn frames_text(alloc: Global, bytes: &[u8]) -> Result<String, AllocError>
-    ensures { IfOk result (λ text. string_bytes text ≡ lines.frames_text bytes.now) }
+/// The lines of frames that were given, one behind the other.
+pub fn put_frames(alloc: Global, out: &mut String, frames: List<Framed>) -> Result<(), AllocError>
+    ensures { OnOk result (string_bytes out.new ≡ string_bytes out.old ++ lines.given_lines frames) }
 {
     let names = no_names(alloc);
-    let mut out = String::new(alloc);
-    let mut at = 0;
-    while at < bytes.len() {
-        match put_line(alloc, &mut out, at, &bytes[at..], &names)? {
-            Some(size) => at += size,
-            None => return Ok(out),
-        }
+    for given in frames.into_vec() {
+        put_given(out, given, &names)?;
     }
-    Ok(out)
+    Ok(())
 }
 
 /// The line of an input of too many bytes.
@@ -130,14 +114,53 @@ fn over_text(alloc: Global) -> Result<String, AllocError>
     format!(in alloc; "input: over {INPUT_BYTES} bytes\n")
 }
 
-/// The lines of an input's frames, or the line of an input that is too long, with its status.
-pub fn frames_answer(alloc: Global, bytes: &[u8]) -> Result<Answer, NoMemory>
-    ensures { IfOk result (λ answer. IsFramesAnswer bytes.now (string_bytes answer.text) answer.status) }
+/// The answer to an input of too many bytes.
+fn over(alloc: Global) -> Result<Answer, ReadFault>
+    ensures text { IfOk result (λ answer. string_bytes answer.text ≡ over_text) }
+    ensures status { IfOk result (λ answer. answer.status ≡ 3) }
+    ensures err { IfErr result (λ e. e ≡ ReadFault.NoMemory) }
 {
-    if bytes.len() > INPUT_BYTES {
-        let text = over_text(alloc).map_err(|_| NoMemory)?;
-        return Ok(Answer { text, status: 3 });
+    match over_text(alloc) {
+        Ok(text) => Ok(Answer { text, status: 3 }),
+        Err(AllocError) => Err(ReadFault::NoMemory),
     }
-    let text = frames_text(alloc, bytes).map_err(|_| NoMemory)?;
-    Ok(Answer { text, status: 0 })
+}
+
+/// The answer to an input that was read to its end.
+fn listed(listing: Listing) -> Result<Answer, ReadFault>
+    requires { IsReady listing }
+    ensures text { IfOk result (λ answer. (text : Items ℕ) → Awaits listing [] text → string_bytes answer.text ≡ text) }
+    ensures status { IfOk result (λ answer. answer.status ≡ 0) }
+    ensures err { IfErr result (λ e. e ≡ ReadFault.NoMemory) }
+{
+    match listing.finish() {
+        Ok(text) => Ok(Answer { text, status: 0 }),
+        Err(NoMemory) => Err(ReadFault::NoMemory),
+    }
+}
+
+/// Reads an input of frames piece by piece: the lines of its frames, or the line of an input that is too long, with its
+/// status.
+pub fn list_frames<S: Source>(alloc: Global, source: &mut S) -> Result<Answer, ReadFault>
+    ensures answer { IfOk result (λ a. Answers IsFramesAnswer (S.left source.old) (S.left source.new) (string_bytes a.text) a.status) }
+    ensures err { IfErr result (λ e. e ≡ ReadFault.Failed → Rose (S.faults source.old) (S.faults source.new)) }
+{
+    let mut buffer = zeros(alloc, PIECE_BYTES).map_err(|_| ReadFault::NoMemory)?;
+    let mut listing = Listing::new(alloc);
+    let mut total = 0;
+    while total <= INPUT_BYTES {
+        let room = PIECE_BYTES.min(INPUT_BYTES + 1 - total);
+        let count = match read_some(source, &mut buffer, room) {
+            Ok(count) => count,
+            Err(Failed) => return Err(ReadFault::Failed),
+        };
+        if count == 0 {
+            return listed(listing);
+        }
+        match listing.take(alloc, &buffer[..count]) {
+            Ok(()) => total += count,
+            Err(NoMemory) => return Err(ReadFault::NoMemory),
+        }
+    }
+    over(alloc)
 }

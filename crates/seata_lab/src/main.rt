@@ -3,10 +3,13 @@
 #![tactic(auto)]
 
 mod answers;
+#[cfg(test)]
+mod failing;
 mod frames;
 #[cfg(test)]
 mod kept;
 mod laws;
+mod listings;
 mod managers;
 mod memory;
 mod replays;
@@ -20,6 +23,7 @@ mod streams;
 mod tests;
 mod tops;
 mod transfer;
+mod unbuilt;
 mod words;
 
 use seata_types::Text;

@@ -3,12 +3,10 @@ ghost use Rattle.std.specs.Prelude.{◌+◌, ◌<◌, ◌^◌};
 ghost use Rattle.frame_codec.specs.Limits.{IsCounted};
 ghost use Rattle.seata_types.specs.declared.limits.TheConstants.{MANAGERS, TICKS};
 
+use coordinator_core::NODE_STEPS;
 use history_text::{Node, sends, still};
 use seata_types::{Act, Ending, GlobalStatus, Input, Message, NodeError, Place, Step, Xid};
 use std::alloc::Global;
-
-/// A node makes fewer than `2^32 - 1` steps.
-const STEPS: u32 = u32::MAX - 1;
 
 /// What a manager waits for: its first turn, or the answer to its last message.
 #[derive(Clone, Copy)]
@@ -37,13 +35,12 @@ impl Talk {
     ghost use Rattle.seata_types.specs.declared.ids.Place.TheVariants as place;
     ghost use Rattle.seata_types.specs.declared.messages.Input.TheVariants as input;
     ghost use Rattle.seata_types.specs.declared.messages.Message.TheVariants as message;
-    ghost use Rattle.frame_codec.specs.Limits.{IsFramable, IsCounted};
-    ghost use Rattle.seata_types.specs.declared.limits.TheConstants.{MANAGERS, TICKS};
+    ghost use Rattle.frame_codec.specs.Limits.{IsFramable};
     ghost use Rattle.history_text.specs.Framing.{SendsFramable};
     ghost use Rattle.history_text.specs.Own as own;
     ghost use Rattle.history_text.specs.ManagerRules as rules;
-    ghost use Rattle.history_text.specs.Rules.{Manager as ManagerRole, TakesStep};
-    ghost use Rattle.seata_lab.specs.Talks.{Tracks, settings_of, says, ending_phase};
+    ghost use Rattle.coordinator_core.specs.declared.nodes.TheConstants.{NODE_STEPS};
+    ghost use Rattle.seata_lab.specs.Talks.{ending_phase, CanTalk, Says, IsAnswered};
     ghost use Rattle.seata_lab.specs.declared.managers.Phase.TheVariants as phase;
 
     /// Whether it has sent all that it may.
@@ -58,13 +55,9 @@ impl Talk {
 
     /// Sends a message and waits for its answer, unless it has gone silent.
     fn say(&mut self, act: Act, message: Message, phase: Phase) -> Step
-        requires { self.old.sent < 4294967295 }
-        ensures said { rules.is_silent self.old.silent self.old.sent ≡ false
-            → (result ≡ own.sends act place.Tc message) × (self.new ≡ says self.old phase) }
-        ensures silent { rules.is_silent self.old.silent self.old.sent ≡ true → (result ≡ own.still acts.Silent) × (self.new ≡ self.old) }
-        ensures framable { IsFramable message → SendsFramable result }
-        ensures same { settings_of self.new ≡ settings_of self.old }
-        ensures grows { self.new.sent ≤ self.old.sent + 1 }
+        requires room { self.old.sent ≤ NODE_STEPS }
+        requires framable { IsFramable message }
+        ensures { Says self.old self.new phase (own.sends act place.Tc message) result }
     {
         if self.is_silent() {
             drop(act);
@@ -78,26 +71,16 @@ impl Talk {
 
     /// Asks for the commit.
     fn ask_commit(&mut self, act: Act, xid: Xid) -> Step
-        requires { self.old.sent < 4294967295 }
-        ensures said { rules.is_silent self.old.silent self.old.sent ≡ false
-            → (result ≡ own.sends act place.Tc (message.GlobalCommit xid)) × (self.new ≡ says self.old (phase.Committing xid)) }
-        ensures silent { rules.is_silent self.old.silent self.old.sent ≡ true → (result ≡ own.still acts.Silent) × (self.new ≡ self.old) }
-        ensures framable { SendsFramable result }
-        ensures same { settings_of self.new ≡ settings_of self.old }
-        ensures grows { self.new.sent ≤ self.old.sent + 1 }
+        requires { self.old.sent ≤ NODE_STEPS }
+        ensures { Says self.old self.new (phase.Committing xid) (own.sends act place.Tc (message.GlobalCommit xid)) result }
     {
         self.say(act, Message::GlobalCommit { xid }, Phase::Committing(xid))
     }
 
     /// Asks for the rollback.
     fn ask_rollback(&mut self, act: Act, xid: Xid) -> Step
-        requires { self.old.sent < 4294967295 }
-        ensures said { rules.is_silent self.old.silent self.old.sent ≡ false
-            → (result ≡ own.sends act place.Tc (message.GlobalRollback xid)) × (self.new ≡ says self.old (phase.RollingBack xid)) }
-        ensures silent { rules.is_silent self.old.silent self.old.sent ≡ true → (result ≡ own.still acts.Silent) × (self.new ≡ self.old) }
-        ensures framable { SendsFramable result }
-        ensures same { settings_of self.new ≡ settings_of self.old }
-        ensures grows { self.new.sent ≤ self.old.sent + 1 }
+        requires { self.old.sent ≤ NODE_STEPS }
+        ensures { Says self.old self.new (phase.RollingBack xid) (own.sends act place.Tc (message.GlobalRollback xid)) result }
     {
         self.say(
             act,
@@ -108,13 +91,8 @@ impl Talk {
 
     /// Takes a turn: starts, repeats the last message, or has nothing to do.
     fn turn(&mut self, now: u64) -> Step
-        requires room { self.old.sent < 4294967295 }
-        requires numbered { IsCounted MANAGERS self.old.number }
-        requires timed { IsCounted TICKS self.old.timeout }
-        ensures framable { SendsFramable result }
-        ensures takes { TakesStep Tracks (ManagerRole (settings_of self.old)) self.old self.new input.Turn now result }
-        ensures same { settings_of self.new ≡ settings_of self.old }
-        ensures grows { self.new.sent ≤ self.old.sent + 1 }
+        requires { CanTalk self.old }
+        ensures { IsAnswered self.old self.new input.Turn now result }
     {
         let (number, timeout) = (self.number, self.timeout);
         let begin = Message::Begin {
@@ -141,13 +119,8 @@ impl Talk {
 
     /// Ends its transaction as it was told to.
     fn go_on(&mut self, xid: Xid) -> Step
-        requires { self.old.sent < 4294967295 }
-        ensures said { rules.is_silent self.old.silent self.old.sent ≡ false
-            → (result ≡ own.sends acts.GoesOn place.Tc (rules.ending_message self.old.ending xid)) × (self.new ≡ says self.old (ending_phase self.old.ending xid)) }
-        ensures silent { rules.is_silent self.old.silent self.old.sent ≡ true → (result ≡ own.still acts.Silent) × (self.new ≡ self.old) }
-        ensures framable { SendsFramable result }
-        ensures same { settings_of self.new ≡ settings_of self.old }
-        ensures grows { self.new.sent ≤ self.old.sent + 1 }
+        requires { self.old.sent ≤ NODE_STEPS }
+        ensures { Says self.old self.new (ending_phase self.old.ending xid) (own.sends acts.GoesOn place.Tc (rules.ending_message self.old.ending xid)) result }
     {
         match self.ending {
             Ending::Commit => self.ask_commit(Act::GoesOn, xid),
@@ -157,13 +130,8 @@ impl Talk {
 
     /// Answers a message.
     fn hear(&mut self, from: Place, heard: &Message, now: u64) -> Step
-        requires room { self.old.sent < 4294967295 }
-        requires numbered { IsCounted MANAGERS self.old.number }
-        requires timed { IsCounted TICKS self.old.timeout }
-        ensures framable { SendsFramable result }
-        ensures takes { TakesStep Tracks (ManagerRole (settings_of self.old)) self.old self.new (input.Message from heard.now) now result }
-        ensures same { settings_of self.new ≡ settings_of self.old }
-        ensures grows { self.new.sent ≤ self.old.sent + 1 }
+        requires { CanTalk self.old }
+        ensures { IsAnswered self.old self.new (input.Message from heard.now) now result }
     {
         match (self.phase, heard) {
             (Phase::Beginning, Message::Begun { xid }) => self.go_on(*xid),
@@ -192,17 +160,13 @@ impl Talk {
 
     /// Answers an input.
     fn answer(&mut self, given: &Input, now: u64) -> Step
-        requires room { self.old.sent < 4294967295 }
-        requires numbered { IsCounted MANAGERS self.old.number }
-        requires timed { IsCounted TICKS self.old.timeout }
-        ensures framable { SendsFramable result }
-        ensures takes { TakesStep Tracks (ManagerRole (settings_of self.old)) self.old self.new given.now now result }
-        ensures same { settings_of self.new ≡ settings_of self.old }
-        ensures grows { self.new.sent ≤ self.old.sent + 1 }
+        requires { CanTalk self.old }
+        ensures { IsAnswered self.old self.new given.now now result }
     {
         match given {
             Input::Turn => self.turn(now),
             Input::Message { from, message } => self.hear(*from, message, now),
+            Input::Local { .. } | Input::Outside { .. } => still(Act::Ignored),
         }
     }
 }
@@ -222,6 +186,7 @@ impl Manager {
     ghost use Rattle.std.specs.Prelude.{◌≡◌, []};
     ghost use Rattle.frame_codec.specs.Limits.{IsCounted};
     ghost use Rattle.seata_types.specs.declared.limits.TheConstants.{MANAGERS, TICKS};
+    ghost use Rattle.coordinator_core.specs.declared.nodes.TheConstants.{NODE_STEPS};
     ghost use Rattle.seata_lab.specs.ManagerStanding.{StandsFor, settings, steps_of};
 
     /// A manager that stands for no own entries; takes no memory.
@@ -231,7 +196,7 @@ impl Manager {
         requires timed { IsCounted TICKS timeout }
         ensures fresh { StandsFor result [] }
         ensures settings { settings result ≡ record { number = number; timeout = timeout; ending = ending; silent = silent } }
-        ensures steps { steps_of result ≡ 4294967294 }
+        ensures steps { steps_of result ≡ NODE_STEPS }
     {
         Manager {
             talk: Talk {
@@ -242,7 +207,7 @@ impl Manager {
                 sent: 0,
                 phase: Phase::Unstarted,
             },
-            left: STEPS,
+            left: NODE_STEPS,
         }
     }
 }

@@ -39,7 +39,8 @@ impl MemSource {
 
 impl Source for MemSource {
     ghost use Rattle.std.specs.Prelude.{◌≡◌, ◌<◌, ◌≤◌, min, take, length, is_err, IfOk, OnErr};
-    ghost use Rattle.seata_lab.specs.Streams.{Rose, Loses, Ends};
+    ghost use Rattle.disk_model.specs.Disk.{Rose};
+    ghost use Rattle.std.specs.Io.KnownBytes.{Consumes, Keeps, IsAtEnd};
     ghost use Rattle.seata_lab.specs.MemStreams.{bytes_left, left_of, source_faults, source_fails, source_calls, next_call, fails_next};
 
     ghost left = { bytes_left };
@@ -48,9 +49,9 @@ impl Source for MemSource {
 
     fn read(&mut self, into: &mut [u8]) -> Result<usize, Failed>
         ensures bound { IfOk result (λ n. n ≤ length into.old) }
-        ensures bytes { IfOk result (λ n. Loses (bytes_left self.old) (bytes_left self.new) (take n into.new)) }
-        ensures end { IfOk result (λ n. n ≡ 0 → 0 < length into.old → Ends (bytes_left self.new)) }
-        ensures failed { OnErr result (bytes_left self.new ≡ bytes_left self.old) }
+        ensures bytes { IfOk result (λ n. Consumes (bytes_left self.old) (bytes_left self.new) (take n into.new)) }
+        ensures end { IfOk result (λ n. n ≡ 0 → 0 < length into.old → IsAtEnd (bytes_left self.new)) }
+        ensures failed { OnErr result (Keeps (bytes_left self.old) (bytes_left self.new)) }
         ensures err { OnErr result (Rose (source_faults self.old) (source_faults self.new)) }
         ensures counted { source_faults self.old ≤ source_faults self.new }
         // It fails at the calls that it was given, and else reads as much as it can.
@@ -115,7 +116,8 @@ impl MemSink {
 
 impl Sink for MemSink {
     ghost use Rattle.std.specs.Prelude.{◌≡◌, ◌<◌, ◌≤◌, ◌+◌, min, take, length, is_err, IfOk, OnErr};
-    ghost use Rattle.seata_lab.specs.Streams.{Rose, Gains};
+    ghost use Rattle.disk_model.specs.Disk.{Rose};
+    ghost use Rattle.std.specs.Io.KnownBytes.{Appends, Keeps};
     ghost use Rattle.seata_lab.specs.MemStreams.{bytes_written, sink_faults, room_left, sink_fails, sink_calls, next_call, fails_next};
 
     ghost written = { bytes_written };
@@ -124,9 +126,9 @@ impl Sink for MemSink {
 
     fn write(&mut self, bytes: &[u8]) -> Result<usize, Failed>
         ensures bound { IfOk result (λ n. n ≤ length bytes.now) }
-        ensures bytes { IfOk result (λ n. Gains (bytes_written self.old) (bytes_written self.new) (take n bytes.now)) }
+        ensures bytes { IfOk result (λ n. Appends (bytes_written self.old) (bytes_written self.new) (take n bytes.now)) }
         ensures stuck { IfOk result (λ n. n ≡ 0 → 0 < length bytes.now → Rose (sink_faults self.old) (sink_faults self.new)) }
-        ensures failed { OnErr result (bytes_written self.new ≡ bytes_written self.old) }
+        ensures failed { OnErr result (Keeps (bytes_written self.old) (bytes_written self.new)) }
         ensures err { OnErr result (Rose (sink_faults self.old) (sink_faults self.new)) }
         ensures counted { sink_faults self.old ≤ sink_faults self.new }
         // It fails at the calls that it was given, and else writes as much as there is room for.

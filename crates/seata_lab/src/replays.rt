@@ -1,6 +1,8 @@
 //! Replaying the whole schedule of a scenario.
+ghost use Rattle.seata_types.specs.declared.limits.TheConstants.{MANAGERS};
 ghost use Rattle.std.specs.Prelude.{◌≡◌, ◌≤◌, [], length, All, IfOk};
 ghost use Rattle.scenario_reader.specs.Runnable.{IsTimed, IsRunnable};
+ghost use Rattle.seata_lab.specs.Unbuilt.{IsBuilt};
 ghost use Rattle.seata_lab.specs.Runs.{Plays, AreManagers, HasPlayed};
 
 use crate::managers::Manager;
@@ -12,7 +14,7 @@ use std::alloc::Global;
 
 /// The managers of a scenario, before they do anything.
 fn new_managers(alloc: Global, managers: &[ManagerDef]) -> Result<Vec<Manager>, NoMemory>
-    requires few { length managers.now ≤ 256 }
+    requires few { length managers.now ≤ MANAGERS }
     requires timed { All IsTimed managers.now }
     ensures { IfOk result (λ made. AreManagers managers.now made.items) }
 {
@@ -38,9 +40,10 @@ fn new_run(alloc: Global, scenario: &Scenario) -> Result<Run, NoMemory>
     })
 }
 
-/// Replays the schedule of a scenario, step by step.
+/// Replays the schedule of a scenario that can be run, step by step.
 pub fn replay(alloc: Global, scenario: &Scenario) -> Result<Run, NoMemory>
-    requires { IsRunnable scenario.now }
+    requires runnable { IsRunnable scenario.now }
+    requires built { IsBuilt scenario.now }
     ensures { IfOk result (HasPlayed scenario.now) }
 {
     let mut run = new_run(alloc, scenario)?;

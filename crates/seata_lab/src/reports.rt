@@ -10,8 +10,8 @@ ghost use Rattle.seata_lab.specs.Runs.{Plays};
 use crate::runner::Run;
 use coordinator_core::{Coordinator, Session};
 use history_text::{Entry, Names, put_entry, put_place};
-use scenario_reader::{ManagerDef, Scenario};
-use seata_types::{Duplicate, GlobalStatus, List, NoMemory, Place, Xid};
+use scenario_reader::{ManagerDef, ResourceDef, Scenario};
+use seata_types::{Duplicate, GlobalStatus, List, NoMemory, Place, Text, Xid};
 use std::alloc::{AllocError, Global};
 
 /// Seata's name of a session's status.
@@ -38,17 +38,37 @@ fn status_name(status: GlobalStatus) -> &'static str
     }
 }
 
+/// The names of the resources.
+fn resource_names(alloc: Global, resources: &[ResourceDef]) -> Result<List<Text>, NoMemory>
+    ensures { IfOk result (λ names. names ≡ map report.resource_name resources.now) }
+{
+    let mut names = Vec::new(alloc);
+    for resource in resources {
+        names
+            .push(resource.name.copy(alloc)?)
+            .map_err(|_| NoMemory)?;
+    }
+    Ok(List::of(names))
+}
+
 /// The names of the managers.
-fn manager_names(alloc: Global, managers: &[ManagerDef]) -> Result<Names, NoMemory>
-    ensures { IfOk result (λ names. names ≡ record { resources = []; managers = map report.manager_name managers.now }) }
+fn manager_names(alloc: Global, managers: &[ManagerDef]) -> Result<List<Text>, NoMemory>
+    ensures { IfOk result (λ names. names ≡ map report.manager_name managers.now) }
 {
     let mut names = Vec::new(alloc);
     for manager in managers {
         names.push(manager.name.copy(alloc)?).map_err(|_| NoMemory)?;
     }
+    Ok(List::of(names))
+}
+
+/// The names of a scenario's nodes.
+fn node_names(alloc: Global, scenario: &Scenario) -> Result<Names, NoMemory>
+    ensures { IfOk result (λ names. names ≡ report.names_of scenario.now) }
+{
     Ok(Names {
-        resources: List::of(Vec::new(alloc)),
-        managers: List::of(names),
+        resources: resource_names(alloc, scenario.resources.as_slice())?,
+        managers: manager_names(alloc, scenario.managers.as_slice())?,
     })
 }
 
@@ -114,7 +134,7 @@ fn put_report(out: &mut String, run: &Run, names: &Names) -> Result<(), AllocErr
 pub fn write_report(alloc: Global, scenario: &Scenario, run: &Run) -> Result<String, NoMemory>
     ensures { IfOk result (λ text. (ms : List Moment) → Plays scenario.now run.now ms → string_bytes text ≡ report.report scenario.now ms) }
 {
-    let names = manager_names(alloc, scenario.managers.as_slice())?;
+    let names = node_names(alloc, scenario)?;
     let mut out = String::new(alloc);
     match put_report(&mut out, run, &names) {
         Ok(()) => Ok(out),

@@ -1,4 +1,4 @@
-//! The scenarios of `examples/` with their outputs, and two more.
+//! The scenarios of `examples/` with their outputs, and two more; inputs that are refused, with their line.
 
 pub const REPEATED_MESSAGES: [&str; 2] = [
     r#"{
@@ -203,66 +203,157 @@ reads
 /// Frames in hexadecimal digits, with the lines of each. The first is the commit of transaction 7, request number 5.
 pub const FRAMES: [[&str; 2]; 18] = [
     [
-        "dada010000001a00100001000000000500070000000000000007",
+        "dada020000001a00100001000000000500070000000000000007",
         "0 5 commit tc:7\n",
     ],
     ["", ""],
     [
-        "dada010000001c00100001000000000100010001000000000000ea60dada010000001a00100001000000000500070000000000000007",
+        "dada020000001c00100001000000000100010001000000000000ea60dada020000001a00100001000000000500070000000000000007",
         "0 1 begin m1 60000\n28 5 commit tc:7\n",
     ],
     [
-        "dada010000003c001001010000000009000c000000010000000200000000000000070100020003616363000000000000000001000000000000000300",
+        "dada020000003d001001010000000009000c00000001000000020000000000000007010002000361636301000000000000000001000000000000000300",
         "0 9 conflict t1.2 tc:7 r2.acc:1 tc:3 held\n",
     ],
     // Bytes that are too few.
-    ["dada010000001a001000010000000005", "0 Short 26\n"],
-    ["dada010000001a0010000100000000", "0 Short 16\n"],
-    ["dada010000001a0010000100000000050007000000", "0 Short 26\n"],
+    ["dada020000001a001000010000000005", "0 Short 26\n"],
+    ["dada020000001a0010000100000000", "0 Short 16\n"],
+    ["dada020000001a0010000100000000050007000000", "0 Short 26\n"],
     // Heads and bodies that are wrong.
     [
-        "dbda010000001a00100001000000000500070000000000000007",
+        "dbda020000001a00100001000000000500070000000000000007",
         "0 Magic\n",
     ],
     [
-        "dada020000001a00100001000000000500070000000000000007",
+        "dada010000001a00100001000000000500070000000000000007",
         "0 Version\n",
     ],
     [
-        "dada01ffffffff00100001000000000500070000000000000007",
+        "dada02ffffffff00100001000000000500070000000000000007",
         "0 Length\n",
     ],
     [
-        "dada010000001a000f0001000000000500070000000000000007",
+        "dada020000001a000f0001000000000500070000000000000007",
         "0 Length\n",
     ],
     [
-        "dada010000001a00100001010000000500070000000000000007",
+        "dada020000001a00100001010000000500070000000000000007",
         "0 Compressed 1\n",
     ],
     [
-        "dada010000001a00100101000000000500070000000000000007",
+        "dada020000001a00100101000000000500070000000000000007",
         "0 Body 9\n",
     ],
     [
-        "dada010000001a00100002000000000500070000000000000007",
+        "dada020000001a00100002000000000500070000000000000007",
         "0 Body 10\n",
     ],
     [
-        "dada010000001a00100001000000000500ff0000000000000007",
+        "dada020000001a00100001000000000500ff0000000000000007",
         "0 UnknownType 255\n",
     ],
     [
-        "dada010000001a00100001000000000500c90000000000000007",
-        "0 UnknownType 201\n",
+        "dada020000001a00100001000000000500c90000000000000007",
+        "0 Body 26\n",
     ],
     [
-        "dada010000001b0010000100000000050007000000000000000700",
+        "dada020000001b0010000100000000050007000000000000000700",
         "0 Body 26\n",
     ],
     // A bad frame between two good ones.
     [
-        "dada010000001a00100001000000000500070000000000000007dada010000001a00100101000000000500070000000000000007dada010000001a00100001000000000500070000000000000007",
+        "dada020000001a00100001000000000500070000000000000007dada020000001a00100101000000000500070000000000000007dada020000001a00100001000000000500070000000000000007",
         "0 5 commit tc:7\n26 Body 9\n",
+    ],
+];
+
+/// Inputs that are no scenario, with the fault that is told; one for each kind of fault and more.
+pub const FAULTS: [[&str; 2]; 14] = [
+    ["[", "NotJson"],
+    ["[]", "Shape ."],
+    ["{}", "Shape /resources"],
+    [
+        r#"{"timeout":0,"resources":[],"managers":[],"schedule":[]}"#,
+        "Limit /timeout 1",
+    ],
+    [
+        r#"{"resources":[],"managers":[],"schedule":["turn  tc"]}"#,
+        "Shape /schedule/0",
+    ],
+    [
+        r#"{"resources":[],"managers":[],"schedule":["auto 20000","turn tc"]}"#,
+        "Limit /schedule/1 20000",
+    ],
+    [
+        r#"{"resources":[],"managers":[],"schedule":[],"x":1}"#,
+        "Shape .",
+    ],
+    [
+        r#"{"resources":[],"managers":[],"schedule":["turn m9"]}"#,
+        "Name /schedule/0",
+    ],
+    [
+        r#"{"resources":[],"managers":[],"schedule":["crash m9"]}"#,
+        "Name /schedule/0",
+    ],
+    [
+        r#"{"resources":[],"managers":[{"name":"m1","calls":[{"at":"A","do":[]}],"end":"commit"}],"schedule":[]}"#,
+        "Name /managers/0/calls/0/at",
+    ],
+    [
+        r#"{"forget":1,"resources":[],"managers":[{"name":"tc","calls":[],"end":"commit"}],"schedule":[]}"#,
+        "Shape /managers/0/name",
+    ],
+    [
+        r#"{"resources":[{"name":"A","tables":[{"name":"acc","mode":"AT","columns":[["id","int"]],"key":"id","rows":[[1],[1]]}]}],"managers":[],"schedule":[]}"#,
+        "Name /resources/0/tables/0/rows/1",
+    ],
+    [
+        r#"{"resources":[{"name":"A","tables":[{"name":"acc","mode":"AT","columns":[["id","int"]],"key":"id","rows":[]}]}],"managers":[{"name":"m1","calls":[{"at":"A","do":["UPDATE acc SET"]}],"end":"commit"}],"schedule":[]}"#,
+        "Sql /managers/0/calls/0/do/0 14",
+    ],
+    [
+        r#"{"resources":[{"name":"A","tables":[{"name":"acc","mode":"TCC","columns":[["id","int"]],"key":"id","rows":[]}]}],"managers":[{"name":"m1","calls":[{"at":"A","do":["SELECT * FROM acc WHERE id = 1 FOR UPDATE"]}],"end":"commit"}],"schedule":[]}"#,
+        "Mode /managers/0/calls/0/do/0",
+    ],
+];
+
+/// Scenarios with a part that can't be run yet, with the path of the first.
+pub const UNBUILT: [[&str; 2]; 9] = [
+    [
+        r#"{"forget":1,"resources":[{"name":"A","tables":[]}],"managers":[],"schedule":[]}"#,
+        "/forget",
+    ],
+    [
+        r#"{"resources":[{"name":"A","tables":[]}],"managers":[{"name":"m1","calls":[],"end":"commit","poll":true}],"locals":[{"at":"A","do":[]}],"schedule":["local 1","outside 1"]}"#,
+        "/resources",
+    ],
+    [
+        r#"{"resources":[],"managers":[{"name":"m1","calls":[],"end":"commit","poll":false},{"name":"m2","calls":[],"end":"commit","poll":true}],"schedule":["crash tc"]}"#,
+        "/managers/1/poll",
+    ],
+    [
+        r#"{"resources":[],"managers":[],"locals":[],"stops":[["tc",1,0]],"schedule":["stop tc 1"]}"#,
+        "/schedule/0",
+    ],
+    [
+        r#"{"resources":[],"managers":[],"schedule":["turn tc","crash tc"]}"#,
+        "/schedule/1",
+    ],
+    [
+        r#"{"resources":[],"managers":[],"schedule":["wait 1","restart tc 1"]}"#,
+        "/schedule/1",
+    ],
+    [
+        r#"{"resources":[],"managers":[],"schedule":["restart tc 1 2"]}"#,
+        "/schedule/0",
+    ],
+    [
+        r#"{"resources":[],"managers":[],"schedule":["auto 1"]}"#,
+        "/schedule/0",
+    ],
+    [
+        r#"{"resources":[],"managers":[],"schedule":["deliver 1","wait 1","turn tc","auto 20","crash tc"]}"#,
+        "/schedule/3",
     ],
 ];

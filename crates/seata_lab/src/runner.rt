@@ -52,6 +52,7 @@ fn open(alloc: Global, letter: &Letter) -> Result<Delivery, NoMemory>
 }
 
 impl Run {
+    ghost use Rattle.seata_types.specs.declared.limits.TheConstants.{STEPS};
     ghost use Rattle.std.specs.Prelude.{◌≡◌, ◌+◌, ◌++◌, ◌∷◌, [], ◌<◌, ◌≤◌, ◌^◌, ℕ, List, length, slice_get, Option, Some, None, IfOk, OnOk, IfSome, option_map};
     ghost use Rattle.coordinator_core.specs.Standing.{StandsFor, retry_of, steps_of};
     ghost use Rattle.seata_lab.specs.ManagerStanding.{steps_of as manager_steps_of};
@@ -144,7 +145,7 @@ impl Run {
 
     /// Keeps the message of the next entry.
     fn keep(&mut self, alloc: Global, from: Place, sent: &Option<Outgoing>) -> Result<(), NoMemory>
-        requires short { length self.old.entries.items < 20000 }
+        requires short { length self.old.entries.items < STEPS }
         requires framable { IfSome sent.now IsFramableTo }
         ensures kept { OnOk result (self.new.letters.items ≡ self.old.letters.items ++ option_map (letter_from from (length self.old.entries.items + 1)) sent.now ∷ []) }
         ensures entries { self.new.entries ≡ self.old.entries }
@@ -166,7 +167,7 @@ impl Run {
 
     /// Adds the next entry.
     fn print(&mut self, place: Place, cause: Cause, step: Step) -> Result<(), NoMemory>
-        requires { length self.old.entries.items < 20000 }
+        requires { length self.old.entries.items < STEPS }
         ensures printed { OnOk result (self.new.entries.items ≡ self.old.entries.items ++ printed_entry (length self.old.entries.items) place self.old.clock cause step ∷ []) }
         ensures letters { self.new.letters ≡ self.old.letters }
         ensures nodes { (self.new.coordinator ≡ self.old.coordinator) × (self.new.managers ≡ self.old.managers) }
@@ -193,7 +194,7 @@ impl Run {
         cause: Cause,
         step: Step,
     ) -> Result<(), NoMemory>
-        requires short { length self.old.entries.items < 20000 }
+        requires short { length self.old.entries.items < STEPS }
         requires framable { SendsFramable step }
         ensures recorded { OnOk result (IsRecorded self.old self.new place cause step) }
     {
@@ -216,7 +217,7 @@ impl Run {
     ) -> Result<(), NoMemory>
         requires can { CanStep self.old place }
         requires moment { self.old.clock ≤ 2 ^ 63 }
-        requires short { length self.old.entries.items < 20000 }
+        requires short { length self.old.entries.items < STEPS }
         requires framable { ComesFramable input }
         ensures gives { OnOk result (Gives self.old self.new place cause input) }
     {
@@ -227,7 +228,7 @@ impl Run {
 
     /// Adds an entry of the network, at which nothing is done.
     fn pass(&mut self, alloc: Global, cause: Cause) -> Result<(), NoMemory>
-        requires short { length self.old.entries.items < 20000 }
+        requires short { length self.old.entries.items < STEPS }
         ensures recorded { OnOk result (IsRecorded self.old self.new places.Net cause (still_step acts.Nothing)) }
     {
         self.record(alloc, Place::Net, cause, still(Act::Nothing))
@@ -236,7 +237,7 @@ impl Run {
     /// Delivers the message that the entry with this stamp sent.
     fn deliver(&mut self, alloc: Global, stamp: u32) -> Result<(), NoMemory>
         requires can { CanPlay self.old }
-        requires short { length self.old.entries.items < 20000 }
+        requires short { length self.old.entries.items < STEPS }
         ensures plays { OnOk result (PlaysOn self.old self.new (item.Deliver stamp)) }
     {
         let Some(delivery) = self.delivery(alloc, stamp)? else {
@@ -249,11 +250,11 @@ impl Run {
         Ok(())
     }
 
-    /// Makes one step of the schedule.
+    /// Makes one step of the schedule, of a kind that is built.
     pub fn play(&mut self, alloc: Global, step: ScheduleItem) -> Result<(), NoMemory>
         requires can { CanPlay self.old }
         requires fits { Fits self.old step }
-        requires short { length self.old.entries.items < 20000 }
+        requires short { length self.old.entries.items < STEPS }
         ensures plays { OnOk result (PlaysOn self.old self.new step) }
     {
         match step {
@@ -270,6 +271,7 @@ impl Run {
                 self.pass(alloc, Cause::Wait { ticks })?;
                 Ok(())
             }
+            _ => unreachable!(),
         }
     }
 }

@@ -1,4 +1,5 @@
-//! A source and a sink over readers and writers, as the standard streams are. They tell nothing of content.
+//! A source and a sink over readers and writers. They tell of content what these tell: those in memory all of it, the
+//! standard streams nothing.
 use crate::streams::{Failed, Sink, Source};
 use std::io::{Read, Write};
 
@@ -11,21 +12,21 @@ pub struct StdSource<R> {
 
 impl<R> StdSource<R> {
     ghost use Rattle.std.specs.Prelude.{◌≡◌};
-    ghost use Rattle.seata_lab.specs.StdStreams.{source_faults};
+    ghost use Rattle.seata_lab.specs.StdStreams.{reader, source_faults};
 
     /// A source over a reader, of which no fault was counted; takes no memory.
     pub fn new(input: R) -> StdSource<R>
-        ensures { source_faults result ≡ 0 }
+        ensures reader { reader result ≡ input }
+        ensures faults { source_faults result ≡ 0 }
     {
         StdSource { input, faults: 0 }
     }
 }
 
 impl<R: Read> Source for StdSource<R> {
-    ghost use Rattle.std.specs.Prelude.{None};
-    ghost use Rattle.seata_lab.specs.StdStreams.{source_faults};
+    ghost use Rattle.seata_lab.specs.StdStreams.{source_left, source_faults};
 
-    ghost left = { λ _. None };
+    ghost left = { source_left R.remaining };
 
     ghost faults = { source_faults };
 
@@ -49,21 +50,21 @@ pub struct StdSink<W> {
 
 impl<W> StdSink<W> {
     ghost use Rattle.std.specs.Prelude.{◌≡◌};
-    ghost use Rattle.seata_lab.specs.StdStreams.{sink_faults};
+    ghost use Rattle.seata_lab.specs.StdStreams.{writer, sink_faults};
 
     /// A sink over a writer, of which no fault was counted; takes no memory.
     pub fn new(output: W) -> StdSink<W>
-        ensures { sink_faults result ≡ 0 }
+        ensures writer { writer result ≡ output }
+        ensures faults { sink_faults result ≡ 0 }
     {
         StdSink { output, faults: 0 }
     }
 }
 
 impl<W: Write> Sink for StdSink<W> {
-    ghost use Rattle.std.specs.Prelude.{None};
-    ghost use Rattle.seata_lab.specs.StdStreams.{sink_faults};
+    ghost use Rattle.seata_lab.specs.StdStreams.{sink_written, sink_faults};
 
-    ghost written = { λ _. None };
+    ghost written = { sink_written W.contents };
 
     ghost faults = { sink_faults };
 

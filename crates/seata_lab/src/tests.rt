@@ -3,7 +3,8 @@ ghost use Rattle.std.specs.Prelude.{◌<◌};
 
 use crate::memory::{MemSink, MemSource};
 use crate::rows::{
-    COMMIT_IN_TIME, FRAMES, LATE_ONES, NOTHING, REPEATED_MESSAGES, ROLLBACK, TIMEOUT,
+    COMMIT_IN_TIME, FAULTS, FRAMES, LATE_ONES, NOTHING, REPEATED_MESSAGES, ROLLBACK, TIMEOUT,
+    UNBUILT,
 };
 use crate::tops::top;
 use seata_types::Text;
@@ -105,7 +106,7 @@ fn lists_frames(rt: HostRuntime) -> Result<(), Fail> {
 
 #[test]
 fn refuses(rt: HostRuntime) -> Result<(), Fail> {
-    let usage = "usage: seata_lab replay | run | make | stress | frames\n";
+    let usage = "usage: seata_lab replay | run | make | stress | frames | audit | show\n";
     let alloc = rt.alloc();
     expect(&rt, &run(alloc, &[], b"", SOUND)?, 2, usage);
     expect(&rt, &run(alloc, &["replay", "--"], b"", SOUND)?, 2, usage);
@@ -113,17 +114,25 @@ fn refuses(rt: HostRuntime) -> Result<(), Fail> {
     expect(&rt, &run(alloc, &["frames", "--"], b"", SOUND)?, 2, usage);
     let twice = ["frames", "frames"];
     expect(&rt, &run(alloc, &twice, b"", SOUND)?, 2, usage);
-    let not_json = "scenario: NotJson\n";
-    expect(&rt, &run(alloc, &["replay"], b"[", SOUND)?, 3, not_json);
-    let shape = "scenario: Shape .\n";
-    expect(&rt, &run(alloc, &["replay"], b"{}", SOUND)?, 3, shape);
-    let outside = br#"{"resources":[],"managers":[],"schedule":["turn m9"]}"#;
-    expect(&rt, &run(alloc, &["replay"], outside, SOUND)?, 3, shape);
+    for [input, fault] in FAULTS {
+        let line = format!(in alloc; "scenario: {fault}\n")?;
+        let ran = run(alloc, &["replay"], input.as_bytes(), SOUND)?;
+        expect(&rt, &ran, 3, line.as_str());
+    }
+    for [input, path] in UNBUILT {
+        let line = format!(in alloc; "scenario: Unbuilt {path}\n")?;
+        let ran = run(alloc, &["replay"], input.as_bytes(), SOUND)?;
+        expect(&rt, &ran, 3, line.as_str());
+    }
     Ok(())
 }
 
 #[test]
 fn refuses_long_input(rt: HostRuntime) -> Result<(), Fail> {
+    let mut deep = vec![in rt.alloc(); b'['; 200]?;
+    deep.resize(400, b']')?;
+    let ran = run(rt.alloc(), &["replay"], deep.as_slice(), SOUND)?;
+    expect(&rt, &ran, 3, "scenario: NotJson\n");
     let long = vec![in rt.alloc(); b' '; 4_194_305]?;
     let ran = run(rt.alloc(), &["replay"], long.as_slice(), SOUND)?;
     expect(&rt, &ran, 3, "scenario: Limit . 4194304\n");

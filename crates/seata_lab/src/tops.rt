@@ -1,13 +1,12 @@
 //! The calls at the top: one replay, and the program's words.
-ghost use Rattle.std.specs.Prelude.{◌≡◌, ◌≢◌, ◌⊎◌, ℕ, nat_eq, true, false, List, [], ◌∷◌, Some, IfOk, IfErr, OnErr, string_bytes};
-ghost use Rattle.std.specs.List.{list_any};
-ghost use Rattle.scenario_reader.specs.Reading.{IsScenario};
-ghost use Rattle.scenario_reader.specs.declared.scenarios.Scenario.{Scenario};
-ghost use Rattle.seata_lab.specs.Answers.{Replays, Refuses, CutsShort, IsDone, ListsFrames, IsOver, IsInput, is_replay, is_frames, usage_text, frames_answer, frames_status};
-ghost use Rattle.seata_lab.specs.Streams.{Rose, Gains, GainsFront};
+ghost use Rattle.std.specs.Prelude.{◌≡◌, ◌≢◌, ◌⊎◌, true, false, List, [], ◌∷◌, IfOk, IfErr, string_bytes};
+ghost use Rattle.std.specs.Io.KnownBytes.{Appends};
+ghost use Rattle.disk_model.specs.Disk.{Rose};
+ghost use Rattle.seata_lab.specs.Answers.{Answers, IsAnswerTo, IsFramesAnswer, TellsReplay, TellsFrames, TellsUsage, TellsFaults, is_replay, is_frames};
+ghost use Rattle.seata_lab.specs.Streams.{GainsFront, devices};
 
 use crate::answers::{Answer, answer_to};
-use crate::frames::frames_answer;
+use crate::frames::list_frames;
 use crate::streams::{Failed, Sink, Source};
 use crate::transfer::{ReadFault, read_all, write_all};
 use crate::words;
@@ -29,7 +28,7 @@ pub const MEMORY: u8 = 6;
 
 /// Writes a text, and gives the status once it was written.
 fn finish<K: Sink>(sink: &mut K, text: &str, status: u8) -> u8
-    ensures whole { result ≢ 5 → (result ≡ status) × Gains (K.written sink.old) (K.written sink.new) text.now }
+    ensures whole { result ≢ 5 → (result ≡ status) × Appends (K.written sink.old) (K.written sink.new) text.now }
     ensures front { result ≡ 5 → status ≢ 5 → Rose (K.faults sink.old) (K.faults sink.new) × GainsFront (K.written sink.old) (K.written sink.new) text.now }
 {
     match write_all(sink, text.as_bytes()) {
@@ -38,99 +37,91 @@ fn finish<K: Sink>(sink: &mut K, text: &str, status: u8) -> u8
     }
 }
 
-/// Reads the input of a source, or gives the status of what kept it from being read.
-fn read_input<S: Source>(alloc: Global, source: &mut S) -> Result<Vec<u8>, u8>
-    ensures input { IfOk result (λ bytes. (input : List ℕ) → S.left source.old ≡ Some input → IsInput input bytes.items (S.left source.new)) }
-    ensures statuses { IfErr result (λ status. (status ≡ 4) ⊎ (status ≡ 6)) }
-    ensures failed { IfErr result (λ status. status ≡ 4 → Rose (S.faults source.old) (S.faults source.new)) }
+/// The status of what kept an input from being read.
+fn fault_status(fault: ReadFault) -> u8
+    ensures statuses { (result ≡ 4) ⊎ (result ≡ 6) }
+    ensures failed { result ≡ 4 → fault ≡ ReadFault.Failed }
 {
-    match read_all(alloc, source) {
-        Ok(bytes) => Ok(bytes),
-        Err(ReadFault::Failed) => Err(SOURCE),
-        Err(ReadFault::NoMemory) => Err(MEMORY),
+    match fault {
+        ReadFault::Failed => SOURCE,
+        ReadFault::NoMemory => MEMORY,
     }
 }
 
-/// Writes the text of an answer, if there was memory for one, and gives its status once it was written.
-fn write_answer<K: Sink>(sink: &mut K, answer: Result<Answer, NoMemory>) -> u8
-    ensures whole { IfOk answer (λ a. result ≢ 5 → (result ≡ a.status) × Gains (K.written sink.old) (K.written sink.new) (string_bytes a.text)) }
+/// Reads an input and replays it: the text with its status, or the status of what kept it from being answered.
+fn replay_input<S: Source>(alloc: Global, source: &mut S) -> Result<Answer, u8>
+    ensures answer { IfOk result (λ a. Answers IsAnswerTo (S.left source.old) (S.left source.new) (string_bytes a.text) a.status) }
+    ensures statuses { IfErr result (λ status. (status ≡ 4) ⊎ (status ≡ 6)) }
+    ensures failed { IfErr result (λ status. status ≡ 4 → Rose (S.faults source.old) (S.faults source.new)) }
+{
+    let bytes = match read_all(alloc, source) {
+        Ok(bytes) => bytes,
+        Err(fault) => return Err(fault_status(fault)),
+    };
+    match answer_to(alloc, bytes.as_slice()) {
+        Ok(answer) => Ok(answer),
+        Err(NoMemory) => Err(MEMORY),
+    }
+}
+
+/// Reads an input and lists its frames, likewise.
+fn list_input<S: Source>(alloc: Global, source: &mut S) -> Result<Answer, u8>
+    ensures answer { IfOk result (λ a. Answers IsFramesAnswer (S.left source.old) (S.left source.new) (string_bytes a.text) a.status) }
+    ensures statuses { IfErr result (λ status. (status ≡ 4) ⊎ (status ≡ 6)) }
+    ensures failed { IfErr result (λ status. status ≡ 4 → Rose (S.faults source.old) (S.faults source.new)) }
+{
+    match list_frames(alloc, source) {
+        Ok(answer) => Ok(answer),
+        Err(fault) => Err(fault_status(fault)),
+    }
+}
+
+/// Writes the text of an answer, if there is one, and gives its status once it was written.
+fn write_answer<K: Sink>(sink: &mut K, answer: Result<Answer, u8>) -> u8
+    ensures whole { IfOk answer (λ a. result ≢ 5 → (result ≡ a.status) × Appends (K.written sink.old) (K.written sink.new) (string_bytes a.text)) }
     ensures front { IfOk answer (λ a. result ≡ 5 → a.status ≢ 5 → Rose (K.faults sink.old) (K.faults sink.new) × GainsFront (K.written sink.old) (K.written sink.new) (string_bytes a.text)) }
-    ensures no_memory { OnErr answer ((result ≡ 6) × (K.written sink.new ≡ K.written sink.old)) }
+    ensures nothing { IfErr answer (λ status. (result ≡ status) × (K.written sink.new ≡ K.written sink.old)) }
 {
     match answer {
         Ok(answer) => finish(sink, answer.text.as_str(), answer.status),
-        Err(NoMemory) => MEMORY,
+        Err(status) => status,
     }
 }
 
 /// Replays the scenario of a source once, and writes the report of its history. The status is 0 where that is done, 3
 /// where the input is no scenario, 4 where the source failed, 5 where the sink did, and 6 where memory was refused.
 pub fn replay_once<S: Source, K: Sink>(alloc: Global, source: &mut S, sink: &mut K) -> u8
-    ensures done { result ≡ 0 → (input : List ℕ) → S.left source.old ≡ Some input → Replays input (S.left source.new) (K.written sink.old) (K.written sink.new) }
-    ensures refused { result ≡ 3 → (input : List ℕ) → S.left source.old ≡ Some input → Refuses input (K.written sink.old) (K.written sink.new) }
-    ensures source_failed { result ≡ 4 → Rose (S.faults source.old) (S.faults source.new) × (K.written sink.new ≡ K.written sink.old) }
-    ensures sink_failed { result ≡ 5 → Rose (K.faults sink.old) (K.faults sink.new) }
-    ensures cut_short { result ≡ 5 → (input : List ℕ) → S.left source.old ≡ Some input → CutsShort input (K.written sink.old) (K.written sink.new) }
-    ensures no_memory { result ≡ 6 → K.written sink.new ≡ K.written sink.old }
-    ensures statuses { list_any (nat_eq result) (0 ∷ 3 ∷ 4 ∷ 5 ∷ 6 ∷ []) ≡ true }
-    ensures complete { (input : List ℕ) (scenario : Scenario) → S.left source.old ≡ Some input → IsScenario input scenario
-        → ¬ Rose (S.faults source.old) (S.faults source.new) → ¬ Rose (K.faults sink.old) (K.faults sink.new) → IsDone result }
+    ensures replay { TellsReplay result (devices S.left S.faults K.written K.faults source.old sink.old) (devices S.left S.faults K.written K.faults source.new sink.new) }
+    ensures faults { TellsFaults (0 ∷ 3 ∷ 4 ∷ 5 ∷ 6 ∷ []) result (devices S.left S.faults K.written K.faults source.old sink.old) (devices S.left S.faults K.written K.faults source.new sink.new) }
 {
-    match read_input(alloc, source) {
-        Ok(bytes) => write_answer(sink, answer_to(alloc, bytes.as_slice())),
-        Err(status) => status,
-    }
+    write_answer(sink, replay_input(alloc, source))
 }
 
 /// Reads frames, one behind the other, and writes a line for each, up to the first bad one, whose line is the last. The
-/// status is 0 where that is done, a bad frame or not, 3 where the input has more than 4,194,304 bytes, 4 where the
+/// status is 0 where that is done, a bad frame or not, 3 where the input has more bytes than `INPUT_BYTES`, 4 where the
 /// source failed, 5 where the sink did, and 6 where memory was refused.
 pub fn frames_once<S: Source, K: Sink>(alloc: Global, source: &mut S, sink: &mut K) -> u8
-    ensures done { result ≡ 0 → (input : List ℕ) → S.left source.old ≡ Some input → ListsFrames input (S.left source.new) (K.written sink.old) (K.written sink.new) }
-    ensures over { result ≡ 3 → (input : List ℕ) → S.left source.old ≡ Some input → IsOver input (K.written sink.old) (K.written sink.new) }
-    ensures source_failed { result ≡ 4 → Rose (S.faults source.old) (S.faults source.new) × (K.written sink.new ≡ K.written sink.old) }
-    ensures sink_failed { result ≡ 5 → Rose (K.faults sink.old) (K.faults sink.new) }
-    ensures cut_short { result ≡ 5 → (input : List ℕ) → S.left source.old ≡ Some input → GainsFront (K.written sink.old) (K.written sink.new) (frames_answer input) }
-    ensures no_memory { result ≡ 6 → K.written sink.new ≡ K.written sink.old }
-    ensures statuses { list_any (nat_eq result) (0 ∷ 3 ∷ 4 ∷ 5 ∷ 6 ∷ []) ≡ true }
-    ensures complete { (input : List ℕ) → S.left source.old ≡ Some input
-        → ¬ Rose (S.faults source.old) (S.faults source.new) → ¬ Rose (K.faults sink.old) (K.faults sink.new) → (result ≡ frames_status input) ⊎ (result ≡ 6) }
+    ensures frames { TellsFrames result (devices S.left S.faults K.written K.faults source.old sink.old) (devices S.left S.faults K.written K.faults source.new sink.new) }
+    ensures faults { TellsFaults (0 ∷ 3 ∷ 4 ∷ 5 ∷ 6 ∷ []) result (devices S.left S.faults K.written K.faults source.old sink.old) (devices S.left S.faults K.written K.faults source.new sink.new) }
 {
-    match read_input(alloc, source) {
-        Ok(bytes) => write_answer(sink, frames_answer(alloc, bytes.as_slice())),
-        Err(status) => status,
-    }
+    write_answer(sink, list_input(alloc, source))
 }
 
 /// The usage line, for words outside the grammar.
-const USAGE: &str = "usage: seata_lab replay | run | make | stress | frames\n";
+const USAGE: &str = "usage: seata_lab replay | run | make | stress | frames | audit | show\n";
 
 /// Does what the words ask for: `replay` replays the scenario of the source and writes the report, `frames` writes a line
 /// for each frame of the source. Other words are answered with the usage line and status 2.
 pub fn top<S: Source, K: Sink>(alloc: Global, words: &[Text], source: &mut S, sink: &mut K) -> u8
     ensures words { result ≡ 2 → (is_replay words.now ≡ false) × (is_frames words.now ≡ false) }
-    ensures usage { result ≡ 2 → Gains (K.written sink.old) (K.written sink.new) usage_text }
-    ensures outside { is_replay words.now ≡ false → is_frames words.now ≡ false → (result ≡ 2) ⊎ ((result ≡ 5) × GainsFront (K.written sink.old) (K.written sink.new) usage_text) }
-
-    // The word `replay`.
-    ensures replayed { result ≡ 0 → is_replay words.now ≡ true → (input : List ℕ) → S.left source.old ≡ Some input → Replays input (S.left source.new) (K.written sink.old) (K.written sink.new) }
-    ensures replay_refused { result ≡ 3 → is_replay words.now ≡ true → (input : List ℕ) → S.left source.old ≡ Some input → Refuses input (K.written sink.old) (K.written sink.new) }
-    ensures replay_cut_short { result ≡ 5 → is_replay words.now ≡ true → (input : List ℕ) → S.left source.old ≡ Some input → CutsShort input (K.written sink.old) (K.written sink.new) }
-    ensures replay_complete { is_replay words.now ≡ true → (input : List ℕ) (scenario : Scenario) → S.left source.old ≡ Some input → IsScenario input scenario
-        → ¬ Rose (S.faults source.old) (S.faults source.new) → ¬ Rose (K.faults sink.old) (K.faults sink.new) → IsDone result }
-
-    // The word `frames`.
-    ensures frames_listed { result ≡ 0 → is_frames words.now ≡ true → (input : List ℕ) → S.left source.old ≡ Some input → ListsFrames input (S.left source.new) (K.written sink.old) (K.written sink.new) }
-    ensures frames_over { result ≡ 3 → is_frames words.now ≡ true → (input : List ℕ) → S.left source.old ≡ Some input → IsOver input (K.written sink.old) (K.written sink.new) }
-    ensures frames_cut_short { result ≡ 5 → is_frames words.now ≡ true → (input : List ℕ) → S.left source.old ≡ Some input → GainsFront (K.written sink.old) (K.written sink.new) (frames_answer input) }
-    ensures frames_complete { is_frames words.now ≡ true → (input : List ℕ) → S.left source.old ≡ Some input
-        → ¬ Rose (S.faults source.old) (S.faults source.new) → ¬ Rose (K.faults sink.old) (K.faults sink.new) → (result ≡ frames_status input) ⊎ (result ≡ 6) }
-
-    // All words.
-    ensures source_failed { result ≡ 4 → Rose (S.faults source.old) (S.faults source.new) × (K.written sink.new ≡ K.written sink.old) }
-    ensures sink_failed { result ≡ 5 → Rose (K.faults sink.old) (K.faults sink.new) }
-    ensures no_memory { result ≡ 6 → K.written sink.new ≡ K.written sink.old }
-    ensures statuses { list_any (nat_eq result) (0 ∷ 2 ∷ 3 ∷ 4 ∷ 5 ∷ 6 ∷ []) ≡ true }
+    ensures unread { result ≡ 2 → source.new ≡ source.old }
+    ensures usage { is_replay words.now ≡ false → is_frames words.now ≡ false
+        → TellsUsage result (devices S.left S.faults K.written K.faults source.old sink.old) (devices S.left S.faults K.written K.faults source.new sink.new) }
+    ensures replay { is_replay words.now ≡ true
+        → TellsReplay result (devices S.left S.faults K.written K.faults source.old sink.old) (devices S.left S.faults K.written K.faults source.new sink.new) }
+    ensures frames { is_frames words.now ≡ true
+        → TellsFrames result (devices S.left S.faults K.written K.faults source.old sink.old) (devices S.left S.faults K.written K.faults source.new sink.new) }
+    ensures faults { TellsFaults (0 ∷ 2 ∷ 3 ∷ 4 ∷ 5 ∷ 6 ∷ []) result (devices S.left S.faults K.written K.faults source.old sink.old) (devices S.left S.faults K.written K.faults source.new sink.new) }
 {
     if words::are(words, "replay") {
         return replay_once(alloc, source, sink);

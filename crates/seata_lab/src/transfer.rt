@@ -1,13 +1,13 @@
 //! Reading a whole input and writing a whole text.
 ghost use Rattle.std.specs.Prelude.{◌≡◌, ◌<◌, ◌≤◌, ◌+◌, ℕ, vec_len, length, take, IfOk, IfErr, OnOk, OnErr};
-ghost use Rattle.seata_lab.specs.Streams.{Rose, Loses, Gains, GainsFront, Ends};
+ghost use Rattle.disk_model.specs.Disk.{Rose};
+ghost use Rattle.seata_lab.specs.Streams.{GainsFront};
+ghost use Rattle.seata_types.specs.declared.limits.TheConstants.{INPUT_BYTES};
+ghost use Rattle.std.specs.Io.KnownBytes.{Consumes, Appends, IsAtEnd};
 
 use crate::streams::{Failed, Sink, Source};
-use seata_types::limits::INPUT_BYTES;
+use seata_types::limits::{INPUT_BYTES, PIECE_BYTES};
 use std::alloc::{AllocError, Global};
-
-/// How many bytes are asked of a source at a time.
-const CHUNK: usize = 65_536;
 
 /// Why an input wasn't read.
 pub enum ReadFault {
@@ -17,7 +17,7 @@ pub enum ReadFault {
 
 /// Writes the whole text.
 pub fn write_all<K: Sink>(sink: &mut K, text: &[u8]) -> Result<(), Failed>
-    ensures ok { OnOk result (Gains (K.written sink.old) (K.written sink.new) text.now) }
+    ensures ok { OnOk result (Appends (K.written sink.old) (K.written sink.new) text.now) }
     ensures front { OnErr result (GainsFront (K.written sink.old) (K.written sink.new) text.now) }
     ensures err { OnErr result (Rose (K.faults sink.old) (K.faults sink.new)) }
     ensures counted { K.faults sink.old ≤ K.faults sink.new }
@@ -34,11 +34,11 @@ pub fn write_all<K: Sink>(sink: &mut K, text: &[u8]) -> Result<(), Failed>
 }
 
 /// Reads into the front of a buffer.
-fn read_some<S: Source>(source: &mut S, buffer: &mut [u8], room: usize) -> Result<usize, Failed>
+pub fn read_some<S: Source>(source: &mut S, buffer: &mut [u8], room: usize) -> Result<usize, Failed>
     requires { room ≤ length buffer.old }
     ensures bound { IfOk result (λ n. n ≤ room) }
-    ensures bytes { IfOk result (λ n. Loses (S.left source.old) (S.left source.new) (take n buffer.new)) }
-    ensures end { IfOk result (λ n. n ≡ 0 → 0 < room → Ends (S.left source.new)) }
+    ensures bytes { IfOk result (λ n. Consumes (S.left source.old) (S.left source.new) (take n buffer.new)) }
+    ensures end { IfOk result (λ n. n ≡ 0 → 0 < room → IsAtEnd (S.left source.new)) }
     ensures err { OnErr result (Rose (S.faults source.old) (S.faults source.new)) }
     ensures counted { S.faults source.old ≤ S.faults source.new }
 {
@@ -46,7 +46,7 @@ fn read_some<S: Source>(source: &mut S, buffer: &mut [u8], room: usize) -> Resul
 }
 
 /// So many zero bytes.
-fn zeros(alloc: Global, n: usize) -> Result<Vec<u8>, AllocError>
+pub fn zeros(alloc: Global, n: usize) -> Result<Vec<u8>, AllocError>
     ensures { IfOk result (λ bytes. vec_len bytes ≡ n) }
 {
     vec![in alloc; 0; n]
@@ -54,16 +54,16 @@ fn zeros(alloc: Global, n: usize) -> Result<Vec<u8>, AllocError>
 
 /// Reads to the end of the input, or one byte past the most that is taken.
 pub fn read_all<S: Source>(alloc: Global, source: &mut S) -> Result<Vec<u8>, ReadFault>
-    ensures bytes { IfOk result (λ bytes. Loses (S.left source.old) (S.left source.new) bytes.items) }
-    ensures end { IfOk result (λ bytes. length bytes.items ≤ 4194304 → Ends (S.left source.new)) }
-    ensures most { IfOk result (λ bytes. length bytes.items ≤ 4194305) }
+    ensures bytes { IfOk result (λ bytes. Consumes (S.left source.old) (S.left source.new) bytes.items) }
+    ensures end { IfOk result (λ bytes. length bytes.items ≤ INPUT_BYTES → IsAtEnd (S.left source.new)) }
+    ensures most { IfOk result (λ bytes. length bytes.items ≤ INPUT_BYTES + 1) }
     ensures err { IfErr result (λ e. e ≡ ReadFault.Failed → Rose (S.faults source.old) (S.faults source.new)) }
     ensures counted { S.faults source.old ≤ S.faults source.new }
 {
-    let mut buffer = zeros(alloc, CHUNK).map_err(|_| ReadFault::NoMemory)?;
+    let mut buffer = zeros(alloc, PIECE_BYTES).map_err(|_| ReadFault::NoMemory)?;
     let mut bytes = Vec::new(alloc);
     while bytes.len() <= INPUT_BYTES {
-        let room = CHUNK.min(INPUT_BYTES + 1 - bytes.len());
+        let room = PIECE_BYTES.min(INPUT_BYTES + 1 - bytes.len());
         let count = match read_some(source, &mut buffer, room) {
             Ok(count) => count,
             Err(Failed) => return Err(ReadFault::Failed),

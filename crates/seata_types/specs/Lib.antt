@@ -2,3 +2,4 @@ pub mod Condition
 pub mod ConditionOf
 pub mod Orders
 pub mod Statuses
+pub mod ValueOrder

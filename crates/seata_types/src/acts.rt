@@ -5,7 +5,8 @@ use crate::rows::{Row, RowKey};
 use crate::statuses::{Decision, GlobalStatus};
 
 /// An act that is in the node's journal once it is acknowledged. It is `Copy`, so that a crash and
-/// a failed device take no memory. The first eight are the coordinator's.
+/// a failed device take no memory. The first nine are the coordinator's; numbers of local
+/// transactions are counted from 1.
 #[derive(Clone, Copy, PartialEq, Eq)]
 pub enum Durable {
     Begun {
@@ -38,6 +39,9 @@ pub enum Durable {
     Finished {
         xid: Xid,
         status: GlobalStatus,
+    },
+    Forgot {
+        xid: Xid,
     },
     Committed {
         xid: Xid,
@@ -72,6 +76,13 @@ pub enum Durable {
     Suspended {
         xid: Xid,
         branch: BranchId,
+    },
+    LocalCommitted {
+        number: u16,
+        ticket: Ticket,
+    },
+    Outside {
+        number: u16,
     },
     Boot,
 }
@@ -110,6 +121,11 @@ pub enum Act {
         xid: Xid,
         branch: BranchId,
     },
+    Held {
+        key: RowKey,
+        holder: Xid,
+    },
+    Free,
     Opened {
         xid: Xid,
         call: u16,
@@ -183,6 +199,28 @@ pub enum Act {
         index: u16,
         why: StmtError,
     },
+    WaitingLocal {
+        number: u16,
+    },
+    RefusedLocal {
+        number: u16,
+        why: Why,
+    },
+    BusyLocal {
+        number: u16,
+        key: RowKey,
+        by: Ticket,
+    },
+    OpenedLocal {
+        number: u16,
+        ticket: Ticket,
+    },
+    DroppedLocal {
+        number: u16,
+        ticket: Ticket,
+        key: RowKey,
+        holder: Xid,
+    },
     Starts,
     Repeats,
     GoesOn,
@@ -191,6 +229,10 @@ pub enum Act {
         count: u32,
     },
     Closes {
+        status: GlobalStatus,
+    },
+    Polls,
+    Learns {
         status: GlobalStatus,
     },
     Silent,

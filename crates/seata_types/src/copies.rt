@@ -16,6 +16,18 @@ pub trait Duplicate {
         ensures { IfOk result (λ copied. copied ≡ self.now) };
 }
 
+impl Duplicate for u16 {
+    fn copy(&self, _alloc: Global) -> Result<Self, NoMemory> {
+        Ok(*self)
+    }
+}
+
+impl<A: Duplicate + Drop, B: Duplicate + Drop> Duplicate for (A, B) {
+    fn copy(&self, alloc: Global) -> Result<Self, NoMemory> {
+        Ok((self.0.copy(alloc)?, self.1.copy(alloc)?))
+    }
+}
+
 impl<T: Duplicate> Duplicate for Option<T> {
     fn copy(&self, alloc: Global) -> Result<Self, NoMemory> {
         match self {

@@ -78,11 +78,11 @@ pub struct Full {
     pub size: u64,
 }
 
-/// Why a node's store doesn't open. `Damaged` has the offset of the damage.
+/// Why a node's store doesn't open. `Damaged` says on which of its two disks, and at which offset.
 #[derive(Clone, Copy, PartialEq, Eq)]
 pub enum OpenError {
     Failed,
-    Damaged { at: u64 },
+    Damaged { second: bool, at: u64 },
     Full(Full),
     NoMemory,
 }

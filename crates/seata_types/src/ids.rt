@@ -1,8 +1,17 @@
 //! The identities of transactions, branches, local transactions and nodes. All are counted from 1.
 
+use crate::copies::{Duplicate, NoMemory};
+use std::alloc::Global;
+
 /// A global transaction, printed as Seata's XID with the coordinator's name: `tc:1`.
 #[derive(Clone, Copy, PartialEq, Eq, PartialOrd, Ord)]
 pub struct Xid(pub u64);
+
+impl Duplicate for Xid {
+    fn copy(&self, _alloc: Global) -> Result<Self, NoMemory> {
+        Ok(*self)
+    }
+}
 
 /// A branch, counted over all transactions.
 #[derive(Clone, Copy, PartialEq, Eq, PartialOrd, Ord)]

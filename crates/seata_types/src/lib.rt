@@ -14,8 +14,6 @@ pub mod messages;
 pub mod rows;
 pub mod statements;
 pub mod statuses;
-#[cfg(test)]
-mod tests;
 pub mod texts;
 
 pub use acts::{Act, Durable};

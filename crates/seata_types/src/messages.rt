@@ -68,8 +68,10 @@ impl Duplicate for CallAnswer {
     }
 }
 
-/// A message, after Seata's protocol. Timeouts are in ticks; managers, resources, calls and
-/// statements are counted from 1.
+/// A message. `Begin` to `StatusAnswer` are named after Seata's protocol, which has a lock query
+/// too; calls and their answers are this project's own. Timeouts are in ticks; managers, resources,
+/// calls and statements are counted from 1. An answer to a lock query names the first key that
+/// another transaction holds, if any, and the transaction.
 #[derive(Drop)]
 pub enum Message {
     Begin {
@@ -132,6 +134,22 @@ pub enum Message {
         ticket: Ticket,
         xid: Xid,
         answer: Registered,
+    },
+    GlobalStatus {
+        xid: Xid,
+    },
+    StatusAnswer {
+        xid: Xid,
+        status: GlobalStatus,
+    },
+    LockQuery {
+        resource: u16,
+        ticket: Ticket,
+        check: List<RowKey>,
+    },
+    LockAnswer {
+        ticket: Ticket,
+        held: Option<(RowKey, Xid)>,
     },
     Call {
         xid: Xid,
@@ -249,6 +267,24 @@ impl Duplicate for Message {
                 xid: *xid,
                 answer: answer.copy(alloc)?,
             }),
+            Message::GlobalStatus { xid } => Ok(Message::GlobalStatus { xid: *xid }),
+            Message::StatusAnswer { xid, status } => Ok(Message::StatusAnswer {
+                xid: *xid,
+                status: *status,
+            }),
+            Message::LockQuery {
+                resource,
+                ticket,
+                check,
+            } => Ok(Message::LockQuery {
+                resource: *resource,
+                ticket: *ticket,
+                check: check.copy(alloc)?,
+            }),
+            Message::LockAnswer { ticket, held } => Ok(Message::LockAnswer {
+                ticket: *ticket,
+                held: held.copy(alloc)?,
+            }),
             Message::Call {
                 xid,
                 manager,
@@ -271,11 +307,14 @@ impl Duplicate for Message {
     }
 }
 
-/// What a node is given: a turn, or a message with the place that sent it.
+/// What a node is given: a turn, a message with the place that sent it, or the number of a local
+/// transaction of the scenario, counted from 1, to run guarded by the global lock or outside it.
 #[derive(Drop)]
 pub enum Input {
     Turn,
     Message { from: Place, message: Message },
+    Local { number: u16 },
+    Outside { number: u16 },
 }
 
 /// A message on its way out.

@@ -28,9 +28,9 @@ pub enum Sign {
     Minus,
 }
 
-impl Duplicate for (Sign, Term) {
-    fn copy(&self, alloc: Global) -> Result<Self, NoMemory> {
-        Ok((self.0, self.1.copy(alloc)?))
+impl Duplicate for Sign {
+    fn copy(&self, _alloc: Global) -> Result<Self, NoMemory> {
+        Ok(*self)
     }
 }
 
@@ -47,12 +47,6 @@ impl Duplicate for Expr {
             first: self.first.copy(alloc)?,
             rest: self.rest.copy(alloc)?,
         })
-    }
-}
-
-impl Duplicate for (Text, Expr) {
-    fn copy(&self, alloc: Global) -> Result<Self, NoMemory> {
-        Ok((self.0.copy(alloc)?, self.1.copy(alloc)?))
     }
 }
 

@@ -32,37 +32,37 @@ comparison-ahead column test compared rest is =
     rw (operator-ahead test (ahead (value_piece compared ∷ []) rest), literal-ahead compared rest is) refl
 
 -- a fact that begins with a name
-name-first : (room : ℕ) (n : List ℕ) (ts : List Token) → g.fact room (token.Name n ∷ ts) ≡ g.comparison (token.Name n ∷ ts)
+pub name-first : (room : ℕ) (n : List ℕ) (ts : List Token) → g.fact room (token.Name n ∷ ts) ≡ g.comparison (token.Name n ∷ ts)
 unfolding g.fact g.innermost sees past
 name-first zero n ts = refl
 name-first (suc room) n ts = refl
 
-not-first : (room : ℕ) (ts rest : List Token) (c : Condition) → g.fact room ts ≡ Ok (c, rest) → g.fact (suc room) (token.Symbol symbol.Not ∷ ts) ≡ Ok (tree.Not c, rest)
+pub not-first : (room : ℕ) (ts rest : List Token) (c : Condition) → g.fact room ts ≡ Ok (c, rest) → g.fact (suc room) (token.Symbol symbol.Not ∷ ts) ≡ Ok (tree.Not c, rest)
 unfolding g.fact sees past same_symbol
 not-first room ts rest c is = rw is refl
 
-open-first : (room : ℕ) (ts rest : List Token) (c : Condition) → g.disjunction (g.fact room) ts ≡ Ok (c, token.Symbol symbol.Close ∷ rest)
+pub open-first : (room : ℕ) (ts rest : List Token) (c : Condition) → g.disjunction (g.fact room) ts ≡ Ok (c, token.Symbol symbol.Close ∷ rest)
     → g.fact (suc room) (token.Symbol symbol.Open ∷ ts) ≡ Ok (c, rest)
 unfolding g.fact sees past same_symbol expect
 open-first room ts rest c is = rw is refl
 
 -- ---- chains: what is read of a condition, with the turns that are left
 
-record ReadsConjunction (room : ℕ) (c : Condition) (ts rest : List Token) : Type 0 where
-  turns : ℕ
-  enough : length rest ≤ turns
-  reads : g.conjunction (g.fact room) ts ≡ more symbol.And (g.fact room) tree.And turns c rest
+pub record ReadsConjunction (room : ℕ) (c : Condition) (ts rest : List Token) : Type 0 where
+  pub turns : ℕ
+  pub enough : length rest ≤ turns
+  pub reads : g.conjunction (g.fact room) ts ≡ more symbol.And (g.fact room) tree.And turns c rest
 
-record ReadsDisjunction (room : ℕ) (c : Condition) (ts rest : List Token) : Type 0 where
-  turns : ℕ
-  enough : length rest ≤ turns
-  reads : g.disjunction (g.fact room) ts ≡ more symbol.Or (g.conjunction (g.fact room)) tree.Or turns c rest
+pub record ReadsDisjunction (room : ℕ) (c : Condition) (ts rest : List Token) : Type 0 where
+  pub turns : ℕ
+  pub enough : length rest ≤ turns
+  pub reads : g.disjunction (g.fact room) ts ≡ more symbol.Or (g.conjunction (g.fact room)) tree.Or turns c rest
 
-one-fact : (room : ℕ) (c : Condition) (ts rest : List Token) → g.fact room ts ≡ Ok (c, rest) → ReadsConjunction room c ts rest
+pub one-fact : (room : ℕ) (c : Condition) (ts rest : List Token) → g.fact room ts ≡ Ok (c, rest) → ReadsConjunction room c ts rest
 unfolding g.conjunction
 one-fact room c ts rest is = record { turns = length rest; enough = omega arith; reads = rw is refl }
 
-one-more-fact : (room : ℕ) (left right : Condition) (ts middle rest : List Token) → ReadsConjunction room left ts (token.Symbol symbol.And ∷ middle)
+pub one-more-fact : (room : ℕ) (left right : Condition) (ts middle rest : List Token) → ReadsConjunction room left ts (token.Symbol symbol.And ∷ middle)
     → g.fact room middle ≡ Ok (right, rest) → length rest ≤ length middle → ReadsConjunction room (tree.And left right) ts rest
 one-more-fact room left right ts middle rest before is shorter = by_turns before.turns before.enough before.reads
   where
@@ -71,14 +71,14 @@ one-more-fact room left right ts middle rest before is shorter = by_turns before
     by_turns zero enough reads = absurd (omega arith)
     by_turns (suc n) enough reads = record { turns = n; enough = omega arith; reads = reads ∙ more-goes symbol.And (g.fact room) tree.And n left right middle rest is }
 
-conjunction-ends : (room : ℕ) (c : Condition) (ts rest : List Token) → ReadsConjunction room c ts rest → sees symbol.And rest ≡ false → g.conjunction (g.fact room) ts ≡ Ok (c, rest)
+pub conjunction-ends : (room : ℕ) (c : Condition) (ts rest : List Token) → ReadsConjunction room c ts rest → sees symbol.And rest ≡ false → g.conjunction (g.fact room) ts ≡ Ok (c, rest)
 conjunction-ends room c ts rest is none = is.reads ∙ more-stops symbol.And (g.fact room) tree.And is.turns c rest none
 
-one-conjunction : (room : ℕ) (c : Condition) (ts rest : List Token) → g.conjunction (g.fact room) ts ≡ Ok (c, rest) → ReadsDisjunction room c ts rest
+pub one-conjunction : (room : ℕ) (c : Condition) (ts rest : List Token) → g.conjunction (g.fact room) ts ≡ Ok (c, rest) → ReadsDisjunction room c ts rest
 unfolding g.disjunction
 one-conjunction room c ts rest is = record { turns = length rest; enough = omega arith; reads = rw is refl }
 
-one-more-conjunction : (room : ℕ) (left right : Condition) (ts middle rest : List Token) → ReadsDisjunction room left ts (token.Symbol symbol.Or ∷ middle)
+pub one-more-conjunction : (room : ℕ) (left right : Condition) (ts middle rest : List Token) → ReadsDisjunction room left ts (token.Symbol symbol.Or ∷ middle)
     → g.conjunction (g.fact room) middle ≡ Ok (right, rest) → length rest ≤ length middle → ReadsDisjunction room (tree.Or left right) ts rest
 one-more-conjunction room left right ts middle rest before is shorter = by_turns before.turns before.enough before.reads
   where
@@ -87,7 +87,7 @@ one-more-conjunction room left right ts middle rest before is shorter = by_turns
     by_turns zero enough reads = absurd (omega arith)
     by_turns (suc n) enough reads = record { turns = n; enough = omega arith; reads = reads ∙ more-goes symbol.Or (g.conjunction (g.fact room)) tree.Or n left right middle rest is }
 
-disjunction-ends : (room : ℕ) (c : Condition) (ts rest : List Token) → ReadsDisjunction room c ts rest → sees symbol.Or rest ≡ false → g.disjunction (g.fact room) ts ≡ Ok (c, rest)
+pub disjunction-ends : (room : ℕ) (c : Condition) (ts rest : List Token) → ReadsDisjunction room c ts rest → sees symbol.Or rest ≡ false → g.disjunction (g.fact room) ts ≡ Ok (c, rest)
 disjunction-ends room c ts rest is none = is.reads ∙ more-stops symbol.Or (g.conjunction (g.fact room)) tree.Or is.turns c rest none
 
 -- ---- the three places in which a condition stands
@@ -97,15 +97,15 @@ record ReadsBackCondition (c : Condition) : Type 0 where
   as_conjunction : (room : ℕ) (rest : List Token) → is_or c ≡ false → nesting c ≤ room → ReadsConjunction room c (ahead (condition_pieces c) rest) rest
   as_whole : (room : ℕ) (rest : List Token) → nesting c ≤ room → sees symbol.And rest ≡ false → ReadsDisjunction room c (ahead (condition_pieces c) rest) rest
 
-close-is_no_and : (rest : List Token) → sees symbol.And (token.Symbol symbol.Close ∷ rest) ≡ false
+pub close-is_no_and : (rest : List Token) → sees symbol.And (token.Symbol symbol.Close ∷ rest) ≡ false
 unfolding sees same_symbol
 close-is_no_and rest = refl
 
-close-is_no_or : (rest : List Token) → sees symbol.Or (token.Symbol symbol.Close ∷ rest) ≡ false
+pub close-is_no_or : (rest : List Token) → sees symbol.Or (token.Symbol symbol.Close ∷ rest) ≡ false
 unfolding sees same_symbol
 close-is_no_or rest = refl
 
-or-is_no_and : (rest : List Token) → sees symbol.And (token.Symbol symbol.Or ∷ rest) ≡ false
+pub or-is_no_and : (rest : List Token) → sees symbol.And (token.Symbol symbol.Or ∷ rest) ≡ false
 unfolding sees same_symbol
 or-is_no_and rest = refl
 
@@ -202,3 +202,10 @@ pub cond-ahead : (c : Condition) (rest : List Token) → IsCondition c → sees 
 unfolding g.cond
 cond-ahead c rest is no_and no_or =
     disjunction-ends NESTING c _ rest ((condition-reads c is.0).as_whole NESTING rest is.1 no_and) no_or
+
+-- a condition in parentheses, where a condition stands
+pub open-whole : (room : ℕ) (ts rest : List Token) (c : Condition) → g.disjunction (g.fact room) ts ≡ Ok (c, token.Symbol symbol.Close ∷ rest)
+    → sees symbol.And rest ≡ false → sees symbol.Or rest ≡ false → g.disjunction (g.fact (suc room)) (token.Symbol symbol.Open ∷ ts) ≡ Ok (c, rest)
+open-whole room ts rest c is no_and no_or =
+    let alone = one-fact (suc room) c _ rest (open-first room ts rest c is) in
+    disjunction-ends (suc room) c _ rest (one-conjunction (suc room) c _ rest (conjunction-ends (suc room) c _ rest alone no_and)) no_or

@@ -1,15 +1,23 @@
 mod Ahead
 mod AheadConditions
 mod AheadStatements
+mod Cuts
 mod Doubled
 mod GoodPieces
+mod Keywords
+mod KeywordTexts
 mod Numbers
 mod PieceTokens
 mod ProperTokens
 mod QuotedTexts
 mod Sound
 pub mod ReadBack
+mod Spelled
+mod SpelledTexts
+mod SpellingOf
+mod Stacks
 mod Starts
 mod Turns
+mod Uniform
 mod Words
 mod Written

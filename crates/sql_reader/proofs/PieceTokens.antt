@@ -59,12 +59,12 @@ ends_comma z = record { no_word = refl; no_digit = refl; no_quote = refl; no_gre
 
 -- ---- words and numbers
 
-prefix_len-whole : (p : ℕ → Bool) (w z : List ℕ) → list_all p w ≡ true → prefix_len p z ≡ 0 → prefix_len p (w ++ z) ≡ length w
+pub prefix_len-whole : (p : ℕ → Bool) (w z : List ℕ) → list_all p w ≡ true → prefix_len p z ≡ 0 → prefix_len p (w ++ z) ≡ length w
 prefix_len-whole p [] z all none = none
 prefix_len-whole p (x ∷ w) z all none =
     rw (both_left (p x) (list_all p w) all) (ap (λ n. 1 + n) (prefix_len-whole p w z (both_right (p x) (list_all p w) all) none) ∙ omega arith)
 
-word-first : (b : ℕ) (w z : List ℕ) → is_ascii_alphabetic b ≡ true → prefix_len is_word_byte (b ∷ (w ++ z)) ≡ suc (length w) → token_at (b ∷ (w ++ z)) ≡ (word_token (b ∷ w), suc (length w))
+pub word-first : (b : ℕ) (w z : List ℕ) → is_ascii_alphabetic b ≡ true → prefix_len is_word_byte (b ∷ (w ++ z)) ≡ suc (length w) → token_at (b ∷ (w ++ z)) ≡ (word_token (b ∷ w), suc (length w))
 unfolding token_at
 word-first b w z letter whole = rw (letter, whole, take-append_seam) refl
 

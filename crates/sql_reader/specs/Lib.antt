@@ -3,4 +3,7 @@ pub mod Parsing
 pub mod Grammar
 pub mod Answer
 pub mod Canonical
+pub mod Pending
+pub mod Spelling
+pub mod Alike
 pub mod Readable

@@ -8,18 +8,20 @@ mod cursor;
 mod errors;
 mod laws;
 mod lexing;
+mod lists;
 mod parts;
 mod reading;
 mod statements;
 mod symbols;
+mod tasks;
 mod tokens;
 mod writer;
 mod writing;
 
 pub use errors::{SqlError, SqlKind};
-pub use laws::{canonical_texts_read_back, what_is_read_can_be_written};
+pub use laws::{
+    canonical_texts_read_back, conditions_are_spelled, keywords_read_alike,
+    parentheses_change_nothing, what_is_read_can_be_written,
+};
 pub use reading::read_stmt;
 pub use writing::write_stmt;
-
-#[cfg(test)]
-mod tests;

@@ -1,70 +1,26 @@
 //! The four statements.
-ghost use Rattle.std.specs.Prelude.{◌≡◌, map};
-ghost use Rattle.sql_reader.specs.Parsing.{Reads, ReadsAs};
+ghost use Rattle.std.specs.Prelude.{◌≡◌};
+ghost use Rattle.sql_reader.specs.Parsing.{Reads};
 ghost use Rattle.sql_reader.specs.Grammar as spec;
 
 use crate::conditions::filter;
 use crate::cursor::Cursor;
 use crate::errors::Stop;
+use crate::lists::{Item, listed};
 use crate::parts::{expr, literal, name};
 use crate::symbols::Symbol;
 use crate::tokens::Token;
 use seata_types::{Expr, List, Stmt, Text, Value};
 use std::alloc::Global;
 
-#[tactic(auto, unfolding(crate::specs::Grammar::names, crate::specs::Parsing::more))]
-fn names(alloc: Global, tokens: &mut Cursor<'_>) -> Result<List<Text>, Stop>
-    ensures { Reads (spec.names tokens.old) result tokens.new }
-{
-    let mut names = Vec::new(alloc);
-    names.push(name(alloc, tokens)?)?;
-    for _turn in 0..tokens.left() {
-        if !tokens.eat(Symbol::Comma) {
-            return Ok(List::of(names));
-        }
-        names.push(name(alloc, tokens)?)?;
-    }
-    Ok(List::of(names))
-}
-
-#[tactic(auto, unfolding(crate::specs::Grammar::literals, crate::specs::Parsing::more))]
-fn literals(alloc: Global, tokens: &mut Cursor<'_>) -> Result<List<Value>, Stop>
-    ensures { Reads (spec.literals tokens.old) result tokens.new }
-{
-    let mut values = Vec::new(alloc);
-    values.push(literal(alloc, tokens)?)?;
-    for _turn in 0..tokens.left() {
-        if !tokens.eat(Symbol::Comma) {
-            return Ok(List::of(values));
-        }
-        values.push(literal(alloc, tokens)?)?;
-    }
-    Ok(List::of(values))
-}
-
-#[tactic(auto, unfolding(crate::specs::Grammar::tuple))]
+#[tactic(auto, unfolding(crate::specs::Grammar::tuple, crate::specs::Grammar::literals))]
 fn tuple(alloc: Global, tokens: &mut Cursor<'_>) -> Result<List<Value>, Stop>
     ensures { Reads (spec.tuple tokens.old) result tokens.new }
 {
     tokens.expect(Symbol::Open)?;
-    let values = literals(alloc, tokens)?;
+    let values = listed(alloc, tokens)?;
     tokens.expect(Symbol::Close)?;
     Ok(values)
-}
-
-#[tactic(auto, unfolding(crate::specs::Grammar::tuples, crate::specs::Parsing::more))]
-fn tuples(alloc: Global, tokens: &mut Cursor<'_>) -> Result<List<List<Value>>, Stop>
-    ensures { Reads (spec.tuples tokens.old) result tokens.new }
-{
-    let mut rows = Vec::new(alloc);
-    rows.push(tuple(alloc, tokens)?)?;
-    for _turn in 0..tokens.left() {
-        if !tokens.eat(Symbol::Comma) {
-            return Ok(List::of(rows));
-        }
-        rows.push(tuple(alloc, tokens)?)?;
-    }
-    Ok(List::of(rows))
 }
 
 #[tactic(auto, unfolding(crate::specs::Grammar::assignment))]
@@ -76,33 +32,50 @@ fn assignment(alloc: Global, tokens: &mut Cursor<'_>) -> Result<(Text, Expr), St
     Ok((column, expr(alloc, tokens)?))
 }
 
-#[tactic(auto, unfolding(crate::specs::Grammar::assignments, crate::specs::Parsing::more))]
-fn assignments(alloc: Global, tokens: &mut Cursor<'_>) -> Result<List<(Text, Expr)>, Stop>
-    ensures { Reads (spec.assignments tokens.old) result tokens.new }
-{
-    let mut sets = Vec::new(alloc);
-    sets.push(assignment(alloc, tokens)?)?;
-    for _turn in 0..tokens.left() {
-        if !tokens.eat(Symbol::Comma) {
-            return Ok(List::of(sets));
-        }
-        sets.push(assignment(alloc, tokens)?)?;
+impl Item for Text {
+    ghost item = { spec.name };
+
+    fn read(alloc: Global, tokens: &mut Cursor<'_>) -> Result<Text, Stop> {
+        name(alloc, tokens)
     }
-    Ok(List::of(sets))
+}
+
+impl Item for Value {
+    ghost item = { spec.literal };
+
+    fn read(alloc: Global, tokens: &mut Cursor<'_>) -> Result<Value, Stop> {
+        literal(alloc, tokens)
+    }
+}
+
+impl Item for List<Value> {
+    ghost item = { spec.tuple };
+
+    fn read(alloc: Global, tokens: &mut Cursor<'_>) -> Result<List<Value>, Stop> {
+        tuple(alloc, tokens)
+    }
+}
+
+impl Item for (Text, Expr) {
+    ghost item = { spec.assignment };
+
+    fn read(alloc: Global, tokens: &mut Cursor<'_>) -> Result<(Text, Expr), Stop> {
+        assignment(alloc, tokens)
+    }
 }
 
 /// Behind INSERT.
-#[tactic(auto, unfolding(crate::specs::Grammar::insert))]
+#[tactic(auto, unfolding(crate::specs::Grammar::insert, crate::specs::Grammar::names, crate::specs::Grammar::tuples))]
 fn insert(alloc: Global, tokens: &mut Cursor<'_>) -> Result<Stmt, Stop>
     ensures { Reads (spec.insert tokens.old) result tokens.new }
 {
     tokens.expect(Symbol::Into)?;
     let table = name(alloc, tokens)?;
     tokens.expect(Symbol::Open)?;
-    let columns = names(alloc, tokens)?;
+    let columns = listed(alloc, tokens)?;
     tokens.expect(Symbol::Close)?;
     tokens.expect(Symbol::Values)?;
-    let rows = tuples(alloc, tokens)?;
+    let rows = listed(alloc, tokens)?;
     Ok(Stmt::Insert {
         table,
         columns,
@@ -111,13 +84,13 @@ fn insert(alloc: Global, tokens: &mut Cursor<'_>) -> Result<Stmt, Stop>
 }
 
 /// Behind UPDATE.
-#[tactic(auto, unfolding(crate::specs::Grammar::update))]
+#[tactic(auto, unfolding(crate::specs::Grammar::update, crate::specs::Grammar::assignments))]
 fn update(alloc: Global, tokens: &mut Cursor<'_>) -> Result<Stmt, Stop>
     ensures { Reads (spec.update tokens.old) result tokens.new }
 {
     let table = name(alloc, tokens)?;
     tokens.expect(Symbol::Set)?;
-    let sets = assignments(alloc, tokens)?;
+    let sets = listed(alloc, tokens)?;
     let cond = filter(alloc, tokens)?;
     Ok(Stmt::Update { table, sets, cond })
 }

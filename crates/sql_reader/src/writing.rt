@@ -1,5 +1,7 @@
 //! Writes statements.
-ghost use Rattle.std.specs.Prelude.{◌≡◌, ◌∷◌, [], ◌||◌, OnOk, IfOk, map, string_bytes, Ok};
+ghost use Rattle.std.specs.Prelude.{◌≡◌, ◌<◌, ◌≤◌, ◌+◌, ◌*◌, ◌∷◌, ◌++◌, [], ◌||◌, OnOk, IfOk, map, string_bytes, Ok};
+ghost use Rattle.seata_types.specs.Condition.{nodes};
+ghost use Rattle.sql_reader.specs.Pending.{stacked, turns};
 ghost use Rattle.std.specs.List.{flat_map};
 ghost use Rattle.sql_reader.specs.Canonical as spec;
 ghost use Rattle.sql_reader.specs.Canonical.{canonical_text, written};
@@ -7,6 +9,7 @@ ghost use Rattle.sql_reader.specs.Answer.{reading};
 ghost use Rattle.sql_reader.specs.Readable.{IsReadable};
 
 use crate::symbols::Symbol;
+use crate::tasks::Task;
 use crate::writer::Writer;
 use seata_types::{Cond, CondNode, Expr, List, NoMemory, Op, Sign, Stmt, Term, Text, Value};
 use std::alloc::Global;
@@ -75,62 +78,94 @@ fn is_joined(cond: &Cond) -> bool
     matches!(&cond.node, CondNode::Or(..) | CondNode::And(..))
 }
 
-#[cycle(writing)]
-#[tactic(auto, using(crate::proofs::Written::written_append), unfolding(crate::specs::Canonical::condition_pieces))]
-fn condition(writer: &mut Writer, cond: &Cond) -> Result<(), NoMemory>
-    ensures { OnOk result (writer.new ≡ written writer.old (spec.condition_pieces cond.now)) }
+fn comparison(writer: &mut Writer, column: &Text, op: Op, compared: &Value) -> Result<(), NoMemory>
+    ensures { OnOk result (writer.new ≡ written writer.old (spec.Name column.now ∷ spec.Fixed (spec.op_symbol op) ∷ spec.value_piece compared.now ∷ [])) }
+{
+    writer.name(column.as_str())?;
+    writer.symbol(op_symbol(op))?;
+    value(writer, compared)?;
+    Ok(())
+}
+
+fn later<'a>(tasks: &mut Vec<Task<'a>>, task: Task<'a>) -> Result<(), NoMemory>
+    ensures { OnOk result (tasks.new.items ≡ tasks.old.items ++ task.entry ∷ []) }
+{
+    tasks.push(task).map_err(|_| NoMemory)
+}
+
+/// Puts a part of a condition on the stack, in parentheses where it has to be.
+#[tactic(auto, using(crate::proofs::Stacks::stacked_last, crate::proofs::Stacks::turns_last, crate::proofs::Stacks::grouped_append))]
+fn later_part<'a>(
+    tasks: &mut Vec<Task<'a>>,
+    part: &'a Cond,
+    is_grouped: bool,
+) -> Result<(), NoMemory>
+    ensures pieces { OnOk result (stacked tasks.new.items ≡ spec.grouped is_grouped (spec.condition_pieces part.now) ++ stacked tasks.old.items) }
+    ensures turns { OnOk result (turns tasks.new.items ≤ 6 * nodes part.now + 2 + turns tasks.old.items) }
+{
+    if !is_grouped {
+        return later(tasks, Task::Part(part));
+    }
+    later(tasks, Task::Symbol(Symbol::Close))?;
+    later(tasks, Task::Part(part))?;
+    later(tasks, Task::Symbol(Symbol::Open))?;
+    Ok(())
+}
+
+/// Begins a condition: writes a comparison, and puts the parts of any other on the stack.
+#[tactic(auto, using(crate::proofs::Stacks::stacked_last, crate::proofs::Stacks::turns_last, crate::proofs::Written::written_append), unfolding(crate::specs::Canonical::condition_pieces))]
+fn begin<'a>(writer: &mut Writer, tasks: &mut Vec<Task<'a>>, cond: &'a Cond) -> Result<(), NoMemory>
+    ensures pieces { OnOk result (written writer.new (stacked tasks.new.items) ≡ written writer.old (spec.condition_pieces cond.now ++ stacked tasks.old.items)) }
+    ensures turns { OnOk result (turns tasks.new.items < 6 * nodes cond.now + turns tasks.old.items) }
 {
     match &cond.node {
         CondNode::Cmp {
             column,
             op,
             value: compared,
-        } => {
-            writer.name(column.as_str())?;
-            writer.symbol(op_symbol(*op))?;
-            value(writer, compared)?;
-        }
+        } => comparison(writer, column, *op, compared)?,
         CondNode::And(left, right) => {
-            part(writer, left, is_or(left))?;
-            writer.symbol(Symbol::And)?;
-            part(writer, right, is_joined(right))?;
+            later_part(tasks, right, is_joined(right))?;
+            later(tasks, Task::Symbol(Symbol::And))?;
+            later_part(tasks, left, is_or(left))?;
         }
         CondNode::Or(left, right) => {
-            condition(writer, left)?;
-            writer.symbol(Symbol::Or)?;
-            part(writer, right, is_or(right))?;
+            later_part(tasks, right, is_or(right))?;
+            later(tasks, Task::Symbol(Symbol::Or))?;
+            later(tasks, Task::Part(left))?;
         }
         CondNode::Not(inner) => {
-            writer.symbol(Symbol::Not)?;
-            part(writer, inner, is_joined(inner))?;
+            later_part(tasks, inner, is_joined(inner))?;
+            later(tasks, Task::Symbol(Symbol::Not))?;
         }
     }
     Ok(())
 }
 
-/// A part of a condition, in parentheses where it has to be.
-#[cycle(writing)]
-#[tactic(auto, using(crate::proofs::Written::written_append))]
-fn part(writer: &mut Writer, cond: &Cond, is_grouped: bool) -> Result<(), NoMemory>
-    ensures { OnOk result (writer.new ≡ written writer.old (spec.grouped is_grouped (spec.condition_pieces cond.now))) }
+/// A whole condition, by a stack of what is still to be written.
+#[tactic(auto, using(crate::proofs::Stacks::stacked_none, crate::proofs::Stacks::stacked_one, crate::proofs::Stacks::stacked_last, crate::proofs::Stacks::turns_last, crate::proofs::Written::written_append))]
+fn condition(alloc: Global, writer: &mut Writer, cond: &Cond) -> Result<(), NoMemory>
+    ensures { OnOk result (writer.new ≡ written writer.old (spec.condition_pieces cond.now)) }
 {
-    if !is_grouped {
-        return condition(writer, cond);
+    let mut tasks: Vec<Task<'_>> = Vec::new(alloc);
+    later(&mut tasks, Task::Part(cond))?;
+    while let Some(task) = tasks.pop() {
+        match task {
+            Task::Symbol(symbol) => writer.symbol(symbol)?,
+            Task::Part(part) => begin(writer, &mut tasks, part)?,
+        }
     }
-    writer.symbol(Symbol::Open)?;
-    condition(writer, cond)?;
-    writer.symbol(Symbol::Close)?;
     Ok(())
 }
 
 #[tactic(auto, unfolding(crate::specs::Canonical::filter_pieces))]
-fn filter(writer: &mut Writer, cond: &Option<Cond>) -> Result<(), NoMemory>
+fn filter(alloc: Global, writer: &mut Writer, cond: &Option<Cond>) -> Result<(), NoMemory>
     ensures { OnOk result (writer.new ≡ written writer.old (spec.filter_pieces cond.now)) }
 {
     match cond {
         Some(cond) => {
             writer.symbol(Symbol::Where)?;
-            condition(writer, cond)?;
+            condition(alloc, writer, cond)?;
         }
         None => {}
     }
@@ -216,7 +251,7 @@ fn assignments(writer: &mut Writer, sets: &[(Text, Expr)]) -> Result<(), NoMemor
 }
 
 #[tactic(auto, using(crate::proofs::Written::written_append), unfolding(crate::specs::Canonical::pieces))]
-fn statement(writer: &mut Writer, stmt: &Stmt) -> Result<(), NoMemory>
+fn statement(alloc: Global, writer: &mut Writer, stmt: &Stmt) -> Result<(), NoMemory>
     ensures { OnOk result (writer.new ≡ written writer.old (spec.pieces stmt.now)) }
 {
     match stmt {
@@ -239,20 +274,20 @@ fn statement(writer: &mut Writer, stmt: &Stmt) -> Result<(), NoMemory>
             writer.name(table.as_str())?;
             writer.symbol(Symbol::Set)?;
             assignments(writer, sets.as_slice())?;
-            filter(writer, cond)?;
+            filter(alloc, writer, cond)?;
         }
         Stmt::Delete { table, cond } => {
             writer.symbol(Symbol::Delete)?;
             writer.symbol(Symbol::From)?;
             writer.name(table.as_str())?;
-            filter(writer, cond)?;
+            filter(alloc, writer, cond)?;
         }
         Stmt::Select { table, cond } => {
             writer.symbol(Symbol::Select)?;
             writer.symbol(Symbol::Star)?;
             writer.symbol(Symbol::From)?;
             writer.name(table.as_str())?;
-            filter(writer, cond)?;
+            filter(alloc, writer, cond)?;
             writer.symbol(Symbol::For)?;
             writer.symbol(Symbol::Update)?;
         }
@@ -268,6 +303,6 @@ pub fn write_stmt(alloc: Global, stmt: &Stmt) -> Result<String, NoMemory>
     ensures reads_back { IfOk result (λ t. reading (string_bytes t) ≡ Ok stmt.now) }
 {
     let mut writer = Writer::new(alloc);
-    statement(&mut writer, stmt)?;
+    statement(alloc, &mut writer, stmt)?;
     Ok(writer.into_text())
 }

@@ -9,13 +9,13 @@ use Rattle.byte_fields.proofs.lists.items.Goals as goal
 pub returns-in_err-item : goal.returns-in_err-item
 returns-in_err-item g c =
     let p = err_from_is_err_and c.from_residual.result c.from_residual.ensures.1 in
-    rw (p.1, p.2) (ends g.T.Listed.follows g.T.Listed.item c.in_err-item.field-0.0 c.loop.items.items c.args.count c.loop.counter (position c.loop.after) (items_at g.T.Listed.follows g.T.Listed.item None c.args.count (position c.args.from)) c.loop-test.true (rw c.deref.ensures.value at c.in_err-item.ensures) c.loop.invariant)
+    rw (p.1, p.2) (ends (g.T.Listed.item c.args.layout) c.in_err-item.field-0.0 c.loop.items.items c.args.count c.loop.counter (position c.loop.after) (items_at (g.T.Listed.item c.args.layout) None c.args.count (position c.args.from)) c.loop-test.true (rw c.deref.ensures.value at c.in_err-item.ensures) c.loop.invariant)
 
 pub loop-preserved : goal.loop-preserved
 loop-preserved g c =
     let pushed : c.push.new.self.items ≡ c.loop.items.items ++ c.in_ok-item.item ∷ [] = grind (arith, common_steps) in
-    rw pushed (goes_on g.T.Listed.follows g.T.Listed.item c.loop.items.items c.args.count c.loop.counter (position c.loop.after) c.in_ok-item.item (position c.in_ok-item.rest) (items_at g.T.Listed.follows g.T.Listed.item None c.args.count (position c.args.from)) c.loop-test.true (rw c.deref.ensures.value at c.in_ok-item.ensures) c.loop.invariant)
+    rw pushed (goes_on (g.T.Listed.item c.args.layout) c.loop.items.items c.args.count c.loop.counter (position c.loop.after) c.in_ok-item.item (position c.in_ok-item.rest) (items_at (g.T.Listed.item c.args.layout) None c.args.count (position c.args.from)) c.loop-test.true (rw c.deref.ensures.value at c.in_ok-item.ensures) c.loop.invariant)
 
 pub returns : goal.returns
 returns g c =
-    rw c.of.ensures (is_done g.T.Listed.follows g.T.Listed.item c.loop.items.items c.args.count c.loop.counter (position c.loop.after) _ c.loop-test.false c.loop.invariant)
+    rw c.of.ensures (is_done (g.T.Listed.item c.args.layout) c.loop.items.items c.args.count c.loop.counter (position c.loop.after) _ c.loop-test.false c.loop.invariant)

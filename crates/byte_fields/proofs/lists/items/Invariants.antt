@@ -6,5 +6,5 @@ use Rattle.byte_fields.proofs.lists.items.Given as goal
 
 abbrev pub invariant-loop : goal.invariant-loop
 invariant-loop g l =
-    with_front l.items.items (items_at g.T.Listed.follows g.T.Listed.item (last l.items.items) (l.count - l.counter) (position l.after))
-    ≡ items_at g.T.Listed.follows g.T.Listed.item None l.count (position l.from)
+    with_front l.items.items (items_at (g.T.Listed.item l.layout) (last l.items.items) (l.count - l.counter) (position l.after))
+    ≡ items_at (g.T.Listed.item l.layout) None l.count (position l.from)

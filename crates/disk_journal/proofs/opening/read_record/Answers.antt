@@ -1,5 +1,5 @@
 use Rattle.std.proofs.Common.{◌≡◌, ℕ, ◌<◌, List, length, refl, sym, ◌∙◌, ap, arith}
-use Rattle.std.proofs.lemmas.List.{take_at}
+use Rattle.std.proofs.lemmas.List.{take_at, length-replicate}
 use Rattle.disk_journal.specs.Reading.{Record}
 use Rattle.disk_journal.proofs.Readings.{still_present, present_size, closed_at, short_at, long_at, cut_at, record_at}
 use Rattle.disk_journal.proofs.opening.read_record.Goals as goal
@@ -34,6 +34,6 @@ returns-clause-found g c = λ k is.
     let here = still_present k c.read.ensures.only_reads is in
     let head = c.in_ok-read-2.ensures.read k here in
     let body = c.in_ok-read-3.ensures.read k (still_present k c.read-2.ensures.only_reads here) in
-    let count : length c.read-3.new.into ≡ c.from_be_bytes-count.result = omega (arith, c.in_ok-body.ensures.size) in
+    let count : length c.read-3.new.into ≡ c.from_be_bytes-count.result = omega (arith, ap length c.in_ok-body.ensures, length-replicate {A = ℕ} c.from_be_bytes-count.result 0) in
     rw c.of.ensures (record_at k c.args.gate inside c.read.new.into (omega arith) first c.if-first-ne-OPEN.false c.read-2.new.into (omega arith) head c.read-3.new.into (count ∙ c.from_be_bytes-count.ensures) (omega arith) (omega arith) body
     ∙ ap (λ (l : List ℕ). Record l) (sym (take_at c.read-3.new.into _ c.in_ok-body.body.len (omega arith))))

@@ -1,14 +1,14 @@
-use Rattle.std.proofs.Common.{◌≡◌, ◌+◌, ◌<◌, [], ◌∷◌, ◌++◌, length, ap, arith, rules}
+use Rattle.std.proofs.Common.{◌≡◌, ◌+◌, ◌<◌, [], ◌∷◌, ◌++◌, length, drop, ap, arith, rules, length-drop}
 use Rattle.std.proofs.lemmas.Result.{err_from_is_err_and}
 use Rattle.disk_journal.specs.Reading.{record_length}
 use Rattle.disk_journal.proofs.Rows.{empty_reads, row_length-append}
 use Rattle.disk_journal.proofs.Readings.{still_present, present_size, reads_then, next_records, damage_in, end_reads}
 use Rattle.disk_journal.proofs.opening.read_records.Goals as goal
 
-pub returns-then-size-eq0-clause-damaged : goal.returns-then-size-eq0-clause-damaged
-returns-then-size-eq0-clause-damaged g c = λ k is.
+pub returns-then-from-size-clause-damaged : goal.returns-then-from-size-clause-damaged
+returns-then-from-size-clause-damaged g c = λ k is.
     let size = present_size k (g.met.D.Disk.lawful c.args.disk.now) is in
-    empty_reads k (omega arith)
+    empty_reads c.args.from (drop c.args.from k) (omega (arith, length-drop c.args.from k))
 
 pub returns-in_err-body-clause-damaged : goal.returns-in_err-body-clause-damaged
 returns-in_err-body-clause-damaged g c =
@@ -16,7 +16,7 @@ returns-in_err-body-clause-damaged g c =
     let kept = c.loop-records.invariant in
     rw (p.1, p.2) (λ k is.
     let size = present_size k (g.met.D.Disk.lawful c.args.disk.now) is in
-    damage_in k c.loop-records.records.items c.loop-records.gate kept.gate (omega (arith, kept.inside)) (kept.records k is) c.in_err-body.field-0.0 (c.in_err-body.ensures.found k (still_present k kept.only_reads is)))
+    damage_in k c.args.from c.loop-records.records.items c.loop-records.gate kept.gate (omega (arith, kept.inside)) (kept.records k is) c.in_err-body.field-0.0 (c.in_err-body.ensures.found k (still_present k kept.only_reads is)))
 
 pub loop-records-preserved : goal.loop-records-preserved
 loop-records-preserved g c =
@@ -32,7 +32,7 @@ loop-records-preserved g c =
       records = λ k is.
           let whole = present_size k (g.met.D.Disk.lawful c.args.disk.now) is in
           let found_is = rw c.in-Some.is at (c.in_ok-body.ensures.found k (still_present k kept.only_reads is)) in
-          rw pushed (next_records k c.loop-records.records.items c.loop-records.gate kept.gate (omega (arith, kept.inside)) (kept.records k is) body found_is);
+          rw pushed (next_records k c.args.from c.loop-records.records.items c.loop-records.gate kept.gate (omega (arith, kept.inside)) (kept.records k is) body found_is);
     }
 
 pub returns-clause-records : goal.returns-clause-records
@@ -40,4 +40,4 @@ returns-clause-records g c = λ k is.
     let kept = c.loop-records.invariant in
     let whole = present_size k (g.met.D.Disk.lawful c.args.disk.now) is in
     let found_is = rw c.in_default.is at (c.in_ok-body.ensures.found k (still_present k kept.only_reads is)) in
-    end_reads k c.loop-records.records.items c.loop-records.gate kept.gate (omega (arith, kept.inside)) (kept.records k is) found_is
+    end_reads k c.args.from c.loop-records.records.items c.loop-records.gate kept.gate (omega (arith, kept.inside)) (kept.records k is) found_is

@@ -1,7 +1,7 @@
 use Rattle.std.proofs.Common.{refl}
 use Rattle.seata_types.specs.Statuses.{code_of}
 use Rattle.frame_codec.specs.Parts.{statuses, status_at}
-use Rattle.frame_codec.proofs.Codes.{by_code, tagged_found, tagged_missed, status_found, status_missed}
+use Rattle.frame_codec.proofs.StatusCodes.{by_code, tagged_found, tagged_missed, status_found, status_missed}
 use Rattle.frame_codec.proofs.parts.status.Goals as goal
 
 pub returns-in-Some : goal.returns-in-Some

@@ -3,11 +3,9 @@ use Rattle.seata_lab.specs.Answers.{IsAnswerTo, IsFaultOf}
 use Rattle.seata_lab.proofs.answers.answer_to.Goals as goal
 
 pub returns-in_ok-answer-in-Ok : goal.returns-in_ok-answer-in-Ok
-unfolding IsAnswerTo
-returns-in_ok-answer-in-Ok c =
-    inl (c.in_ok-answer-in-Ok.ensures.status, c.in_ok-answer-in-Ok.ensures.text c.args.bytes.now c.in-Ok.ensures.ok)
+returns-in_ok-answer-in-Ok c = c.in_ok-answer-in-Ok.ensures c.args.bytes.now c.in-Ok.ensures.ok
 
 pub returns-in_ok-answer-in-Err : goal.returns-in_ok-answer-in-Err
 unfolding IsAnswerTo IsFaultOf
 returns-in_ok-answer-in-Err c =
-    inr (c.in_ok-answer-in-Err.ensures.status, (c.in-Err.error, c.in-Err.ensures.err c.in_ok-answer-in-Err.ensures.fault, c.in_ok-answer-in-Err.ensures.text))
+    inr (c.in_ok-answer-in-Err.ensures.status, inl (c.in-Err.error, c.in-Err.ensures.err c.in_ok-answer-in-Err.ensures.fault, c.in_ok-answer-in-Err.ensures.text))

@@ -1,5 +1,6 @@
 use Rattle.std.proofs.Common.{◌∷◌, length, slice_get, sym, ap, ◌∙◌, arith}
 use Rattle.std.proofs.lemmas.Option.{slice_get-get_or}
+use Rattle.seata_lab.proofs.Built.{step_fits}
 use Rattle.seata_lab.proofs.Played.{size}
 use Rattle.seata_lab.proofs.replays.replay.Goals as goal
 
@@ -8,9 +9,17 @@ play-requires-clause-short c =
     let (ms, t, count) = c.loop-step.invariant in
     let entries = size c.args.scenario.now c.loop-step.run ms t in
     let whole = ap length c.as_slice-step-items.ensures in
-    let short = c.requires.short in
+    let short = c.requires.runnable.short in
     let within = c.loop-step-test.true in
     omega (arith, entries, count, whole, short, within)
+
+pub play-requires-clause-fits : goal.play-requires-clause-fits
+play-requires-clause-fits c =
+    let (ms, t, count) = c.loop-step.invariant in
+    let at =
+    ap (λ l. slice_get l c.loop-step.step-index) (sym c.as_slice-step-items.ensures)
+    ∙ slice_get-get_or c.as_slice-step-items.result.now c.loop-step.step-index _ c.loop-step-test.true in
+    step_fits c.args.scenario.now c.loop-step.run c.requires.runnable c.requires.built t.nodes.count c.loop-step.step-index _ at
 
 pub loop-step-preserved : goal.loop-step-preserved
 loop-step-preserved c =

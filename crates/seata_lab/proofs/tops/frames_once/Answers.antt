@@ -1,30 +1,13 @@
-use Rattle.std.proofs.Common.{subst, string_bytes}
-use Rattle.std.specs.Prelude.{IfOk}
+use Rattle.seata_lab.proofs.Concluded.{concluded}
 use Rattle.seata_lab.specs.Answers.{IsFramesAnswer}
-use Rattle.seata_lab.proofs.Concluded.{Concludes, concluded, not_four, status_among}
-use Rattle.seata_lab.proofs.FramesListed.{frames_answers, listed_says, over_says, cut_says, complete_says}
+use Rattle.seata_lab.specs.Streams.{devices}
+use Rattle.seata_lab.proofs.FramesListed.{tells_frames}
 use Rattle.seata_lab.proofs.tops.frames_once.Goals as goal
 
-pub returns-in-Ok : goal.returns-in-Ok
-returns-in-Ok g c =
-    let result = c.write_answer.result in
-    let left0 = g.S.Source.left c.args.source.now in
-    let left1 = g.S.Source.left c.read_input.new.source in
-    let written0 = g.K.Sink.written c.args.sink.now in
-    let written1 = g.K.Sink.written c.write_answer.new.sink in
-    let faults0 = g.K.Sink.faults c.args.sink.now in
-    let faults1 = g.K.Sink.faults c.write_answer.new.sink in
-    let is = subst (λ bytes. IfOk c.frames_answer.result (λ a. IsFramesAnswer bytes (string_bytes a.text) a.status)) c.as_slice.ensures.value c.frames_answer.ensures in
-    let t : Concludes IsFramesAnswer result left0 left1 written0 written1 faults0 faults1 =
-    concluded IsFramesAnswer frames_answers c.in-Ok.bytes.items result left0 left1 written0 written1 faults0 faults1
-    c.in-Ok.ensures.input c.frames_answer.result is c.write_answer.ensures.whole c.write_answer.ensures.front c.write_answer.ensures.no_memory in
-    record {
-      done = listed_says result left0 left1 written0 written1 faults0 faults1 t;
-      over = over_says result left0 left1 written0 written1 faults0 faults1 t;
-      source_failed = λ four. absurd (not_four IsFramesAnswer result left0 left1 written0 written1 faults0 faults1 t four);
-      sink_failed = t.rose;
-      cut_short = cut_says result left0 left1 written0 written1 faults0 faults1 t;
-      no_memory = t.no_memory;
-      statuses = status_among IsFramesAnswer result left0 left1 written0 written1 faults0 faults1 t;
-      complete = λ input told _ still. complete_says result left0 left1 written0 written1 faults0 faults1 t input told still;
-    }
+pub returns : goal.returns
+returns g c =
+    let old = devices g.S.Source.left g.S.Source.faults g.K.Sink.written g.K.Sink.faults c.args.source.now c.args.sink.now in
+    let new = devices g.S.Source.left g.S.Source.faults g.K.Sink.written g.K.Sink.faults c.list_input.new.source c.write_answer.new.sink in
+    let t = concluded IsFramesAnswer c.write_answer.result old new c.list_input.result c.list_input.ensures.answer c.list_input.ensures.statuses c.list_input.ensures.failed
+    c.write_answer.ensures.whole c.write_answer.ensures.front c.write_answer.ensures.nothing in
+    record { frames = tells_frames c.write_answer.result old new t; faults = t.faults }

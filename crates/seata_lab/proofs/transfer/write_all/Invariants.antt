@@ -1,12 +1,12 @@
 use Rattle.std.proofs.Common.{◌≤◌, ◌-◌, take, length}
-use Rattle.seata_lab.specs.Streams.{Gains}
+use Rattle.std.specs.Io.KnownBytes.{Appends}
 use Rattle.seata_lab.proofs.transfer.write_all.Given as goal
 
 abbrev pub invariant-loop-done : goal.invariant-loop-done
 invariant-loop-done g l =
     record {
       within : l.done ≤ length l.text;
-      written : Gains (g.K.Sink.written l.initial.sink) (g.K.Sink.written l.sink) (take l.done l.text);
+      written : Appends (g.K.Sink.written l.initial.sink) (g.K.Sink.written l.sink) (take l.done l.text);
       counted : g.K.Sink.faults l.initial.sink ≤ g.K.Sink.faults l.sink;
     }
 

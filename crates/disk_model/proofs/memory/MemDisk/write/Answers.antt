@@ -8,4 +8,4 @@ pub invariant_of-self : goal.invariant_of-self
 invariant_of-self c =
     let size = ap (λ (m : Memory). length m.present) c.self.view_is in
     let count : c.args.at + length c.args.bytes.now - c.args.at ≡ length c.args.bytes.now = omega arith in
-    rw (c.copy_over.ensures, c.add.ensures, count) (written_stored (memory_of c.self.inside) c.self.invariant c.args.at c.args.bytes.now (omega (arith, c.requires)))
+    rw (c.write.ensures, c.add.ensures, count) (written_stored (memory_of c.self.inside) c.self.invariant c.args.at c.args.bytes.now (omega (arith, c.requires)))

@@ -1,0 +1,12 @@
+//! Tests of the disks, of the journal and of the two disks with checkpoints, over their public calls.
+#![tactic(auto)]
+
+mod arming;
+#[cfg(test)]
+mod disks;
+#[cfg(test)]
+mod journals;
+#[cfg(test)]
+mod twins;
+
+pub use arming::{arm_active, arm_other};

@@ -1,0 +1,9 @@
+pub mod Transactions
+pub mod Branches
+pub mod Progress
+pub mod Locks
+pub mod SessionOrder
+pub mod UndoRecords
+pub mod Fences
+pub mod RowsKept
+pub mod ResourceOrder

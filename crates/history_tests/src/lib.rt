@@ -1,0 +1,7 @@
+//! Tests of histories' lines, written and read, and of the coordinator, over their public calls.
+#![tactic(auto)]
+
+#[cfg(test)]
+mod coordinator;
+#[cfg(test)]
+mod lines;

@@ -1,0 +1,31 @@
+//! The text of what brought an entry about.
+ghost use Rattle.std.specs.Prelude.{◌≡◌, ◌++◌, OnOk, string_bytes};
+ghost use Rattle.history_text.specs.Lines as lines;
+
+use crate::entries::{Cause, Names};
+use crate::parts::add_place;
+use std::alloc::AllocError;
+
+/// The cause of an entry.
+pub(crate) fn add_cause(out: &mut String, cause: &Cause, names: &Names) -> Result<(), AllocError>
+    ensures { OnOk result (string_bytes out.new ≡ string_bytes out.old ++ lines.cause_text names.now cause.now) }
+{
+    match cause {
+        Cause::Turn => write!(out, "turn"),
+        Cause::Deliver { stamp, from } => {
+            write!(out, "deliver {stamp} ")?;
+            add_place(out, *from, names)
+        }
+        Cause::Missing { stamp } => write!(out, "deliver {stamp}"),
+        Cause::Wait { ticks } => write!(out, "wait {ticks}"),
+        Cause::Stop { calls } => write!(out, "stop {calls}"),
+        Cause::Crash => write!(out, "crash"),
+        Cause::Restart { pick, calls: None } => write!(out, "restart {pick}"),
+        Cause::Restart {
+            pick,
+            calls: Some(calls),
+        } => write!(out, "restart {pick} {calls}"),
+        Cause::Local { number } => write!(out, "local {number}"),
+        Cause::Outside { number } => write!(out, "outside {number}"),
+    }
+}

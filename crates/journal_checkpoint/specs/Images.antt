@@ -1,0 +1,140 @@
+-- What the images of two disks stand for, at the exits of a call and at each moment of it.
+use Rattle.std.specs.Prelude.{◌≡◌, ◌⊎◌, ℕ, ◌+◌, ◌-◌, ◌^◌, ◌<◌, ◌≤◌, Bool, true, false, if◌then◌else◌, Option, Some, None, List, [], ◌∷◌, ◌++◌, length, Result, Ok, Err}
+use Rattle.disk_model.specs.Disk.{DiskState, Counts, SameKind, IsSettled, IsPicked, Rose, present, last_pick}
+use Rattle.disk_journal.specs.Keeping.{StandsFor}
+use Rattle.disk_journal.specs.declared.errors.JournalError.{JournalError}
+use Rattle.disk_journal.specs.declared.errors.JournalError.TheVariants as journal_error
+use Rattle.journal_checkpoint.specs.declared.types.Head.{Head}
+use Rattle.journal_checkpoint.specs.declared.types.Head.TheVariants as head
+use Rattle.journal_checkpoint.specs.declared.types.Active.{Active}
+use Rattle.journal_checkpoint.specs.declared.types.Found.{Found}
+use Rattle.journal_checkpoint.specs.declared.types.TwinError.{TwinError}
+use Rattle.journal_checkpoint.specs.declared.types.TwinError.TheVariants as why
+use Rattle.journal_checkpoint.specs.Pairs.{head_of, active_of, pair_reading, snapshot_in}
+
+-- the bytes of the two disks stand for a snapshot and records
+abbrev pub PairStandsFor : Found → List ℕ → List ℕ → Type 0
+PairStandsFor found first second = pair_reading first second ≡ Ok found
+
+-- one record more
+abbrev pub with_record : Found → List ℕ → Found
+with_record found body = record { snapshot = found.snapshot; records = found.records ++ body ∷ [] }
+
+-- a snapshot and no record past it
+abbrev pub only_snapshot : List ℕ → Found
+only_snapshot snapshot = record { snapshot = Some snapshot; records = [] }
+
+-- the bytes stand for the one or the other
+abbrev pub Either : Found → Found → List ℕ → List ℕ → Type 0
+Either one two a b = PairStandsFor one a b ⊎ PairStandsFor two a b
+
+-- the two disks in their order
+pub record Pair : Type 1 where
+  pub first : DiskState
+  pub second : DiskState
+
+-- A crash after a call, or at any moment since its start, leaves pairs of bytes that have P.
+pub record LeavesPairs (old new : Pair) (P : List ℕ → List ℕ → Type 0) : Type 0 where
+  pub now : (a b : List ℕ) → new.first.may_leave a → new.second.may_leave b → P a b
+  pub since : (a b : List ℕ) → new.first.left_since old.first.moment a → new.second.left_since old.second.moment b → P a b
+
+-- where one of the two disks tells its bytes the other does
+pub record TellAlike (first second : DiskState) : Type 0 where
+  pub forth : (a : List ℕ) → present first ≡ Some a → (b : List ℕ) × (present second ≡ Some b)
+  pub back : (b : List ℕ) → present second ≡ Some b → (a : List ℕ) × (present first ≡ Some a)
+
+-- The active disk
+
+-- it has this generation and this snapshot, and its records begin at this offset
+abbrev pub IsActiveDisk : ℕ → ℕ → Option (List ℕ) → List ℕ → Type 0
+IsActiveDisk generation from None c = (generation ≡ 0) × (from ≡ 9) × (head_of c ≡ head.Shut)
+IsActiveDisk generation from (Some s) c = (0 < generation) × (from ≡ 9 + length s) × (head_of c ≡ head.Open generation (length s)) × (snapshot_in c (length s) ≡ s)
+
+-- where neither switch is open it is the first one
+abbrev pub IsOnSide : Active → Type 0
+IsOnSide active = active.generation ≡ 0 → active.second ≡ false
+
+-- The other disk
+
+-- its switch is closed, or open with an older generation
+abbrev pub IsOtherHead : ℕ → Bool → Head → Type 0
+IsOtherHead generation false h = h ≡ head.Shut
+IsOtherHead generation true h = (g n : ℕ) × (h ≡ head.Open g n) × (g < generation)
+
+abbrev pub IsPassive : ℕ → List ℕ → Type 0
+IsPassive generation c = IsOtherHead generation false (head_of c) ⊎ IsOtherHead generation true (head_of c)
+
+-- a new snapshot, and no record
+pub record IsFresh (generation : ℕ) (snapshot c : List ℕ) : Type 0 where
+  pub active : IsActiveDisk generation (9 + length snapshot) (Some snapshot) c
+  pub empty : StandsFor (9 + length snapshot) [] c
+
+-- it is passive still, or has the new snapshot
+abbrev pub IsOldOrFresh : ℕ → List ℕ → List ℕ → Type 0
+IsOldOrFresh generation snapshot c = IsPassive generation c ⊎ IsFresh (generation + 1) snapshot c
+
+-- no checkpoint can be made: the snapshot doesn't fit on a disk of this size, or there is no greater generation
+abbrev pub CannotCheckpoint : ℕ → ℕ → ℕ → Type 0
+CannotCheckpoint size count generation = (size < count + 10) ⊎ (generation ≡ 2 ^ 32 - 1)
+
+-- how many calls of the other disk a checkpoint makes: two more where its switch is open, to close it
+abbrev pub checkpoint_calls : Bool → ℕ
+checkpoint_calls other_open = if other_open then 8 else 6
+
+-- Opening
+
+-- an error is the damage that the bytes have
+abbrev pub IsPairDamage : List ℕ → List ℕ → TwinError → Type 0
+IsPairDamage a b (why.Damaged second at) = pair_reading a b ≡ Err (why.Damaged second at)
+IsPairDamage a b why.Failed = Unit {0}
+IsPairDamage a b why.NoMemory = Unit {0}
+
+-- it is that of the two heads
+abbrev pub IsHeadDamage : List ℕ → List ℕ → TwinError → Type 0
+IsHeadDamage a b (why.Damaged second at) = active_of (head_of a) (head_of b) ≡ Err (why.Damaged second at)
+IsHeadDamage a b why.Failed = Unit {0}
+IsHeadDamage a b why.NoMemory = ⊥
+
+abbrev pub IsNoDamage : TwinError → Type 0
+IsNoDamage (why.Damaged second at) = ⊥
+IsNoDamage why.Failed = Unit {0}
+IsNoDamage why.NoMemory = Unit {0}
+
+-- a journal's error on its disk
+abbrev pub error_on : Bool → JournalError → TwinError
+error_on second journal_error.Failed = why.Failed
+error_on second (journal_error.Damaged at) = why.Damaged second at
+error_on second journal_error.NoMemory = why.NoMemory
+
+-- the snapshot that an open head tells lies on a disk of this size
+abbrev pub FitsHead : ℕ → Head → Type 0
+FitsHead size head.Shut = Unit {0}
+FitsHead size head.Broken = Unit {0}
+FitsHead size (head.Open g n) = (0 < g) × (n + 10 ≤ size)
+
+abbrev pub FitsSnapshot : ℕ → Option ℕ → Type 0
+FitsSnapshot size None = Unit {0}
+FitsSnapshot size (Some n) = n + 10 ≤ size
+
+-- two disks give this, or are not opened for another reason than damage
+abbrev pub RecoversPair : Found → Result Found TwinError → Type 0
+RecoversPair found (Ok read) = read ≡ found
+RecoversPair found (Err error) = IsNoDamage error
+
+-- Restarts
+
+-- What a restart with this pick, and reads after it, did to a disk, where it answered Ok or not.
+pub record Restarts (ok : Bool) (pick : ℕ) (old new : DiskState) : Type 0 where
+  pub images : (c : List ℕ) → new.may_leave c → old.may_leave c
+  pub outcome : ok ≡ true → IsPicked pick old new
+  pub settled : ok ≡ true → IsSettled new
+  pub picked : ok ≡ true → (p : Option ℕ) → last_pick new ≡ Some p → p ≡ Some pick
+  pub unarmed : ok ≡ true → new.counts.left ≡ None
+  pub faults : old.counts.faults ≤ new.counts.faults
+  pub own : old.counts.own ≤ new.counts.own
+  pub kind : SameKind old new
+
+-- the disk failed by its own fault
+pub record FailsItself (old new : Counts) : Type 0 where
+  pub fault : Rose old.faults new.faults
+  pub own : Rose old.own new.own

@@ -1,4 +1,0 @@
-use Rattle.local_tables.proofs.scripts.+cond.Given as goal
-
-abbrev pub decreases-cond : goal.decreases-cond
-decreases-cond l = l.depth

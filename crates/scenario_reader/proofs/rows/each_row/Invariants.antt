@@ -1,0 +1,13 @@
+use Rattle.std.proofs.Common.{◌≡◌, [], drop, length}
+use Rattle.serde_json.specs.View.{items_view}
+use Rattle.scenario_reader.specs.Faults.{each}
+use Rattle.scenario_reader.specs.Tables.{new_row, HaveKeys}
+use Rattle.scenario_reader.proofs.rows.each_row.Given as goal
+
+abbrev pub invariant-loop-value : goal.invariant-loop-value
+invariant-loop-value l =
+    record {
+      rest : each (new_row l.columns l.places) l.rows.items (items_view (drop l.value-index l.values)) ≡ each (new_row l.columns l.places) [] (items_view l.values);
+      noted : HaveKeys l.places l.rows.items l.keys.keys;
+      count : length l.rows.items ≡ l.value-index;
+    }

@@ -1,0 +1,125 @@
+//! The nodes that a step or a stop names, and the stops.
+ghost use Rattle.std.specs.Prelude.{◌≡◌, ◌≤◌, [], option_map, option_copied, length, IfOk};
+ghost use Rattle.seata_types.specs.declared.limits.TheConstants.{MANAGERS};
+ghost use Rattle.serde_json.specs.View.{view, items_view};
+ghost use Rattle.scenario_reader.specs.Nodes as form;
+ghost use Rattle.scenario_reader.specs.Faults.{Answers, AnswersAs, each, vec_of};
+
+use crate::errors::ScenarioError;
+use crate::names::{is_word, manager_position, resource_position};
+use crate::numbers::number_in;
+use crate::scenarios::{ManagerDef, ResourceDef};
+use crate::shapes::{any_list, text_in, triple};
+use seata_types::limits::{PICK, STOP_CALLS};
+use seata_types::{List, Place};
+use serde_json::Value;
+use std::alloc::Global;
+
+/// The coordinator or the resource of this name.
+#[tactic(auto, unfolding(crate::specs::Nodes::server))]
+pub fn server(alloc: Global, resources: &[ResourceDef], name: &str) -> Result<Place, ScenarioError>
+    requires { length resources.now ≤ 32 }
+    ensures { Answers (form.server resources.now name.now) result }
+{
+    if name == "tc" {
+        return Ok(Place::Tc);
+    }
+    match resource_position(resources, name) {
+        Some(place) => Ok(Place::Res(place as u16 + 1)),
+        None => Err(ScenarioError::name(alloc)),
+    }
+}
+
+/// The node of this name.
+#[tactic(auto, unfolding(crate::specs::Nodes::node))]
+pub fn node(
+    alloc: Global,
+    resources: &[ResourceDef],
+    managers: &[ManagerDef],
+    name: &str,
+) -> Result<Place, ScenarioError>
+    requires resources { length resources.now ≤ 32 }
+    requires managers { length managers.now ≤ MANAGERS }
+    ensures { Answers (form.node resources.now managers.now name.now) result }
+{
+    if name == "tc" {
+        return Ok(Place::Tc);
+    }
+    if let Some(place) = resource_position(resources, name) {
+        return Ok(Place::Res(place as u16 + 1));
+    }
+    match manager_position(managers, name) {
+        Some(place) => Ok(Place::Man(place as u16 + 1)),
+        None => Err(ScenarioError::name(alloc)),
+    }
+}
+
+/// The node of a stop.
+fn stopped(alloc: Global, resources: &[ResourceDef], value: &Value) -> Result<Place, ScenarioError>
+    requires { length resources.now ≤ 32 }
+    ensures { Answers (form.stopped resources.now (view value.now)) result }
+{
+    let name = text_in(alloc, value)?;
+    if !is_word(name) {
+        return Err(ScenarioError::shape(alloc));
+    }
+    server(alloc, resources, name)
+}
+
+/// A stop: a node with disks, how many calls of them it makes, and the pick of its restart.
+#[tactic(auto, unfolding(crate::specs::Nodes::stop))]
+fn stop(
+    alloc: Global,
+    resources: &[ResourceDef],
+    value: &Value,
+) -> Result<(Place, u32, u16), ScenarioError>
+    requires { length resources.now ≤ 32 }
+    ensures { Answers (form.stop resources.now (view value.now)) result }
+{
+    let (first, second, third) = triple(alloc, value)?;
+    let place = stopped(alloc, resources, first).map_err(|fault| fault.in_item(alloc, 0))?;
+    let calls = number_in(alloc, 0, STOP_CALLS as u64, second).map_err(|fault| fault.in_item(
+        alloc, 1,
+    ))?;
+    let pick = number_in(alloc, 0, PICK as u64, third).map_err(|fault| fault.in_item(alloc, 2))?;
+    Ok((place, calls as u32, pick as u16))
+}
+
+fn each_stop(
+    alloc: Global,
+    resources: &[ResourceDef],
+    values: &[Value],
+) -> Result<Vec<(Place, u32, u16)>, ScenarioError>
+    requires { length resources.now ≤ 32 }
+    ensures { AnswersAs vec_of (each (form.next_stop resources.now) [] (items_view values.now)) result }
+{
+    let mut stops = Vec::new(alloc);
+    for value in values {
+        let found = stop(alloc, resources, value).map_err(|fault| fault.in_item(
+            alloc,
+            stops.len(),
+        ))?;
+        stops.push(found)?;
+    }
+    Ok(stops)
+}
+
+/// The stops, none where they are left out.
+#[tactic(auto, unfolding(crate::specs::Nodes::stops))]
+pub fn stops(
+    alloc: Global,
+    resources: &[ResourceDef],
+    found: Option<&Value>,
+) -> Result<List<(Place, u32, u16)>, ScenarioError>
+    requires { length resources.now ≤ 32 }
+    ensures { Answers (form.stops resources.now (option_map view (option_copied found.entry))) result }
+{
+    match found {
+        Some(value) => {
+            let values = any_list(alloc, value)?;
+            let stops = each_stop(alloc, resources, values)?;
+            Ok(List::of(stops))
+        }
+        None => Ok(List::of(Vec::new(alloc))),
+    }
+}

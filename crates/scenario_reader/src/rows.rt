@@ -1,0 +1,221 @@
+//! The rows of a table at the opening.
+ghost use Rattle.std.specs.Prelude.{◌≡◌, ◌≤◌, ◌+◌, [], slice_get, option_map, option_copied, length, not, ◌++◌, ◌∷◌, List as Items, IfOk, IfErr, OnOk};
+ghost use Rattle.std.specs.List.{list_all};
+ghost use Rattle.seata_types.specs.declared.limits.TheConstants.{RESOURCE_ROWS};
+ghost use Rattle.serde_json.specs.Find.{as_array, as_str};
+ghost use Rattle.serde_json.specs.View.{view, items_view};
+ghost use Rattle.scenario_reader.specs.Tables as form;
+ghost use Rattle.scenario_reader.specs.Faults.{Answers, AnswersAs, each, vec_of};
+
+use crate::errors::ScenarioError;
+use crate::names::owned;
+use crate::shapes::text_in;
+use local_tables::ColType;
+use seata_types::limits::{RESOURCE_ROWS, TEXT_BYTES};
+use seata_types::{Duplicate, List, Row, Text, Value as Cell};
+use serde_json::Value;
+use std::alloc::Global;
+use std::collections::BTreeSet;
+
+/// A whole number.
+#[tactic(auto, unfolding(crate::specs::Tables::int_cell))]
+fn int_cell(alloc: Global, value: &Value) -> Result<Cell, ScenarioError>
+    ensures { Answers (form.int_cell (view value.now)) result }
+{
+    match value.as_i64() {
+        Some(number) => Ok(Cell::Int(number)),
+        None => match value.as_u64() {
+            Some(_) => Err(ScenarioError::beyond(alloc, i64::MAX as u64)),
+            None => Err(ScenarioError::shape(alloc)),
+        },
+    }
+}
+
+fn is_printable(byte: u8) -> bool
+    ensures { result ≡ form.is_printable byte }
+{
+    byte >= 32 && byte != 127
+}
+
+fn all_printable(text: &[u8]) -> bool
+    ensures { result ≡ list_all form.is_printable text.now }
+{
+    text.iter().all(|byte| is_printable(*byte))
+}
+
+/// A text of at most 120 bytes without control characters.
+#[tactic(auto, unfolding(crate::specs::Tables::text_cell))]
+fn text_cell(alloc: Global, value: &Value) -> Result<Cell, ScenarioError>
+    ensures { Answers (form.text_cell (view value.now)) result }
+{
+    let text = text_in(alloc, value)?;
+    if !all_printable(text.as_bytes()) {
+        return Err(ScenarioError::shape(alloc));
+    }
+    if text.len() > TEXT_BYTES {
+        return Err(ScenarioError::beyond(alloc, TEXT_BYTES as u64));
+    }
+    let text = owned(alloc, text)?;
+    Ok(Cell::Text(text))
+}
+
+/// A row's value in the column at this place, counted from 0.
+#[tactic(auto, unfolding(crate::specs::Tables::cell_at))]
+fn cell_at(
+    alloc: Global,
+    columns: &[(Text, ColType)],
+    place: usize,
+    value: &Value,
+) -> Result<Cell, ScenarioError>
+    ensures { Answers (form.cell_at columns.now place (view value.now)) result }
+{
+    match columns.get(place) {
+        Some(column) => match column.1 {
+            ColType::Int => int_cell(alloc, value),
+            ColType::Text => text_cell(alloc, value),
+        },
+        None => Err(ScenarioError::shape(alloc)),
+    }
+}
+
+fn each_cell(
+    alloc: Global,
+    columns: &[(Text, ColType)],
+    values: &[Value],
+) -> Result<Vec<Cell>, ScenarioError>
+    ensures { AnswersAs vec_of (each (form.cell columns.now) [] (items_view values.now)) result }
+{
+    let mut cells = Vec::with_capacity(alloc, values.len())?;
+    for value in values {
+        let cell = cell_at(alloc, columns, cells.len(), value).map_err(|fault| fault.in_item(
+            alloc,
+            cells.len(),
+        ))?;
+        cells.push(cell)?;
+    }
+    Ok(cells)
+}
+
+/// A row, with a value for each column.
+#[tactic(auto, using(crate::proofs::Items::length_of_items), unfolding(crate::specs::Tables::row))]
+fn row(alloc: Global, columns: &[(Text, ColType)], value: &Value) -> Result<Row, ScenarioError>
+    ensures { Answers (form.row columns.now (view value.now)) result }
+{
+    match value.as_array() {
+        Some(values) => {
+            if values.len() != columns.len() {
+                return Err(ScenarioError::shape(alloc));
+            }
+            let cells = each_cell(alloc, columns, values.as_slice())?;
+            Ok(Row(List::of(cells)))
+        }
+        None => Err(ScenarioError::shape(alloc)),
+    }
+}
+
+/// The value at a place of a row, if there is one, behind the others.
+fn push_part(
+    alloc: Global,
+    parts: &mut Vec<Cell>,
+    row: &Row,
+    place: u16,
+) -> Result<(), ScenarioError>
+    ensures ok { OnOk result (parts.new.items ≡ form.with_part parts.old.items (slice_get row.now.0 place)) }
+    ensures refused { IfErr result (λ e. e ≡ ScenarioError.NoMemory) }
+{
+    match row.0.as_slice().get(place as usize) {
+        Some(cell) => {
+            parts.push(cell.copy(alloc)?)?;
+            Ok(())
+        }
+        None => Ok(()),
+    }
+}
+
+/// The key of a row: its values at these places.
+fn key_of(alloc: Global, places: &[u16], row: &Row) -> Result<List<Cell>, ScenarioError>
+    ensures value { IfOk result (λ key. key ≡ form.key_of places.now row.now) }
+    ensures refused { IfErr result (λ e. e ≡ ScenarioError.NoMemory) }
+{
+    let mut parts = Vec::new(alloc);
+    for place in places {
+        push_part(alloc, &mut parts, row, *place)?;
+    }
+    Ok(List::of(parts))
+}
+
+/// Notes a key, and says whether it is new.
+fn is_new(keys: &mut BTreeSet<List<Cell>>, key: List<Cell>) -> Result<bool, ScenarioError>
+    ensures answer { IfOk result (λ new. new ≡ not (form.is_noted keys.old.keys key)) }
+    ensures noted { OnOk result (form.Notes key keys.old.keys keys.new.keys) }
+    ensures refused { IfErr result (λ e. e ≡ ScenarioError.NoMemory) }
+{
+    Ok(keys.insert(key)?)
+}
+
+/// A row whose key is new among those that are noted.
+#[tactic(auto, using(crate::proofs::Rowed::used_row, crate::proofs::Rowed::free_row, crate::proofs::Rowed::keys_push), unfolding(crate::specs::Tables::new_row))]
+fn new_row(
+    alloc: Global,
+    columns: &[(Text, ColType)],
+    places: &[u16],
+    keys: &mut BTreeSet<List<Cell>>,
+    value: &Value,
+) -> Result<Row, ScenarioError>
+    ensures exact { (rows : Items Row) → form.HaveKeys places.now rows keys.old.keys → Answers (form.new_row columns.now places.now rows (view value.now)) result }
+    ensures noted { IfOk result (λ row. (rows : Items Row) → form.HaveKeys places.now rows keys.old.keys → form.HaveKeys places.now (rows ++ row ∷ []) keys.new.keys) }
+{
+    let row = row(alloc, columns, value)?;
+    let key = key_of(alloc, places, &row)?;
+    if !is_new(keys, key)? {
+        return Err(ScenarioError::name(alloc));
+    }
+    Ok(row)
+}
+
+#[tactic(auto, using(crate::proofs::Rowed::no_keys))]
+fn each_row(
+    alloc: Global,
+    columns: &[(Text, ColType)],
+    places: &[u16],
+    values: &[Value],
+) -> Result<Vec<Row>, ScenarioError>
+    ensures exact { AnswersAs vec_of (each (form.new_row columns.now places.now) [] (items_view values.now)) result }
+    ensures whole { IfOk result (λ rows. length rows.items ≡ length values.now) }
+{
+    let mut rows = Vec::new(alloc);
+    let mut keys = BTreeSet::new(alloc);
+    for value in values {
+        let row = new_row(alloc, columns, places, &mut keys, value).map_err(|fault| fault.in_item(
+            alloc,
+            rows.len(),
+        ))?;
+        rows.push(row)?;
+    }
+    Ok(rows)
+}
+
+/// The rows of a table, where its resource has so many already.
+#[tactic(auto, using(crate::proofs::Items::length_of_items), unfolding(crate::specs::Tables::rows))]
+pub fn rows(
+    alloc: Global,
+    used: usize,
+    columns: &[(Text, ColType)],
+    places: &[u16],
+    found: Option<&Value>,
+) -> Result<List<Row>, ScenarioError>
+    requires { used ≤ RESOURCE_ROWS }
+    ensures exact { Answers (form.rows used columns.now places.now (option_map view (option_copied found.entry))) result }
+    ensures few { IfOk result (λ rows. used + length rows ≤ RESOURCE_ROWS) }
+{
+    match found.and_then(Value::as_array) {
+        Some(values) => {
+            if values.len() > RESOURCE_ROWS - used {
+                return Err(ScenarioError::beyond(alloc, RESOURCE_ROWS as u64));
+            }
+            let rows = each_row(alloc, columns, places, values.as_slice())?;
+            Ok(List::of(rows))
+        }
+        None => Err(ScenarioError::shape(alloc)),
+    }
+}

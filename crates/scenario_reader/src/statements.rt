@@ -1,0 +1,128 @@
+//! The statements of calls and locals.
+ghost use Rattle.std.specs.Prelude.{◌≡◌, ◌≤◌, [], find, option_map, option_copied, length, IfOk};
+ghost use Rattle.serde_json.specs.View.{view, items_view};
+ghost use Rattle.scenario_reader.specs.Calls as form;
+ghost use Rattle.scenario_reader.specs.Tables.{is_table_named};
+ghost use Rattle.scenario_reader.specs.Faults.{Answers, AnswersAs, each, vec_of};
+
+use crate::errors::ScenarioError;
+use crate::shapes::{list, text_in};
+use local_tables::{Schema, TableDef};
+use seata_types::limits::{STATEMENT_BYTES, STATEMENTS};
+use seata_types::{BranchKind, List, Stmt};
+use serde_json::Value;
+use sql_reader::{SqlError, read_stmt};
+use std::alloc::Global;
+
+/// A statement of the grammar.
+#[tactic(auto, unfolding(crate::specs::Calls::parsed))]
+fn parsed(alloc: Global, text: &str) -> Result<Stmt, ScenarioError>
+    ensures { Answers (form.parsed text.now) result }
+{
+    if text.len() > STATEMENT_BYTES {
+        return Err(ScenarioError::beyond(alloc, STATEMENT_BYTES as u64));
+    }
+    match read_stmt(alloc, text) {
+        Ok(found) => Ok(found),
+        Err(SqlError::Refused { at, .. }) => Err(ScenarioError::sql(alloc, at)),
+        Err(SqlError::NoMemory) => Err(ScenarioError::NoMemory),
+    }
+}
+
+/// The table that a statement names.
+fn table_of(found: &Stmt) -> &str
+    ensures { result.now ≡ form.table_of found.now }
+{
+    match found {
+        Stmt::Insert { table, .. } => table.as_str(),
+        Stmt::Update { table, .. } => table.as_str(),
+        Stmt::Delete { table, .. } => table.as_str(),
+        Stmt::Select { table, .. } => table.as_str(),
+    }
+}
+
+/// Whether a statement on a table of this mode may stand in a call of the wanted kind.
+fn suits(wanted: BranchKind, mode: BranchKind, found: &Stmt) -> bool
+    ensures { result ≡ form.suits wanted mode found.now }
+{
+    match (wanted, mode) {
+        (BranchKind::At, BranchKind::At) => true,
+        (BranchKind::Tcc, BranchKind::Tcc) => !matches!(found, Stmt::Select { .. }),
+        (BranchKind::At, BranchKind::Tcc) | (BranchKind::Tcc, BranchKind::At) => false,
+    }
+}
+
+fn table_named<'a>(tables: &'a [TableDef], name: &str) -> Option<&'a TableDef>
+    ensures { option_copied result ≡ find (is_table_named name.now) tables.now }
+{
+    tables.iter().find(|def| name == def.name.as_str())
+}
+
+/// The statement, where its table is there and of the kind of its call.
+#[tactic(auto, unfolding(crate::specs::Calls::standing))]
+fn standing(
+    alloc: Global,
+    schema: &Schema,
+    wanted: BranchKind,
+    found: Stmt,
+) -> Result<Stmt, ScenarioError>
+    ensures { Answers (form.standing schema.now wanted found) result }
+{
+    match table_named(schema.tables.as_slice(), table_of(&found)) {
+        Some(def) => {
+            if !suits(wanted, def.mode, &found) {
+                return Err(ScenarioError::mode(alloc));
+            }
+            Ok(found)
+        }
+        None => Err(ScenarioError::name(alloc)),
+    }
+}
+
+#[tactic(auto, unfolding(crate::specs::Calls::statement))]
+fn statement(
+    alloc: Global,
+    schema: &Schema,
+    wanted: BranchKind,
+    value: &Value,
+) -> Result<Stmt, ScenarioError>
+    ensures { Answers (form.statement schema.now wanted (view value.now)) result }
+{
+    let text = text_in(alloc, value)?;
+    let found = parsed(alloc, text)?;
+    standing(alloc, schema, wanted, found)
+}
+
+fn each_statement(
+    alloc: Global,
+    schema: &Schema,
+    wanted: BranchKind,
+    values: &[Value],
+) -> Result<Vec<Stmt>, ScenarioError>
+    ensures { AnswersAs vec_of (each (form.next_statement schema.now wanted) [] (items_view values.now)) result }
+{
+    let mut statements = Vec::new(alloc);
+    for value in values {
+        let found = statement(alloc, schema, wanted, value).map_err(|fault| fault.in_item(
+            alloc,
+            statements.len(),
+        ))?;
+        statements.push(found)?;
+    }
+    Ok(statements)
+}
+
+/// The statements of a list, for tables of this kind.
+#[tactic(auto, unfolding(crate::specs::Calls::statements))]
+pub fn statements(
+    alloc: Global,
+    schema: &Schema,
+    wanted: BranchKind,
+    found: Option<&Value>,
+) -> Result<List<Stmt>, ScenarioError>
+    ensures { Answers (form.statements schema.now wanted (option_map view (option_copied found.entry))) result }
+{
+    let values = list(alloc, STATEMENTS, found)?;
+    let statements = each_statement(alloc, schema, wanted, values)?;
+    Ok(List::of(statements))
+}

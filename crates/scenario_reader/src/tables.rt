@@ -1,0 +1,303 @@
+//! Tables: their modes, their columns and their keys.
+ghost use Rattle.std.specs.Prelude.{◌≡◌, ◌≤◌, ◌+◌, ◌==◌, [], position, slice_get, option_map, option_copied, length, IfOk};
+ghost use Rattle.std.specs.List.{list_any};
+ghost use Rattle.seata_types.specs.declared.limits.TheConstants.{RESOURCE_ROWS};
+ghost use Rattle.serde_json.specs.Find.{as_str};
+ghost use Rattle.serde_json.specs.View.{view, items_view};
+ghost use Rattle.scenario_reader.specs.Tables as form;
+ghost use Rattle.scenario_reader.specs.Faults.{Answers, AnswersAs, each, vec_of};
+
+use crate::errors::ScenarioError;
+use crate::names::{is_table_name, new_name};
+use crate::rows::rows;
+use crate::shapes::{an_object, list, only, pair, text, text_in};
+use local_tables::{ColType, TableDef};
+use seata_types::limits::{COLUMNS, KEY_PARTS};
+use seata_types::{BranchKind, List, Row, Text};
+use serde_json::Value;
+use std::alloc::Global;
+
+fn is_table(defs: &[TableDef], name: &str) -> bool
+    ensures { result ≡ list_any (form.is_table_named name.now) defs.now }
+{
+    defs.iter().any(|def| name == def.name.as_str())
+}
+
+/// A table's name, behind these tables.
+#[tactic(auto, unfolding(crate::specs::Tables::table_name))]
+fn table_name(
+    alloc: Global,
+    defs: &[TableDef],
+    found: Option<&Value>,
+) -> Result<Text, ScenarioError>
+    ensures { Answers (form.table_name defs.now (option_map view (option_copied found.entry))) result }
+{
+    let name = text(alloc, found)?;
+    new_name(alloc, is_table(defs, name), name)
+}
+
+/// The mode of a table.
+#[tactic(auto, unfolding(crate::specs::Tables::mode))]
+fn mode(alloc: Global, found: Option<&Value>) -> Result<BranchKind, ScenarioError>
+    ensures { Answers (form.mode (option_map view (option_copied found.entry))) result }
+{
+    let word = text(alloc, found)?;
+    if word == "AT" {
+        return Ok(BranchKind::At);
+    }
+    if word == "TCC" {
+        return Ok(BranchKind::Tcc);
+    }
+    Err(ScenarioError::shape(alloc))
+}
+
+// ---- columns
+
+fn is_column(columns: &[(Text, ColType)], name: &str) -> bool
+    ensures { result ≡ list_any (form.is_column_named name.now) columns.now }
+{
+    columns.iter().any(|column| name == column.0.as_str())
+}
+
+fn column_position(columns: &[(Text, ColType)], name: &str) -> Option<usize>
+    ensures { result ≡ position (form.is_column_named name.now) columns.now }
+{
+    columns.iter().position(|column| name == column.0.as_str())
+}
+
+fn column_name(
+    alloc: Global,
+    columns: &[(Text, ColType)],
+    value: &Value,
+) -> Result<Text, ScenarioError>
+    ensures { Answers (form.column_name columns.now (as_str (view value.now))) result }
+{
+    let name = text_in(alloc, value)?;
+    new_name(alloc, is_column(columns, name), name)
+}
+
+/// The type of a column.
+fn column_type(alloc: Global, value: &Value) -> Result<ColType, ScenarioError>
+    ensures { Answers (form.column_type (view value.now)) result }
+{
+    let word = text_in(alloc, value)?;
+    if word == "int" {
+        return Ok(ColType::Int);
+    }
+    if word == "text" {
+        return Ok(ColType::Text);
+    }
+    Err(ScenarioError::shape(alloc))
+}
+
+/// A column, behind these.
+#[tactic(auto, unfolding(crate::specs::Tables::column))]
+fn column(
+    alloc: Global,
+    columns: &[(Text, ColType)],
+    value: &Value,
+) -> Result<(Text, ColType), ScenarioError>
+    ensures { Answers (form.column columns.now (view value.now)) result }
+{
+    let (first, second) = pair(alloc, value)?;
+    let name = column_name(alloc, columns, first).map_err(|fault| fault.in_item(alloc, 0))?;
+    let kind = column_type(alloc, second).map_err(|fault| fault.in_item(alloc, 1))?;
+    Ok((name, kind))
+}
+
+fn each_column(alloc: Global, values: &[Value]) -> Result<Vec<(Text, ColType)>, ScenarioError>
+    ensures exact { AnswersAs vec_of (each form.column [] (items_view values.now)) result }
+    ensures whole { IfOk result (λ columns. length columns.items ≡ length values.now) }
+{
+    let mut columns = Vec::new(alloc);
+    for value in values {
+        let found = column(alloc, columns.as_slice(), value).map_err(|fault| fault.in_item(
+            alloc,
+            columns.len(),
+        ))?;
+        columns.push(found)?;
+    }
+    Ok(columns)
+}
+
+/// The columns, at least one.
+#[tactic(auto, unfolding(crate::specs::Tables::columns))]
+fn columns(alloc: Global, found: Option<&Value>) -> Result<List<(Text, ColType)>, ScenarioError>
+    ensures exact { Answers (form.columns (option_map view (option_copied found.entry))) result }
+    ensures few { IfOk result (λ columns. length columns ≤ 8) }
+{
+    let values = list(alloc, COLUMNS, found)?;
+    let columns = each_column(alloc, values)?;
+    if columns.is_empty() {
+        return Err(ScenarioError::beyond(alloc, 1));
+    }
+    Ok(List::of(columns))
+}
+
+// ---- keys
+
+/// The place of the column of this name, counted from 0.
+#[tactic(auto, unfolding(crate::specs::Tables::key_column))]
+fn key_column(alloc: Global, columns: &[(Text, ColType)], name: &str) -> Result<u16, ScenarioError>
+    requires { length columns.now ≤ 8 }
+    ensures { Answers (form.key_column columns.now name.now) result }
+{
+    if !is_table_name(name) {
+        return Err(ScenarioError::shape(alloc));
+    }
+    match column_position(columns, name) {
+        Some(place) => Ok(place as u16),
+        None => Err(ScenarioError::name(alloc)),
+    }
+}
+
+fn has_place(places: &[u16], place: u16) -> bool
+    ensures { result ≡ list_any (λ p. p == place) places.now }
+{
+    places.iter().any(|other| *other == place)
+}
+
+/// A column of a key, behind those at these places.
+#[tactic(auto, unfolding(crate::specs::Tables::key_part))]
+fn key_part(
+    alloc: Global,
+    columns: &[(Text, ColType)],
+    places: &[u16],
+    value: &Value,
+) -> Result<u16, ScenarioError>
+    requires { length columns.now ≤ 8 }
+    ensures { Answers (form.key_part columns.now places.now (view value.now)) result }
+{
+    let name = text_in(alloc, value)?;
+    let place = key_column(alloc, columns, name)?;
+    if has_place(places, place) {
+        return Err(ScenarioError::name(alloc));
+    }
+    Ok(place)
+}
+
+fn each_key_part(
+    alloc: Global,
+    columns: &[(Text, ColType)],
+    values: &[Value],
+) -> Result<Vec<u16>, ScenarioError>
+    requires { length columns.now ≤ 8 }
+    ensures { AnswersAs vec_of (each (form.key_part columns.now) [] (items_view values.now)) result }
+{
+    let mut places = Vec::new(alloc);
+    for value in values {
+        let found = key_part(alloc, columns, places.as_slice(), value).map_err(
+            |fault| fault.in_item(alloc, places.len()),
+        )?;
+        places.push(found)?;
+    }
+    Ok(places)
+}
+
+/// The key columns of a list.
+#[tactic(auto, unfolding(crate::specs::Tables::key_list))]
+fn key_list(
+    alloc: Global,
+    columns: &[(Text, ColType)],
+    found: Option<&Value>,
+) -> Result<List<u16>, ScenarioError>
+    requires { length columns.now ≤ 8 }
+    ensures { Answers (form.key_list columns.now (option_map view (option_copied found.entry))) result }
+{
+    let values = list(alloc, KEY_PARTS, found)?;
+    let places = each_key_part(alloc, columns, values)?;
+    if places.is_empty() {
+        return Err(ScenarioError::beyond(alloc, 1));
+    }
+    Ok(List::of(places))
+}
+
+/// The places of the key's columns: one by its name, or those of a list.
+#[tactic(auto, unfolding(crate::specs::Tables::key))]
+fn key(
+    alloc: Global,
+    columns: &[(Text, ColType)],
+    found: Option<&Value>,
+) -> Result<List<u16>, ScenarioError>
+    requires { length columns.now ≤ 8 }
+    ensures { Answers (form.key columns.now (option_map view (option_copied found.entry))) result }
+{
+    match found.and_then(Value::as_str) {
+        Some(name) => {
+            let place = key_column(alloc, columns, name)?;
+            let mut places = Vec::new(alloc);
+            places.push(place)?;
+            Ok(List::of(places))
+        }
+        None => key_list(alloc, columns, found),
+    }
+}
+
+// ---- tables
+
+const TABLE_MEMBERS: [&str; 5] = ["name", "mode", "columns", "key", "rows"];
+
+/// A table's name, mode and columns, behind these tables.
+#[tactic(auto, unfolding(crate::specs::Tables::heading))]
+fn heading(
+    alloc: Global,
+    defs: &[TableDef],
+    value: &Value,
+) -> Result<(Text, BranchKind, List<(Text, ColType)>), ScenarioError>
+    ensures exact { Answers (form.heading defs.now (view value.now)) result }
+    ensures few { IfOk result (λ head. length head.2 ≤ 8) }
+{
+    an_object(alloc, value)?;
+    let name = table_name(alloc, defs, value.get("name")).map_err(|fault| fault.in_member(
+        alloc, "name",
+    ))?;
+    let mode = mode(alloc, value.get("mode")).map_err(|fault| fault.in_member(alloc, "mode"))?;
+    let columns = columns(alloc, value.get("columns")).map_err(|fault| fault.in_member(
+        alloc, "columns",
+    ))?;
+    Ok((name, mode, columns))
+}
+
+/// A table's key and its rows, where its resource has so many already.
+#[tactic(auto, unfolding(crate::specs::Tables::content))]
+fn content(
+    alloc: Global,
+    used: usize,
+    columns: &[(Text, ColType)],
+    value: &Value,
+) -> Result<(List<u16>, List<Row>), ScenarioError>
+    requires used { used ≤ RESOURCE_ROWS }
+    requires columns { length columns.now ≤ 8 }
+    ensures exact { Answers (form.content used columns.now (view value.now)) result }
+    ensures few { IfOk result (λ t. used + length t.1 ≤ RESOURCE_ROWS) }
+{
+    let key = key(alloc, columns, value.get("key")).map_err(|fault| fault.in_member(alloc, "key"))?;
+    let rows = rows(alloc, used, columns, key.as_slice(), value.get("rows")).map_err(
+        |fault| fault.in_member(alloc, "rows"),
+    )?;
+    Ok((key, rows))
+}
+
+/// A table with its rows, behind these tables and so many rows of its resource.
+#[tactic(auto, unfolding(crate::specs::Tables::table))]
+pub fn table(
+    alloc: Global,
+    defs: &[TableDef],
+    used: usize,
+    value: &Value,
+) -> Result<(TableDef, List<Row>), ScenarioError>
+    requires { used ≤ RESOURCE_ROWS }
+    ensures exact { Answers (form.table defs.now used (view value.now)) result }
+    ensures few { IfOk result (λ t. used + length t.1 ≤ RESOURCE_ROWS) }
+{
+    let (name, mode, columns) = heading(alloc, defs, value)?;
+    let (key, rows) = content(alloc, used, columns.as_slice(), value)?;
+    only(alloc, &TABLE_MEMBERS, value)?;
+    let def = TableDef {
+        name,
+        mode,
+        columns,
+        key,
+    };
+    Ok((def, rows))
+}

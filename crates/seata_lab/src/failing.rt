@@ -1,0 +1,90 @@
+//! Runs of `top` over a reader and over a writer that fail at their second call.
+
+use crate::memory::{MemSink, MemSource};
+use crate::rows::REPEATED_MESSAGES;
+use crate::standard::{StdSink, StdSource};
+use crate::tops::top;
+use seata_types::Text;
+use std::alloc::Global;
+use std::io;
+use std::io::{ErrorKind, Read, Write};
+use std::test::Fail;
+
+/// A reader that gives one byte, and fails at each later call.
+#[derive(Drop)]
+struct Cut {
+    called: bool,
+}
+
+impl Read for Cut {
+    fn read(&mut self, buf: &mut [u8]) -> io::Result<usize> {
+        if self.called || buf.is_empty() {
+            return Err(io::Error::from(ErrorKind::BrokenPipe));
+        }
+        self.called = true;
+        buf[0] = b'{';
+        Ok(1)
+    }
+}
+
+/// A writer that takes one byte, and fails at each later call.
+#[derive(Drop)]
+struct Stuck {
+    took: Vec<u8>,
+}
+
+impl Write for Stuck {
+    fn write(&mut self, buf: &[u8]) -> io::Result<usize> {
+        if self.took.len() > 0 || buf.is_empty() {
+            return Err(io::Error::from(ErrorKind::BrokenPipe));
+        }
+        self.took.push(buf[0])?;
+        Ok(1)
+    }
+
+    fn flush(&mut self) -> io::Result<()> {
+        Ok(())
+    }
+}
+
+/// One word.
+fn word(alloc: Global, name: &str) -> Result<Vec<Text>, Fail> {
+    let mut words = Vec::new(alloc);
+    words.push(Text::of(String::from_str(alloc, name)?))?;
+    Ok(words)
+}
+
+#[test]
+fn a_failed_read_is_no_end(rt: HostRuntime) -> Result<(), Fail> {
+    for name in ["replay", "frames"] {
+        let words = word(rt.alloc(), name)?;
+        let mut source = StdSource::new(Cut { called: false });
+        let Ok(mut sink) = MemSink::new(rt.alloc(), 1000, Vec::new(rt.alloc())) else {
+            return Err(Fail::from("no memory"));
+        };
+        assert_eq!(rt;
+            top(rt.alloc(), words.as_slice(), &mut source, &mut sink),
+            4
+        );
+        assert_eq!(rt; sink.written().len(), 0);
+    }
+    Ok(())
+}
+
+#[test]
+fn a_failed_write_is_no_text(rt: HostRuntime) -> Result<(), Fail> {
+    let words = word(rt.alloc(), "replay")?;
+    let input = Vec::from_slice(rt.alloc(), REPEATED_MESSAGES[0].as_bytes())?;
+    let mut source = MemSource::new(input, Vec::new(rt.alloc()));
+    let mut writer = Stuck {
+        took: Vec::new(rt.alloc()),
+    };
+    let mut sink = StdSink::new(&mut writer);
+    assert_eq!(rt;
+        top(rt.alloc(), words.as_slice(), &mut source, &mut sink),
+        5
+    );
+    drop(sink);
+    assert_eq!(rt; writer.took.as_slice(), b"e".as_slice());
+    Ok(())
+}

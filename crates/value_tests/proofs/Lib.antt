@@ -1,0 +1,3 @@
+mod FeedGrowth
+mod InsertionLaws
+mod KeyParts
