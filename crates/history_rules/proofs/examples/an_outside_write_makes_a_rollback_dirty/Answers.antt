@@ -1,0 +1,7 @@
+use Rattle.std.proofs.Common.{refl}
+use Rattle.local_tables.specs.Calls.{effect, step}
+use Rattle.history_rules.proofs.examples.an_outside_write_makes_a_rollback_dirty.Goals as goal
+
+pub returns : goal.returns
+unfolding effect step
+returns c = refl

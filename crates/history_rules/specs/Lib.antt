@@ -1,0 +1,14 @@
+pub mod Own
+pub mod Devices
+pub mod CoordinatorMemory
+pub mod CoordinatorRules
+pub mod ResourceMemory
+pub mod ResourceRules
+pub mod ManagerRules
+pub mod Nodes
+pub mod Histories
+pub mod Schedules
+pub mod Chains
+pub mod Reports
+pub mod Played
+pub mod Worked
