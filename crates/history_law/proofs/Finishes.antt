@@ -1,0 +1,180 @@
+-- The status of each finish is the one of its decision.
+use Rattle.std.proofs.Common.{◌≡◌, inl, inr, ◌+◌, ◌==◌, ◌&&◌, nat_lt, nat_le, ℕ, Bool, true, false, if◌then◌else◌, List, [], ◌∷◌, ◌++◌, length, Option, Some, None, is_some, is_none, refl, sym, subst}
+use Rattle.seata_types.specs.declared.acts.Act.{Act}
+use Rattle.seata_types.specs.declared.acts.Act.TheVariants as act
+use Rattle.seata_types.specs.declared.ids.BranchId.{BranchId}
+use Rattle.seata_types.specs.declared.ids.Place.{Place}
+use Rattle.seata_types.specs.declared.ids.Ticket.{Ticket}
+use Rattle.seata_types.specs.declared.ids.Xid.{Xid}
+use Rattle.seata_types.specs.declared.messages.Input.{Input}
+use Rattle.seata_types.specs.declared.messages.Input.TheVariants as input
+use Rattle.seata_types.specs.declared.messages.Message.{Message}
+use Rattle.seata_types.specs.declared.messages.Message.TheVariants as message
+use Rattle.seata_types.specs.declared.messages.Step.{Step}
+use Rattle.seata_types.specs.declared.rows.RowKey.{RowKey}
+use Rattle.seata_types.specs.declared.statuses.BranchStatus.{BranchStatus}
+use Rattle.seata_types.specs.declared.statuses.BranchStatus.TheVariants as branch
+use Rattle.seata_types.specs.declared.statuses.Decision.{Decision}
+use Rattle.seata_types.specs.declared.statuses.Decision.TheVariants as how
+use Rattle.durable_records.specs.declared.coordinators.SessionRecord.{SessionRecord}
+use Rattle.durable_records.specs.Transactions.{Session, sessions, session, session_for, decided, next_xid, is_commit, is_rollback}
+use Rattle.durable_records.specs.Branches.{Grant, granted, next_branch, unended, unended_branch}
+use Rattle.durable_records.specs.Progress.{may_decide, is_going, is_finished, may_retry}
+use Rattle.durable_records.specs.Locks.{first_held}
+use Rattle.history_rules.specs.Own.{Event, Given, Own}
+use Rattle.history_rules.specs.CoordinatorMemory.{Times, session_record, start, due, rests_since, is_past, is_late, due_moment, is_old, late_one, due_one, old_one}
+use Rattle.history_rules.specs.CoordinatorRules.{xid_of, begin_answer, commit_answer, rollback_answer, query_answer, retry_answer, end_answer, branch_answer, Request, hold_answer, timely_answer, open_answer, register_answer, first_of, last_of, next_asked, asks, due_answer, old_answer, turn_answer, message_answer, coordinator_answer}
+use Rattle.history_law.proofs.Tests.{false_true, true_false, none_some, and_left, and_right, and_both, nat_same, member_found}
+use Rattle.history_law.proofs.Turns.{least_passes, soonest_is, due_is_going}
+use Rattle.history_law.proofs.Transactions.{going_decided}
+use Rattle.history_rules.specs.Own.{Stopped, Crashed, Restarted, still}
+use Rattle.history_rules.specs.CoordinatorMemory.{sessions_left}
+use Rattle.history_rules.specs.Devices.{is_down, fails, written}
+use Rattle.history_rules.specs.Nodes.{Role, World, Past, Coordinator, Happens, happens, up_answer, down_answer, left_at, role_at}
+use Rattle.history_rules.specs.Histories.{Moment, Legal, IsDone as IsDoneAt, HappensAt, own, coordinator_left}
+use Rattle.seata_types.specs.declared.ids.Place.TheVariants as place
+use Rattle.seata_types.specs.declared.acts.Durable.TheVariants as durable
+use Rattle.seata_types.specs.declared.messages.Outgoing.{Outgoing}
+use Rattle.durable_records.specs.Branches.{branches, all_at}
+use Rattle.durable_records.specs.Progress.{IsDone, status_by}
+use Rattle.history_law.specs.FinishSafety.{IsEndOf, TellsEnd, FinishesAsDecided, FinishesLaw}
+
+end_of : (at : Bool) (d : Option Decision) → is_some d ≡ true → IsEndOf d (status_by at d IsDone)
+end_of at None some = false_true some
+end_of true (Some how.Commit) some = refl
+end_of false (Some how.Commit) some = refl
+end_of true (Some how.Rollback) some = refl
+end_of false (Some how.Rollback) some = refl
+end_of true (Some how.Timeout) some = refl
+end_of false (Some how.Timeout) some = refl
+
+-- ---- messages
+
+module _ (rs : List SessionRecord) (now : ℕ) (from : Place) where
+  begin_end : (m : ℕ) (known : Option Session) → TellsEnd rs (begin_answer rs m known).act
+  begin_end m (Some s) = tt
+  begin_end m None = tt
+
+  commit_end : (xid : Xid) (may late : Bool) → TellsEnd rs (commit_answer rs from xid may late).act
+  commit_end xid false late = tt
+  commit_end xid true false = tt
+  commit_end xid true true = tt
+
+  rollback_end : (xid : Xid) (may : Bool) → TellsEnd rs (rollback_answer rs from xid may).act
+  rollback_end xid false = tt
+  rollback_end xid true = tt
+
+  query_end : (t : Ticket) (held : Option (RowKey × Grant)) → TellsEnd rs (query_answer rs from t held).act
+  query_end t None = tt
+  query_end t (Some (key, g)) = tt
+
+  retry_end : (xid : Xid) (b : BranchId) (changes : Bool) → TellsEnd rs (retry_answer rs xid b changes).act
+  retry_end xid b true = tt
+  retry_end xid b false = tt
+
+  ended_end : (xid : Xid) (b : BranchId) (st : BranchStatus) (stmt : ℕ) → TellsEnd rs (end_answer rs xid b st stmt).act
+  ended_end xid b branch.PhaseTwoCommitted stmt = tt
+  ended_end xid b branch.PhaseTwoRollbacked stmt = tt
+  ended_end xid b branch.PhaseTwoCommitFailedRetryable stmt = retry_end xid b (may_retry rs xid.0)
+  ended_end xid b branch.PhaseTwoRollbackFailedRetryable stmt = retry_end xid b (may_retry rs xid.0)
+  ended_end xid b branch.PhaseTwoCommitFailedUnretryable stmt = tt
+  ended_end xid b branch.PhaseTwoRollbackFailedUnretryable stmt = tt
+  ended_end xid b _ stmt = tt
+
+  branch_end : (xid : Xid) (b : BranchId) (st : BranchStatus) (stmt : ℕ) (counts : Bool) → TellsEnd rs (if counts then end_answer rs xid b st stmt else still act.Ignored).act
+  branch_end xid b st stmt true = ended_end xid b st stmt
+  branch_end xid b st stmt false = tt
+
+  hold_end : (q : Request) (held : Option (RowKey × Grant)) → TellsEnd rs (hold_answer rs now q held).act
+  hold_end q (Some (key, g)) = tt
+  hold_end q None = tt
+
+  timely_end : (q : Request) (past : Bool) → TellsEnd rs (timely_answer rs now q past).act
+  timely_end q true = tt
+  timely_end q false = hold_end q (first_held rs q.xid (q.hold ++ q.check))
+
+  open_end : (q : Request) (may : Bool) → TellsEnd rs (open_answer rs now q may).act
+  open_end q true = timely_end q (is_past (session rs q.xid) now)
+  open_end q false = tt
+
+  register_end : (q : Request) (known : Option Grant) → TellsEnd rs (register_answer rs now q known).act
+  register_end q (Some g) = tt
+  register_end q None = open_end q (may_decide rs q.xid)
+
+  message_end : (heard : Message) → TellsEnd rs (message_answer rs now from heard).act
+  message_end (message.Begin m timeout) = begin_end m (session_for rs m)
+  message_end (message.Register xid resource call ticket kind hold check) =
+      register_end (record { xid = xid.0; resource = resource; call = call; ticket = ticket; kind = kind; hold = hold; check = check }) (granted rs xid.0 resource call ticket kind)
+  message_end (message.GlobalCommit xid) = commit_end xid (may_decide rs xid.0) (is_past (session rs xid.0) now)
+  message_end (message.GlobalRollback xid) = rollback_end xid (may_decide rs xid.0)
+  message_end (message.GlobalStatus xid) = tt
+  message_end (message.LockQuery resource ticket check) = query_end ticket (first_held rs 0 check)
+  message_end (message.BranchCommitted xid b st stmt) = branch_end xid b st stmt (is_commit (decided rs xid.0) && (is_going rs xid.0 && is_some (unended_branch rs xid.0 b.0)))
+  message_end (message.BranchRollbacked xid b st stmt) = branch_end xid b st stmt (is_rollback (decided rs xid.0) && (is_going rs xid.0 && is_some (unended_branch rs xid.0 b.0)))
+  message_end _ = tt
+
+-- ---- turns, and all
+
+module _ (times : Times) (past : List SessionRecord) (os : List Own) (now : ℕ) where
+  abbrev rs : List SessionRecord
+  rs = (sessions_left past os).records
+
+  due_end : (x : ℕ) → is_going rs x ≡ true → (g : Option Grant) → TellsEnd rs (due_answer rs x g).act
+  due_end x going None = end_of (all_at (branches rs x)) (decided rs x) (going_decided rs x going)
+  due_end x going (Some g) = tt
+
+  old_end : (o : Option ℕ) → TellsEnd rs (old_answer rs o).act
+  old_end None = tt
+  old_end (Some x) = tt
+
+  turn_end : (late : Option ℕ) (first : Option (ℕ × ℕ)) → due_one times past os rs now ≡ first → TellsEnd rs (turn_answer rs late first (old_one times past os rs now)).act
+  turn_end (Some x) first d = tt
+  turn_end None (Some (x, moment)) d =
+      due_end x (due_is_going (is_going rs x) (nat_le (due times.retry (start past) os x) now) (due times.retry (start past) os x) moment
+      (soonest_is (due_moment times past os rs now) x moment (length (sessions rs)) d)) (next_asked rs x (is_commit (decided rs x)))
+  turn_end None None d = old_end (old_one times past os rs now)
+
+  answer_end : (given : Input) → TellsEnd rs (coordinator_answer times past os rs now given).act
+  answer_end input.Turn = turn_end (late_one times past os rs now) (due_one times past os rs now) refl
+  answer_end (input.Message from heard) = message_end rs now from heard
+  answer_end (input.Local k) = tt
+  answer_end (input.Outside k) = tt
+
+  written_end : (done : Act) (failed : Bool) (sent : Option Outgoing) → TellsEnd rs done → TellsEnd rs (written failed (record { act = done; sent = sent }) done).act
+  written_end (act.Durable d) true sent p = tt
+  written_end (act.Durable d) false sent p = p
+  written_end _ failed sent p = p
+
+  module _ (fault keeps : Bool) where
+    abbrev role : Role
+    role = Coordinator times past
+
+    up_end : (event : Event) → TellsEnd rs (up_answer role os now fault keeps event).act
+    up_end (Given given) =
+        let done = coordinator_answer times past os rs now given in
+        written_end done.act (fails fault (left_at role os)) done.sent (answer_end given)
+    up_end (Stopped calls) = tt
+    up_end Crashed = tt
+    up_end (Restarted pick calls) = tt
+
+    down_end : (event : Event) → TellsEnd rs (down_answer role os now fault keeps event).act
+    down_end (Given given) = tt
+    down_end (Stopped calls) = tt
+    down_end Crashed = tt
+    down_end (Restarted pick calls) = tt
+
+    happens_end : (event : Event) (down : Bool) → is_down os ≡ down → TellsEnd rs (happens role os now fault keeps event).act
+    happens_end event true e = rw e (down_end event)
+    happens_end event false e = rw e (up_end event)
+
+module _ (w : World) (past : Past) (ms : List Moment) (m : Moment) where
+  ends_here : (event : Option Event) → m.place ≡ place.Tc → IsDoneAt w past ms m event → TellsEnd (coordinator_left past ms).records m.step.act
+  ends_here (Some event) at done =
+      let os = own place.Tc ms in
+      let h : Happens (Coordinator w.times past.sessions) (own place.Tc ms) m.now event m.step = subst (λ p. HappensAt (role_at w past p) (own p ms) m.now event m.step) at done in
+      subst (λ (st : Step). TellsEnd (coordinator_left past ms).records st.act) (sym h.done) (happens_end w.times past.sessions os m.now h.fault h.keeps event (is_down (own place.Tc ms)) refl)
+  ends_here None at done = subst (λ (st : Step). TellsEnd (coordinator_left past ms).records st.act) (sym done.1) tt
+
+pub finishes_law : FinishesLaw
+finishes_law w past [] legal = tt
+finishes_law w past (m ∷ ms) legal = (finishes_law w past ms legal.0, λ at. ends_here w past ms m m.event at legal.1.done)

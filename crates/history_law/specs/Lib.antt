@@ -1,0 +1,11 @@
+pub mod Points
+pub mod SessionSafety
+pub mod Network
+pub mod Tickets
+pub mod Cover
+pub mod TicketSafety
+pub mod EndingSafety
+pub mod WorkSafety
+pub mod CallSafety
+pub mod OrderSafety
+pub mod FinishSafety
