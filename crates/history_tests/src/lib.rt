@@ -5,3 +5,5 @@
 mod coordinator;
 #[cfg(test)]
 mod lines;
+#[cfg(test)]
+mod reading;

@@ -1,0 +1,11 @@
+pub mod Cuts
+pub mod Parts
+pub mod Values
+pub mod Words
+pub mod Reasons
+pub mod Causes
+pub mod Acts
+pub mod Notes
+pub mod Writable
+pub mod Types
+pub mod Reading
