@@ -1,0 +1,87 @@
+-- The index of rows, by the branches that hold them.
+use Rattle.std.proofs.Common.{◌≡◌, ℕ, Bool, true, false, cond, ◌||◌, ◌&&◌, List, [], ◌∷◌, ◌++◌, length, Option, Some, None, refl, sym, ap, ◌∙◌, true≢false}
+use Rattle.std.specs.Prelude.{◌==◌}
+use Rattle.std.specs.List.{list_any}
+use Rattle.std.specs.List.Sorted.{IsStrictlySortedBy}
+use Rattle.std.specs.BTreeMap.{insert_entry}
+use Rattle.std.proofs.lemmas.Bool.{eqb-true}
+use Rattle.seata_types.specs.Orders.{key_cmp}
+use Rattle.seata_types.specs.declared.ids.Xid.{Xid}
+use Rattle.seata_types.specs.declared.ids.Leg.{Leg}
+use Rattle.seata_types.specs.declared.rows.RowKey.{RowKey}
+use Rattle.local_tables.specs.Rows.{is_key}
+use Rattle.local_tables.specs.Lookups.{IsRising}
+use Rattle.local_tables.proofs.MapLaws.{at_insert, rising_insert, same_entries}
+use Rattle.durable_records.specs.Locks.{has_key}
+use Rattle.lock_table.specs.Locks.{Locks, Holds, locked, holds, is_held_by, is_holder, IsIndex, HaveOneHolder, locks_on, locks}
+use Rattle.lock_table.proofs.Puts.{same_xid, xid_itself}
+
+none_rise : (ls : Locks) → ls ≡ [] → IsRising ls
+unfolding IsStrictlySortedBy
+none_rise ls is = rw is tt
+
+rising_on : (x : Xid) (ks : List RowKey) (ls : Locks) → IsRising ls → IsRising (locks_on x ks ls)
+rising_on x [] ls rising = rising
+rising_on x (k ∷ ks) ls rising = rising_insert (locks_on x ks ls) k x (rising_on x ks ls rising)
+
+rising_locks : (hs : Holds) → IsRising (locks hs)
+rising_locks [] = none_rise [] refl
+rising_locks (e ∷ es) = rising_on e.0.xid e.1 (locks es) (rising_locks es)
+
+either : (a b : Bool) (s o : Option Xid) → cond a s (cond b s o) ≡ cond (a || b) s o
+either true b s o = refl
+either false b s o = refl
+
+at_on : (x : Xid) (ks : List RowKey) (ls : Locks) (q : RowKey) → locked (locks_on x ks ls) q ≡ cond (has_key ks q) (Some x) (locked ls q)
+at_on x [] ls q = refl
+at_on x (k ∷ ks) ls q =
+    at_insert (locks_on x ks ls) k x q ∙ ap (λ (o : Option Xid). cond (is_key k q) (Some x) o) (at_on x ks ls q) ∙ either (is_key k q) (has_key ks q) (Some x) (locked ls q)
+
+or_true : (a : Bool) → (a || true) ≡ true
+or_true true = refl
+or_true false = refl
+
+some_of : (e x : Xid) (b rest : Bool) (o : Option Xid) → cond b (Some e) o ≡ Some x → (o ≡ Some x → rest ≡ true) → (((e.0 == x.0) && b) || rest) ≡ true
+some_of e x true rest o is later = let same : e ≡ x = cc in rw (same, xid_itself x) refl
+some_of e x false rest o is later = rw (later is) (or_true ((e.0 == x.0) && false))
+
+holder_holds : (hs : Holds) (x : Xid) (q : RowKey) → locked (locks hs) q ≡ Some x → holds hs x q ≡ true
+holder_holds [] x q is = absurd cc
+holder_holds (e ∷ es) x q is =
+    some_of e.0.xid x (has_key e.1 q) (holds es x q) (locked (locks es) q) (sym (at_on e.0.xid e.1 (locks es) q) ∙ is) (holder_holds es x q)
+
+none_of : (e : Xid) (b a rest : Bool) (o : Option Xid) → cond b (Some e) o ≡ None → (o ≡ None → rest ≡ false) → ((a && b) || rest) ≡ false
+none_of e true a rest o is later = absurd cc
+none_of e false true rest o is later = later is
+none_of e false false rest o is later = later is
+
+nobody_holds : (hs : Holds) (q : RowKey) → locked (locks hs) q ≡ None → (x : Xid) → holds hs x q ≡ false
+nobody_holds [] q is x = refl
+nobody_holds (e ∷ es) q is x =
+    none_of e.0.xid (has_key e.1 q) (e.0.xid.0 == x.0) (holds es x q) (locked (locks es) q) (sym (at_on e.0.xid e.1 (locks es) q) ∙ is) (λ none. nobody_holds es q none x)
+
+-- ---- the rows are those of the branches
+
+pub holder_is : (o : Option Xid) (x : Xid) → is_holder o x ≡ true → o ≡ Some x
+holder_is None x e = absurd cc
+holder_is (Some y) x e = ap (λ (z : Xid). Some z) (same_xid y x (eqb-true y.0 x.0 e))
+
+nobody_is : (o : Option Xid) → ((x : Xid) → is_holder o x ≡ false) → o ≡ None
+nobody_is None none = refl
+nobody_is (Some y) none = absurd (true≢false (sym (xid_itself y) ∙ none y))
+
+same_holder : (rows : Locks) (hs : Holds) (i : IsIndex rows hs) (q : RowKey) (o : Option Xid) → locked (locks hs) q ≡ o → locked rows q ≡ o
+same_holder rows hs i q None is = nobody_is (locked rows q) (λ x. i.agrees x q ∙ nobody_holds hs q is x)
+same_holder rows hs i q (Some x) is = holder_is (locked rows q) x (i.agrees x q ∙ holder_holds hs x q is)
+
+pub rows_are : (rows : Locks) (hs : Holds) → IsIndex rows hs → rows ≡ locks hs
+rows_are rows hs i = same_entries rows (locks hs) i.order (rising_locks hs) (λ q. same_holder rows hs i q (locked (locks hs) q) refl)
+
+pub one_holder : (rows : Locks) (hs : Holds) → IsIndex rows hs → HaveOneHolder hs
+one_holder rows hs i x y r held also =
+    let first : locked rows r ≡ Some x = holder_is (locked rows r) x (i.agrees x r ∙ held) in
+    let second : locked rows r ≡ Some y = holder_is (locked rows r) y (i.agrees y r ∙ also) in
+    cc
+
+pub no_rows : IsIndex [] []
+no_rows = record { order = none_rise [] refl; agrees = λ x r. refl }

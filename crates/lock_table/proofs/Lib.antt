@@ -1,0 +1,10 @@
+pub mod Searching
+pub mod Places
+pub mod Puts
+pub mod Holders
+pub mod Changes
+pub mod TakenOut
+pub mod Firsts
+pub mod Released
+pub mod Parts
+pub mod Answered

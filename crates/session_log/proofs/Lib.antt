@@ -1,0 +1,4 @@
+pub mod LaidTables
+pub mod RecordLaws
+pub mod SnapshotLaws
+pub mod WritingLaws

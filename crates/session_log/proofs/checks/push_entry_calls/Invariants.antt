@@ -1,0 +1,7 @@
+use Rattle.std.proofs.Common.{◌≡◌, ◌++◌, take}
+use Rattle.std.specs.List.{flat_map}
+use Rattle.session_log.specs.Soundness.{branch_call}
+use Rattle.session_log.proofs.checks.push_entry_calls.Given as goal
+
+abbrev pub invariant-loop-branch : goal.invariant-loop-branch
+invariant-loop-branch l = l.out.items ≡ l.initial.out.items ++ flat_map (branch_call l.xid) (take l.branch-index l.branches)

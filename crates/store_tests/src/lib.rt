@@ -1,0 +1,7 @@
+//! Tests of what the coordinator's disks keep and of its tables, over public calls.
+#![tactic(auto)]
+
+#[cfg(test)]
+mod locks;
+#[cfg(test)]
+mod records;

@@ -1,0 +1,49 @@
+-- What the statuses and answers of the code are in the words of a resource's records, and the fences that a map holds.
+use Rattle.std.specs.Prelude.{ℕ, List, map, Option}
+use Rattle.std.specs.BTreeMap.{is_at}
+use Rattle.std.specs.Map.{lookup}
+use Rattle.seata_types.specs.declared.ids.Leg.{Leg}
+use Rattle.durable_records.specs.Fences.{Fence, IsTried, IsCommitted, IsRollbacked, IsSuspended, Runs, WasDone, Suspends, Refuses, leg_cmp}
+use Rattle.durable_records.specs.Fences as log
+use Rattle.tcc_fence.specs.declared.statuses.FenceAnswer.{FenceAnswer}
+use Rattle.tcc_fence.specs.declared.statuses.FenceAnswer.TheVariants as answer
+use Rattle.tcc_fence.specs.declared.statuses.FenceStatus.{FenceStatus}
+use Rattle.tcc_fence.specs.declared.statuses.FenceStatus.TheVariants as status
+
+-- the code's statuses in the words of the records
+abbrev pub status_of : FenceStatus → Fence
+status_of status.Tried = IsTried
+status_of status.Committed = IsCommitted
+status_of status.Rollbacked = IsRollbacked
+status_of status.Suspended = IsSuspended
+
+-- the statuses' numbers in Seata's tcc_fence_log
+abbrev pub code_of : FenceStatus → ℕ
+code_of status.Tried = 1
+code_of status.Committed = 2
+code_of status.Rollbacked = 3
+code_of status.Suspended = 4
+
+-- the code's answers in the words of the records
+abbrev pub answer_of : FenceAnswer → log.FenceAnswer
+answer_of answer.Run = Runs
+answer_of answer.Already = WasDone
+answer_of answer.Suspend = Suspends
+answer_of answer.Refuse = Refuses
+
+-- branches with their fences, in order of transaction and number
+abbrev pub Fences : Type 0
+Fences = List ((ℕ × ℕ) × Fence)
+
+abbrev pub pair_of : Leg → ℕ × ℕ
+pair_of leg = (leg.xid.0, leg.branch.0)
+
+abbrev pub entry_of : Leg × FenceStatus → (ℕ × ℕ) × Fence
+entry_of e = (pair_of e.0, status_of e.1)
+
+abbrev pub fences_of : List (Leg × FenceStatus) → Fences
+fences_of es = map entry_of es
+
+-- the fence of a branch among these
+abbrev pub fence_at : Fences → Leg → Option Fence
+fence_at fences leg = lookup (is_at (leg_cmp (pair_of leg))) fences

@@ -1,0 +1,9 @@
+//! The fences of a resource's TCC branches, after Seata's `tcc_fence_log`: whether a Try, a Confirm or a Cancel may run
+//! now, was done already, or is refused. Contracts see them as the fences that a resource's records leave.
+#![tactic(auto)]
+
+mod fences;
+pub mod statuses;
+
+pub use fences::Fence;
+pub use statuses::{FenceAnswer, FenceStatus};
