@@ -1,6 +1,6 @@
 -- The names of nodes: a name reads back as its node.
 use Rattle.std.proofs.Common.{◌≡◌, ℕ, zero, suc, ◌+◌, ◌-◌, ◌^◌, ◌<◌, min, true, false, List, [], ◌∷◌, ◌++◌, length, Some, refl, ap, sym, subst, ◌∙◌, arith}
-use Rattle.std.specs.Prelude.{◌&&◌, ◌||◌, not, nat_lt, nat_le, slice_get, codes}
+use Rattle.std.specs.Prelude.{◌&&◌, not, nat_lt, nat_le, slice_get, codes}
 use Rattle.std.specs.List.{list_all, list_any}
 use Rattle.std.proofs.lemmas.Bool.Decides.{nat_tests}
 use Rattle.seata_types.specs.Orders.{same_text}
@@ -11,21 +11,26 @@ use Rattle.history_text.specs.declared.entries.Names.{Names}
 use Rattle.entry_reader.specs.declared.pieces.Separator.TheVariants as at
 use Rattle.entry_reader.specs.Parts.{word_in, numbered_from, number_in, place_by, place_of}
 use Rattle.entry_reader.specs.Types.{Is16, IsPlace}
-use Rattle.entry_reader.specs.Writable.{is_word_byte, is_node_word, is_node_name, are_different, AreNodeNames, is_named, is_place}
+use Rattle.scenario_reader.specs.Names.{is_letter, is_word_byte, is_word, is_node_name}
+use Rattle.entry_reader.specs.Writable.{are_different, AreNodeNames, is_named, is_place}
 use Rattle.entry_reader.proofs.Ascii.{both_left, both_right}
 use Rattle.entry_reader.proofs.Closed.{goes}
 use Rattle.entry_reader.proofs.Spells.{IsPiece, word}
-use Rattle.entry_reader.proofs.Tests.{not_true, neither_left, neither_right, same_self, all-more, all-at, any-at, any-left, any-right, all-left, all-right, get-within}
+use Rattle.entry_reader.proofs.Tests.{both, not_true, same_self, all-more, all-at, any-at, any-left, any-right, all-left, all-right, get-within}
 
 -- ---- the form
 
-word_bytes : (name : List ℕ) → is_node_word name ≡ true → list_all is_word_byte name ≡ true
+letter_byte : (c : ℕ) → is_letter c ≡ true → is_word_byte c ≡ true
+letter_byte c h = rw h refl
+
+word_bytes : (name : List ℕ) → is_word name ≡ true → list_all is_word_byte name ≡ true
 word_bytes [] h = cc
-word_bytes (c ∷ cs) h = both_right _ (list_all is_word_byte (c ∷ cs)) h
+word_bytes (c ∷ cs) h =
+    both (is_word_byte c) (list_all is_word_byte cs) (letter_byte c (both_left (is_letter c) (list_all is_word_byte cs) h)) (both_right (is_letter c) (list_all is_word_byte cs) h)
 
 name_bytes : (name : List ℕ) → is_node_name name ≡ true → list_all is_word_byte name ≡ true
 unfolding is_node_name
-name_bytes name h = word_bytes name (both_left (is_node_word name) _ h)
+name_bytes name h = word_bytes name (both_left (is_word name) _ h)
 
 byte_ascii : (c : ℕ) → is_word_byte c ≡ true → nat_lt c 128 ≡ true
 byte_ascii c h = grind (arith, nat_tests)
@@ -51,9 +56,13 @@ name_piece name h = word name (all-more is_word_byte (goes at.Space) name byte_s
 pub name-goes : (name : List ℕ) → is_node_name name ≡ true → list_all (goes at.Name) name ≡ true
 name-goes name h = all-more is_word_byte (goes at.Name) name byte_name (name_bytes name h)
 
-reserved : (name : List ℕ) → is_node_name name ≡ true → (same_text name (codes "tc") || same_text name (codes "net")) ≡ false
+not_tc : (name : List ℕ) → is_node_name name ≡ true → same_text name (codes "tc") ≡ false
 unfolding is_node_name
-reserved name h = not_true _ (both_right (is_node_word name) _ h)
+not_tc name h = not_true _ (both_left (not (same_text name (codes "tc"))) _ (both_right (is_word name) _ h))
+
+not_net : (name : List ℕ) → is_node_name name ≡ true → same_text name (codes "net") ≡ false
+unfolding is_node_name
+not_net name h = not_true _ (both_right (not (same_text name (codes "tc"))) _ (both_right (is_word name) _ h))
 
 -- ---- the number of a name
 
@@ -171,7 +180,7 @@ no_resource names n are is =
 no_net : (names : List (List ℕ)) → list_all is_node_name names ≡ true → number_in names (codes "net") ≡ 0
 no_net names form =
     number_in-none names (codes "net") refl
-    (λ k other at_k. neither_right (same_text other (codes "tc")) (same_text other (codes "net")) (reserved other (all-at is_node_name names k other form at_k)))
+    (λ k other at_k. not_net other (all-at is_node_name names k other form at_k))
 
 -- ---- places
 
@@ -184,7 +193,7 @@ place_piece names (place.Man n) are is = name_piece (name_text (codes "m") names
 place_of-name : (names : Names) (name : List ℕ) → is_node_name name ≡ true → place_of names name ≡ place_by (number_in names.resources name) (number_in names.managers name)
 unfolding place_of
 place_of-name names name form =
-    let other : same_text name (codes "tc") ≡ false = neither_left (same_text name (codes "tc")) (same_text name (codes "net")) (reserved name form) in
+    let other : same_text name (codes "tc") ≡ false = not_tc name form in
     rw (word_in-name name form, other) refl
 
 place_by-resource : (n k m : ℕ) → n ≡ suc m → place_by n k ≡ place.Res n

@@ -1,7 +1,7 @@
 -- Which entries are printed with these names, beside that their numbers are of their types.
 use Rattle.std.specs.Prelude.{◌≡◌, ℕ, ◌==◌, ◌&&◌, ◌||◌, not, nat_lt, nat_le, Bool, true, false, List, [], ◌∷◌, ◌++◌, length, Option, Some, None, codes}
 use Rattle.std.specs.List.{list_all, list_any}
-use Rattle.std.specs.Char.{is_ascii_alphabetic, is_ascii_alphanumeric, is_ascii_digit, is_ascii_lowercase}
+use Rattle.std.specs.Char.{is_ascii_digit, is_ascii_lowercase}
 use Rattle.std.specs.Ordering.{is_lt}
 use Rattle.seata_types.specs.Orders.{same_text, key_cmp}
 use Rattle.seata_types.specs.declared.limits.TheConstants.{KEY_PARTS, NAME_BYTES}
@@ -19,6 +19,7 @@ use Rattle.seata_types.specs.declared.messages.CallAnswer.TheVariants as reply
 use Rattle.seata_types.specs.declared.messages.Registered.{Registered}
 use Rattle.seata_types.specs.declared.messages.Registered.TheVariants as registered
 use Rattle.seata_types.specs.declared.rows.RowKey.{RowKey}
+use Rattle.scenario_reader.specs.Names.{is_node_name}
 use Rattle.history_text.specs.declared.entries.Cause.{Cause}
 use Rattle.history_text.specs.declared.entries.Cause.TheVariants as cause
 use Rattle.history_text.specs.declared.entries.Entry.{Entry}
@@ -30,24 +31,12 @@ use Rattle.entry_reader.specs.Notes.{resource_at}
 
 -- ---- names
 
--- an ASCII letter and then letters, digits and `_`
-abbrev pub is_word_byte : ℕ → Bool
-is_word_byte c = is_ascii_alphanumeric c || (c == 95)
-
-abbrev pub is_node_word : List ℕ → Bool
-is_node_word [] = false
-is_node_word (c ∷ cs) = is_ascii_alphabetic c && list_all is_word_byte (c ∷ cs)
-
--- a node's name: such a word, but neither the coordinator's nor the network's
-unfoldable pub is_node_name : List ℕ → Bool
-is_node_name name = is_node_word name && not (same_text name (codes "tc") || same_text name (codes "net"))
-
 -- all different
 abbrev pub are_different : List (List ℕ) → Bool
 are_different [] = true
 are_different (name ∷ names) = not (list_any (same_text name) names) && are_different names
 
--- the nodes of a scenario have such names
+-- names as a scenario's nodes have, all different
 pub record AreNodeNames (names : Names) : Type 0 where
   pub form : list_all is_node_name (names.resources ++ names.managers) ≡ true
   pub different : are_different (names.resources ++ names.managers) ≡ true
