@@ -127,7 +127,7 @@ same_call w rs allowed x c r q k j a b =
     (ap (λ (z : ℕ × Work). z.0) slot, sym a.of_kind ∙ ap (λ (z : ℕ × Work). kind_of z.1) slot ∙ b.of_kind)
 
 -- the number of a call is at most that of all calls
-slot_low : {A : Type 0} (xs : List A) (n : ℕ) (a : A) → slice_get xs n ≡ Some a → n < length xs
+pub slot_low : {A : Type 0} (xs : List A) (n : ℕ) (a : A) → slice_get xs n ≡ Some a → n < length xs
 slot_low [] n a e = none_some e
 slot_low (x ∷ xs) zero a e = omega arith
 slot_low (x ∷ xs) (suc n) a e = let k = slot_low xs n a e in omega arith

@@ -56,7 +56,7 @@ pub record FencedCalls (w : World) (tc : Left SessionRecord) (mem : ℕ → Setu
   pub none : NoneIsUnfenced ms
 
 module _ (w : World) (past : Past) where
-  calls_keep : Keeps w past (FencedCalls w)
+  pub calls_keep : Keeps w past (FencedCalls w)
   calls_keep = record {
     at_tc = λ ms m c i t. record {
       calls = calls_at_tc w past ms m c i.calls t;
@@ -166,7 +166,7 @@ module _ (w : World) (past : Past) (ms : List Moment) (next : Past) (numbered : 
       (works_kept n (memory_of past ms n s).left.records a.works.0, works_kept n (all_of (memory_of past ms n s).left) a.works.1) in
       record { opens = λ o j. absurd j; works = (works, works) }
 
-  calls_next : Calls w next []
+  pub calls_next : Calls w next []
   calls_next =
       let granted = of_sessions w past ms next numbered c leaves (AreCalls w next.sessions) (
         calls_on w tc.records (memory_of past ms) next.sessions (memory_of next []) next_grown tc.records i.calls.granted.0,
@@ -188,7 +188,7 @@ module _ (w : World) (past : Past) (ms : List Moment) (next : Past) (numbered : 
         none = tt;
       }
 
-chain_calls : (w : World) (past : Past) (ms : List Moment) (rest : List (Past × List Moment)) → AreNumbered w → IsChain w ((past, ms) ∷ rest) → Calls w past []
+pub chain_calls : (w : World) (past : Past) (ms : List Moment) (rest : List (Past × List Moment)) → AreNumbered w → IsChain w ((past, ms) ∷ rest) → Calls w past []
 chain_calls w past ms [] numbered chain = calls_first w past chain.0
 chain_calls w past ms ((before, entries) ∷ rest) numbered chain =
     let earlier = chain_covered w before entries rest numbered chain.0 in

@@ -41,7 +41,7 @@ use Rattle.history_law.proofs.CoordinatorCauses.{tcc_not_at}
 use Rattle.history_law.proofs.CoverResource.{one_number}
 use Rattle.history_law.proofs.CoverGrowth.{Steady}
 use Rattle.history_law.proofs.ResourceFits.{tables_now, IsUnfenced, MessageFits, SentFits, Fits}
-use Rattle.history_law.proofs.ResourceSteps.{TryFits, RecordFits, RefusalFits, OpenFrom}
+use Rattle.history_law.proofs.ResourceSteps.{TryFits, RecordFits, ActFinds, OpenFrom}
 use Rattle.history_law.proofs.TicketSteps.{memory_by, given_later, next_not_given}
 use Rattle.history_law.proofs.CallBranches.{one_tcc, same_call, call_low, tried_fence, confirm_refused, cancel_refused}
 use Rattle.history_law.proofs.EndingHistory.{endings_keep}
@@ -171,7 +171,7 @@ module _ (w : World) (past : Past) (ms : List Moment) (m : Moment) (c : Covers w
       let is = owned.named o f.there refl f.manager x d (work.Tcc f.action) f.owner in
       record { branch = a.branch; granted = a.granted; xid = is.0; number = a.number; call = is.1; resource = at_a; tcc = tcc_a }
 
-  work_of : (q : ResourceRecord) → RecordFits r.s me ne.opens r.event q → WorkIs w rs r.k q
+  pub work_of : (q : ResourceRecord) → RecordFits r.s me ne.opens r.event q → WorkIs w rs r.k q
   work_of (resource_log.Tried xid b d images) f = tried_of xid.0 b.0 d images f
   work_of (resource_log.Committed xid b d images reads) f =
       subst (λ z. IsCallOf w rs xid.0 z r.k kind.At) (sym f.call) (at_call xid.0 f.open_ticket.owner f.at (here.opens f.open_ticket f.there))
@@ -281,4 +281,4 @@ module _ (w : World) (past : Past) (ms : List Moment) (m : Moment) (c : Covers w
       cancel_refused (decided rs x) (fence me.left.records x b) ((i.ends.at r.k r.s r.known).fenced.0 x b) said.2 e
 
   pub none_unfenced : (xid : Xid) (b : BranchId) → m.step.act ≡ act.Unfenced xid b → ⊥
-  none_unfenced xid b did = not_unfenced xid.0 b.0 (subst (λ (a : Act). RefusalFits r.s me r.event a) did r.moves.refusal)
+  none_unfenced xid b did = not_unfenced xid.0 b.0 (subst (λ (a : Act). ActFinds r.s me r.event a) did r.moves.finds)

@@ -89,15 +89,15 @@ module _ (w : World) (tc : Left SessionRecord) (mem : ℕ → Setup → Memory) 
   names_new t P steady names = record { given = given_later m n t moves.later names.given; named = λ o i e. named_by t P steady names o e (moves.opens_from o i) }
 
   -- the branch of a local commit
-  record Granted (u : Undo) (o : Open) : Type 0 where
-    grant : Grant
-    there : In grant (grants tc.records)
-    number : grant.branch ≡ u.branch
-    resource : grant.resource ≡ k
-    at : grant.kind ≡ kind.At
-    ticket : grant.ticket ≡ o.ticket
+  pub record Granted (u : Undo) (o : Open) : Type 0 where
+    pub grant : Grant
+    pub there : In grant (grants tc.records)
+    pub number : grant.branch ≡ u.branch
+    pub resource : grant.resource ≡ k
+    pub at : grant.kind ≡ kind.At
+    pub ticket : grant.ticket ≡ o.ticket
 
-  granted_of : (u : Undo) (f : CommitFits m n.opens event u) → Granted u f.open_ticket
+  pub granted_of : (u : Undo) (f : CommitFits m n.opens event u) → Granted u f.open_ticket
   granted_of u f =
       let g = f.granted in
       let said = heard g.from (message.RegisterAnswer f.open_ticket.ticket g.xid (registered.Granted (branch_of u.branch))) g.is in

@@ -1,5 +1,5 @@
 -- The status of each finish is the one of its decision.
-use Rattle.std.proofs.Common.{◌≡◌, inl, inr, ◌+◌, ◌==◌, ◌&&◌, nat_lt, nat_le, ℕ, Bool, true, false, if◌then◌else◌, List, [], ◌∷◌, ◌++◌, length, Option, Some, None, is_some, is_none, refl, sym, subst}
+use Rattle.std.proofs.Common.{◌≡◌, ◌&&◌, nat_le, ℕ, Bool, true, false, if◌then◌else◌, List, [], ◌∷◌, ◌++◌, length, Option, Some, None, is_some, refl, sym, subst}
 use Rattle.seata_types.specs.declared.acts.Act.{Act}
 use Rattle.seata_types.specs.declared.acts.Act.TheVariants as act
 use Rattle.seata_types.specs.declared.ids.BranchId.{BranchId}
@@ -17,27 +17,26 @@ use Rattle.seata_types.specs.declared.statuses.BranchStatus.TheVariants as branc
 use Rattle.seata_types.specs.declared.statuses.Decision.{Decision}
 use Rattle.seata_types.specs.declared.statuses.Decision.TheVariants as how
 use Rattle.durable_records.specs.declared.coordinators.SessionRecord.{SessionRecord}
-use Rattle.durable_records.specs.Transactions.{Session, sessions, session, session_for, decided, next_xid, is_commit, is_rollback}
-use Rattle.durable_records.specs.Branches.{Grant, granted, next_branch, unended, unended_branch}
-use Rattle.durable_records.specs.Progress.{may_decide, is_going, is_finished, may_retry}
+use Rattle.durable_records.specs.Transactions.{Session, sessions, session, session_for, decided, is_commit, is_rollback}
+use Rattle.durable_records.specs.Branches.{Grant, granted, unended_branch}
+use Rattle.durable_records.specs.Progress.{may_decide, is_going, may_retry}
 use Rattle.durable_records.specs.Locks.{first_held}
 use Rattle.history_rules.specs.Own.{Event, Given, Own}
-use Rattle.history_rules.specs.CoordinatorMemory.{Times, session_record, start, due, rests_since, is_past, is_late, due_moment, is_old, late_one, due_one, old_one}
-use Rattle.history_rules.specs.CoordinatorRules.{xid_of, begin_answer, commit_answer, rollback_answer, query_answer, retry_answer, end_answer, branch_answer, Request, hold_answer, timely_answer, open_answer, register_answer, first_of, last_of, next_asked, asks, due_answer, old_answer, turn_answer, message_answer, coordinator_answer}
-use Rattle.history_law.proofs.Tests.{false_true, true_false, none_some, and_left, and_right, and_both, nat_same, member_found}
-use Rattle.history_law.proofs.Turns.{least_passes, soonest_is, due_is_going}
+use Rattle.history_rules.specs.CoordinatorMemory.{Times, start, due, is_past, due_moment, late_one, due_one, old_one}
+use Rattle.history_rules.specs.CoordinatorRules.{begin_answer, commit_answer, rollback_answer, query_answer, retry_answer, end_answer, Request, hold_answer, timely_answer, open_answer, register_answer, next_asked, due_answer, old_answer, turn_answer, message_answer, coordinator_answer}
+use Rattle.history_law.proofs.Tests.{false_true}
+use Rattle.history_law.proofs.Turns.{soonest_is, due_is_going}
 use Rattle.history_law.proofs.Transactions.{going_decided}
 use Rattle.history_rules.specs.Own.{Stopped, Crashed, Restarted, still}
 use Rattle.history_rules.specs.CoordinatorMemory.{sessions_left}
 use Rattle.history_rules.specs.Devices.{is_down, fails, written}
 use Rattle.history_rules.specs.Nodes.{Role, World, Past, Coordinator, Happens, happens, up_answer, down_answer, left_at, role_at}
-use Rattle.history_rules.specs.Histories.{Moment, Legal, IsDone as IsDoneAt, HappensAt, own, coordinator_left}
+use Rattle.history_rules.specs.Histories.{Moment, IsDone as IsDoneAt, HappensAt, own, coordinator_left}
 use Rattle.seata_types.specs.declared.ids.Place.TheVariants as place
-use Rattle.seata_types.specs.declared.acts.Durable.TheVariants as durable
 use Rattle.seata_types.specs.declared.messages.Outgoing.{Outgoing}
 use Rattle.durable_records.specs.Branches.{branches, all_at}
 use Rattle.durable_records.specs.Progress.{IsDone, status_by}
-use Rattle.history_law.specs.FinishSafety.{IsEndOf, TellsEnd, FinishesAsDecided, FinishesLaw}
+use Rattle.history_law.specs.FinishSafety.{IsEndOf, TellsEnd, FinishesLaw}
 
 end_of : (at : Bool) (d : Option Decision) → is_some d ≡ true → IsEndOf d (status_by at d IsDone)
 end_of at None some = false_true some

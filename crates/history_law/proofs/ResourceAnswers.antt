@@ -45,10 +45,10 @@ use Rattle.history_rules.specs.ResourceRules
 use Rattle.history_rules.specs.ResourceRules.{ticket_with, with_ticket, busy_in, lesser_row, busy_row, dirty_image, untouched, least_branch, is_for_call, is_for_local, request_of, requests, resource_answer, least_of}
 use Rattle.history_law.specs.Points.{In}
 use Rattle.history_law.specs.Tickets.{Tickets, IsAtOf, HasAll, IsOfRollback}
-use Rattle.history_law.proofs.Tests.{false_true, true_false, none_some, and_both, or_either, nat_same, find_none, found_in, same_nat, and_left, and_right, of_filter}
+use Rattle.history_law.proofs.Tests.{false_true, true_false, none_some, and_both, or_either, nat_same, find_none, found_in, in_filter, same_nat, and_left, and_right, of_filter}
 use Rattle.history_law.proofs.CoordinatorCauses.{one_ticket, tcc_not_at}
 use Rattle.history_law.proofs.CoordinatorAnswers.{last_in}
-use Rattle.history_law.proofs.ResourceFits.{tables_now, IsFree, AreFree, IsGranted, IsRollback, IsCommit, RolledBy, CancelledBy, ConfirmedBy, IsOfCommit, is_done_commit, is_done_rollback, SaysCommitted, SaysRollbacked, Fits, IsWorked}
+use Rattle.history_law.proofs.ResourceFits.{tables_now, IsFree, IsNew, AreFree, IsGranted, IsRollback, IsCommit, RolledBy, CancelledBy, ConfirmedBy, IsOfCommit, is_done_commit, is_done_rollback, SaysCommitted, SaysRollbacked, Fits, IsWorked}
 
 pub same_ticket_itself : (t : Ticket) → same_ticket t t ≡ true
 same_ticket_itself t = and_both (t.boot == t.boot) (t.seq == t.seq) (nat_same t.boot t.boot refl) (nat_same t.seq t.seq refl)
@@ -164,22 +164,22 @@ module _ (s : Setup) (m : Memory) where
     abbrev called : (man res x c : ℕ) → Work → Event
     called man res x c w = Given (input.Message from (message.Call (xid_of x) man res c w))
 
-    opens_at : (man res x c : ℕ) (stmts : List Stmt) (e : Effect) → effect_on db stmts ≡ e → busy_row m.opens e ≡ None
+    opens_at : (man res x c : ℕ) (stmts : List Stmt) → IsNew m (OfCall man x c (work.At stmts)) → (e : Effect) → effect_on db stmts ≡ e → busy_row m.opens e ≡ None
         → Fits s m (called man res x c (work.At stmts)) (requests s.number (act.Opened (xid_of x) c next) (opening_of next (OfCall man x c (work.At stmts)) e))
-    opens_at man res x c stmts e same free =
+    opens_at man res x c stmts new e same free =
         subst (λ (f : Effect). Fits s m (called man res x c (work.At stmts)) (requests s.number (act.Opened (xid_of x) c next) (opening_of next (OfCall man x c (work.At stmts)) f))) same
-        (request_fits (called man res x c (work.At stmts)) (act.Opened (xid_of x) c next) (refl, free_of m.opens next (OfCall man x c (work.At stmts)) e (effect_on db stmts) same free)
+        (request_fits (called man res x c (work.At stmts)) (act.Opened (xid_of x) c next) (refl, free_of m.opens next (OfCall man x c (work.At stmts)) e (effect_on db stmts) same free, new, (man, work.At stmts, refl))
         (opening_of next (OfCall man x c (work.At stmts)) (effect_on db stmts)) (OfCall man x c (work.At stmts)) refl (inl refl))
 
-    free_call_fits : (man res x c : ℕ) (stmts : List Stmt) (e : Effect) → effect db stmts ≡ Ok e → (busy : Option (RowKey × Ticket)) → busy_row m.opens e ≡ busy
+    free_call_fits : (man res x c : ℕ) (stmts : List Stmt) → IsNew m (OfCall man x c (work.At stmts)) → (e : Effect) → effect db stmts ≡ Ok e → (busy : Option (RowKey × Ticket)) → busy_row m.opens e ≡ busy
         → Fits s m (called man res x c (work.At stmts)) (ResourceRules.free_call s rs m.opens next man x c (work.At stmts) e busy)
-    free_call_fits man res x c stmts e means (Some (key, by)) free = (tt, tt)
-    free_call_fits man res x c stmts e means None free = opens_at man res x c stmts e (ap or_none means) free
+    free_call_fits man res x c stmts new e means (Some (key, by)) free = (tt, tt)
+    free_call_fits man res x c stmts new e means None free = opens_at man res x c stmts new e (ap or_none means) free
 
-    new_call_fits : (man res x c : ℕ) (stmts : List Stmt) (r : Result Effect (ℕ × StmtError)) → effect db stmts ≡ r
+    new_call_fits : (man res x c : ℕ) (stmts : List Stmt) → IsNew m (OfCall man x c (work.At stmts)) → (r : Result Effect (ℕ × StmtError)) → effect db stmts ≡ r
         → Fits s m (called man res x c (work.At stmts)) (ResourceRules.new_call s rs m.opens next man x c (work.At stmts) r)
-    new_call_fits man res x c stmts (Err (index, error)) means = (tt, tt)
-    new_call_fits man res x c stmts (Ok e) means = free_call_fits man res x c stmts e means (busy_row m.opens e) refl
+    new_call_fits man res x c stmts new (Err (index, error)) means = (tt, tt)
+    new_call_fits man res x c stmts new (Ok e) means = free_call_fits man res x c stmts new e means (busy_row m.opens e) refl
 
     no_rows : (t : Ticket) (owner : Owner) → IsFree m.opens (Some (opening_of t owner no_effect))
     no_rows t owner p i r hn hp = false_true hn
@@ -213,18 +213,41 @@ module _ (s : Setup) (m : Memory) where
         }
     done_work event done x c (work.Tcc a) b i = let k = tried_stands rs x c b i in record { work = k.work; is = k.is; stands = inl k.there }
 
-    call_fits : (man res x c : ℕ) (w : Work) (b : Option ℕ) → least_branch (ResourceRules.done_for s rs m.opens next x c w) ≡ b → (waits : Option Open) → Fits s m (called man res x c w) (ResourceRules.call_answer s rs m.opens next man x c w b waits)
-    call_fits man res x c w (Some b) e waits = (tt, done_work (called man res x c w) (act.Again (xid_of x) c (branch_of b)) x c w b (least_in (ResourceRules.done_for s rs m.opens next x c w) b e))
-    call_fits man res x c w None e (Some o) = (tt, tt)
-    call_fits man res x c (work.At stmts) None e None = new_call_fits man res x c stmts (effect db stmts) refl
-    call_fits man res x c (work.Tcc a) None e None =
-        request_fits (called man res x c (work.Tcc a)) (act.Opened (xid_of x) c next) (refl, no_rows next (OfCall man x c (work.Tcc a)))
+    least_none : (bs : List ℕ) → least_branch bs ≡ None → (b : ℕ) → In b bs → ⊥
+    least_none [] e b i = absurd i
+    least_none (d ∷ bs) e b i = by (least_branch bs) e
+      where
+        by : (o : Option ℕ) → least_of d o ≡ None → ⊥
+        by None e = none_some (sym e)
+        by (Some q) e = none_some (sym e)
+
+    to_map : (us : List Undo) (u : Undo) → In u us → In u.branch (map (λ v. v.branch) us)
+    to_map [] u i = absurd i
+    to_map (v ∷ us) u (inl is) = inl (ap (λ q. q.branch) is)
+    to_map (v ∷ us) u (inr i) = inr (to_map us u i)
+
+    -- nothing of the call is done or open
+    is_new : (man x c : ℕ) (stmts : List Stmt) → least_branch (ResourceRules.done_for s rs m.opens next x c (work.At stmts)) ≡ None → find (λ o. is_for_call x c o.owner) m.opens ≡ None → IsNew m (OfCall man x c (work.At stmts))
+    is_new man x c stmts e none = (
+      λ u i ux uc.
+          let mine = in_filter (λ (v : Undo). (v.xid == x) && (v.call == c)) (undos rs) u i (and_both (u.xid == x) (u.call == c) (nat_same u.xid x ux) (nat_same u.call c uc)) in
+          least_none (map (λ (v : Undo). v.branch) (undos_of_call rs x c)) e u.branch (to_map (undos_of_call rs x c) u mine),
+      λ p i. find_none (λ o. is_for_call x c o.owner) m.opens p none i,
+    )
+
+    call_fits : (man res x c : ℕ) (w : Work) (b : Option ℕ) → least_branch (ResourceRules.done_for s rs m.opens next x c w) ≡ b → (waits : Option Open) → find (λ o. is_for_call x c o.owner) m.opens ≡ waits
+        → Fits s m (called man res x c w) (ResourceRules.call_answer s rs m.opens next man x c w b waits)
+    call_fits man res x c w (Some b) e waits found = (tt, done_work (called man res x c w) (act.Again (xid_of x) c (branch_of b)) x c w b (least_in (ResourceRules.done_for s rs m.opens next x c w) b e))
+    call_fits man res x c w None e (Some o) found = (tt, tt)
+    call_fits man res x c (work.At stmts) None e None found = new_call_fits man res x c stmts (is_new man x c stmts e found) (effect db stmts) refl
+    call_fits man res x c (work.Tcc a) None e None found =
+        request_fits (called man res x c (work.Tcc a)) (act.Opened (xid_of x) c next) (refl, no_rows next (OfCall man x c (work.Tcc a)), tt, (man, work.Tcc a, refl))
         (opening_of next (OfCall man x c (work.Tcc a)) no_effect) (OfCall man x c (work.Tcc a)) refl (inl refl)
 
     on_call_fits : (man res x c : ℕ) (w : Work) → Fits s m (called man res x c w) (ResourceRules.on_call s rs m.opens next man x c w)
     on_call_fits man res zero c w = (tt, tt)
     on_call_fits man res (suc x) c w =
-        call_fits man res (suc x) c w (least_branch (ResourceRules.done_for s rs m.opens next (suc x) c w)) refl (find (λ o. is_for_call (suc x) c o.owner) m.opens)
+        call_fits man res (suc x) c w (least_branch (ResourceRules.done_for s rs m.opens next (suc x) c w)) refl (find (λ o. is_for_call (suc x) c o.owner) m.opens) refl
 
     -- ---- answers to a registration
 
@@ -432,7 +455,7 @@ module _ (s : Setup) (m : Memory) where
     local_free_fits e means (Some (key, by)) free = (tt, tt)
     local_free_fits e means None free =
         subst (λ (f : Effect). Fits s m (Given (input.Local k)) (requests s.number (act.OpenedLocal k next) (opening_of next (OfLocal k) f))) (effect_is e means)
-        (request_fits (Given (input.Local k)) (act.OpenedLocal k next) (refl, free_of m.opens next (OfLocal k) e (effect_on db (or_empty (local_of s k))) (effect_is e means) free)
+        (request_fits (Given (input.Local k)) (act.OpenedLocal k next) (refl, free_of m.opens next (OfLocal k) e (effect_on db (or_empty (local_of s k))) (effect_is e means) free, tt, refl)
         (opening_of next (OfLocal k) (effect_on db (or_empty (local_of s k)))) (OfLocal k) refl (inl refl))
 
     local_meant_fits : (r : Result Effect (ℕ × StmtError)) → effect db stmts ≡ r → Fits s m (Given (input.Local k)) (ResourceRules.local_meant s rs m.opens next k r)

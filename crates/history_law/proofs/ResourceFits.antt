@@ -20,6 +20,7 @@ use Rattle.seata_types.specs.declared.messages.Step.{Step}
 use Rattle.seata_types.specs.declared.rows.Image.{Image}
 use Rattle.seata_types.specs.declared.rows.RowKey.{RowKey}
 use Rattle.seata_types.specs.declared.statements.Action.{Action}
+use Rattle.seata_types.specs.declared.statements.Work.{Work}
 use Rattle.seata_types.specs.declared.statements.Work.TheVariants as work
 use Rattle.seata_types.specs.declared.statuses.BranchKind.{BranchKind}
 use Rattle.seata_types.specs.declared.statuses.BranchKind.TheVariants as kind
@@ -27,14 +28,14 @@ use Rattle.seata_types.specs.declared.statuses.BranchStatus.{BranchStatus}
 use Rattle.seata_types.specs.declared.statuses.BranchStatus.TheVariants as branch
 use Rattle.local_tables.specs.Rows.{Database}
 use Rattle.durable_records.specs.Locks.{has_key}
-use Rattle.durable_records.specs.UndoRecords.{Undo, undo_of, is_marked}
+use Rattle.durable_records.specs.UndoRecords.{Undo, undos, undo_of, is_marked}
 use Rattle.durable_records.specs.RowsKept.{tables}
 use Rattle.durable_records.specs.Fences.{Runs, WasDone, Suspends, Refuses, fence, on_try, on_confirm, on_cancel}
 use Rattle.durable_records.specs.ResourceOrder.{image_keys}
 use Rattle.history_rules.specs.Own.{Event, Given}
 use Rattle.history_rules.specs.CoordinatorRules.{xid_of, branch_of}
-use Rattle.history_rules.specs.ResourceMemory.{Setup, OfCall, OfLocal, Open, Memory, opening_tables, local_of, next_ticket, open_at, has_row, effect_on, or_empty, opened_for, opens_after, resource_record}
-use Rattle.history_rules.specs.ResourceRules.{dirty_image}
+use Rattle.history_rules.specs.ResourceMemory.{Setup, Owner, OfCall, OfLocal, Open, Memory, opening_tables, local_of, next_ticket, open_at, has_row, effect_on, or_empty, opened_for, opens_after, resource_record}
+use Rattle.history_rules.specs.ResourceRules.{dirty_image, is_for_call}
 use Rattle.history_law.specs.Points.{In}
 use Rattle.history_law.specs.Tickets.{IsAtOf, HasAll, Asks, IsOfRollback}
 
@@ -46,6 +47,26 @@ tables_now s m = tables (opening_tables s) m.left.records
 abbrev pub IsFree : List Open → Option Open → Type 0
 IsFree opens None = Unit {0}
 IsFree opens (Some n) = (p : Open) → In p opens → (key : RowKey) → has_row key n ≡ true → has_row key p ≡ true → ⊥
+
+-- a ticket of an AT call is opened only where no undo record of this call stands and no ticket of it is open
+abbrev pub IsNew : Memory → Owner → Type 0
+IsNew m (OfCall manager x c (work.At stmts)) =
+    ((u : Undo) → In u (undos m.left.records) → u.xid ≡ x → u.call ≡ c → ⊥) × ((p : Open) → In p m.opens → is_for_call x c p.owner ≡ false)
+IsNew m _ = Unit {0}
+
+abbrev pub IsNewTicket : Memory → Option Open → Type 0
+IsNewTicket m None = Unit {0}
+IsNewTicket m (Some n) = IsNew m n.owner
+
+-- the ticket is opened for call c of x
+abbrev pub IsForCall : (x c : ℕ) → Option Open → Type 0
+IsForCall x c None = Unit {0}
+IsForCall x c (Some n) = (manager : ℕ) × (wk : Work) × (n.owner ≡ OfCall manager x c wk)
+
+-- or for local transaction k
+abbrev pub IsForLocal : ℕ → Option Open → Type 0
+IsForLocal k None = Unit {0}
+IsForLocal k (Some n) = n.owner ≡ OfLocal k
 
 -- no open ticket has a row of these images
 abbrev pub AreFree : List Open → List Image → Type 0
@@ -122,8 +143,8 @@ pub record IsDirty (s : Setup) (m : Memory) (event : Event) (x b : ℕ) (key : R
 -- ---- acts
 
 abbrev pub ActFits : Setup → Memory → Event → Act → Type 0
-ActFits s m event (act.Opened xid c t) = (t ≡ next_ticket m) × IsFree m.opens (opened_for s (tables_now s m) t event)
-ActFits s m event (act.OpenedLocal k t) = (t ≡ next_ticket m) × IsFree m.opens (opened_for s (tables_now s m) t event)
+ActFits s m event (act.Opened xid c t) = (t ≡ next_ticket m) × IsFree m.opens (opened_for s (tables_now s m) t event) × IsNewTicket m (opened_for s (tables_now s m) t event) × IsForCall xid.0 c (opened_for s (tables_now s m) t event)
+ActFits s m event (act.OpenedLocal k t) = (t ≡ next_ticket m) × IsFree m.opens (opened_for s (tables_now s m) t event) × IsNewTicket m (opened_for s (tables_now s m) t event) × IsForLocal k (opened_for s (tables_now s m) t event)
 ActFits s m event (act.Durable (durable.Committed xid b t)) = CommitsAt m event xid.0 b.0 t
 ActFits s m event (act.Durable (durable.Undone xid b)) = Undoes m event xid.0 b.0
 ActFits s m event (act.Durable (durable.Marked xid b)) = IsRollback event xid.0 b.0 kind.At × (undo_of m.left.records xid.0 b.0 ≡ None)

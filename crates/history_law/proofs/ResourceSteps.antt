@@ -34,7 +34,7 @@ use Rattle.history_law.specs.Tickets.{Tickets, IsAtOf}
 use Rattle.history_law.proofs.Tests.{true_false, not_true, found_in, of_filter}
 use Rattle.history_law.proofs.CoordinatorCauses.{one_ticket}
 use Rattle.history_law.specs.Cover.{all_of}
-use Rattle.history_law.proofs.ResourceFits.{tables_now, AreFree, IsGranted, IsRollback, IsCommit, CommitsAt, CommitsLocal, TriesAt, Undoes, IsUnfenced, IsDirty, ActFits, SentFits, Fits}
+use Rattle.history_law.proofs.ResourceFits.{tables_now, IsForCall, IsForLocal, AreFree, IsNew, IsNewTicket, IsGranted, IsRollback, IsCommit, CommitsAt, CommitsLocal, TriesAt, Undoes, IsUnfenced, IsDirty, ActFits, SentFits, Fits}
 use Rattle.history_law.proofs.ResourceAnswers.{same_ticket_itself, resource_fits}
 use Rattle.history_law.proofs.TicketSteps.{Later, in_without, in_resent, in_counting, opened_is, memory_by, kept_after}
 
@@ -179,6 +179,7 @@ pub record NewOpen (s : Setup) (m : Memory) (event : Event) (n : Memory) (o : Op
   pub opened : opened_for s (tables_now s m) (next_ticket m) event ≡ Some o
   pub left : n.left ≡ m.left
   pub landed : m.left.flight ≡ None
+  pub fresh : IsNew m o.owner
 
 -- an open ticket was open before, or is the next one
 abbrev pub OpenFrom : Setup → Memory → Event → Memory → Open → Type 0
@@ -234,16 +235,17 @@ module _ (s : Setup) (m : Memory) (event : Event) (now : ℕ) where
   durable_moves (durable.LocalCommitted k t) f false sent = adds (durable.LocalCommitted k t) sent (record_fits s m (without m.opens t) event (durable.LocalCommitted k t) f (ends_all (durable.LocalCommitted k t))) (λ o i. in_without m.opens t o i)
   durable_moves d f false sent = adds d sent (record_fits s m m.opens event d f (λ t e. absurd e)) (λ o i. i)
 
-  opened_from : (n : Memory) → n.left ≡ m.left → m.left.flight ≡ None → (f : Option Open) (t : Ticket) → (t ≡ next_ticket m) → opened_for s (tables_now s m) t event ≡ f
+  opened_from : (n : Memory) → n.left ≡ m.left → m.left.flight ≡ None → (f : Option Open) → IsNewTicket m f → (t : Ticket) → (t ≡ next_ticket m) → opened_for s (tables_now s m) t event ≡ f
       → ((n : Open) → f ≡ Some n → n.ticket ≡ t) → (o : Open) → In o (with_first f m.opens) → OpenFrom s m event n o
-  opened_from n left landed None t next for is o i = inl (o, o.conflicts, i, refl)
-  opened_from n left landed (Some a) t next for is o (inl e) = inr (record {
+  opened_from n left landed None fresh t next for is o i = inl (o, o.conflicts, i, refl)
+  opened_from n left landed (Some a) fresh t next for is o (inl e) = inr (record {
     ticket = ap (λ q. q.ticket) e ∙ is a refl ∙ next;
     opened = ap (λ q. opened_for s (tables_now s m) q event) (sym next) ∙ for ∙ ap (λ (q : Open). Some q) (sym e);
     left = left;
     landed = landed;
+    fresh = subst (λ (q : Open). IsNew m q.owner) (sym e) fresh;
   })
-  opened_from n left landed (Some a) t next for is o (inr i) = inl (o, o.conflicts, i, refl)
+  opened_from n left landed (Some a) fresh t next for is o (inr i) = inl (o, o.conflicts, i, refl)
 
   counted_from : (n : Memory) (t : Ticket) (k : ℕ) (o : Open) → In o (map (counting t k) m.opens) → OpenFrom s m event n o
   counted_from n t k o i = let f = in_counting t k m.opens o i in by f.0 f.1 f.2 (same_ticket f.0.ticket t) refl
@@ -254,8 +256,8 @@ module _ (s : Setup) (m : Memory) (event : Event) (now : ℕ) where
 
   answer_moves : m.left.flight ≡ None → (done : Act) → ActFits s m event done → (failed : Bool) (sent : Option Outgoing) → Moves (written failed (record { act = done; sent = sent }) done)
   answer_moves landed (act.Durable d) f failed sent = durable_moves d f failed sent
-  answer_moves landed (act.Opened xid c t) f failed sent = (opened_from (memory_by s m event now (record { act = act.Opened xid c t; sent = sent })) refl landed (opened_for s (tables_now s m) t event) t f.0 refl (opened_is s (tables_now s m) t event), λ Q boot keeps q. q)
-  answer_moves landed (act.OpenedLocal k t) f failed sent = (opened_from (memory_by s m event now (record { act = act.OpenedLocal k t; sent = sent })) refl landed (opened_for s (tables_now s m) t event) t f.0 refl (opened_is s (tables_now s m) t event), λ Q boot keeps q. q)
+  answer_moves landed (act.Opened xid c t) f failed sent = (opened_from (memory_by s m event now (record { act = act.Opened xid c t; sent = sent })) refl landed (opened_for s (tables_now s m) t event) f.2 t f.0 refl (opened_is s (tables_now s m) t event), λ Q boot keeps q. q)
+  answer_moves landed (act.OpenedLocal k t) f failed sent = (opened_from (memory_by s m event now (record { act = act.OpenedLocal k t; sent = sent })) refl landed (opened_for s (tables_now s m) t event) f.2 t f.0 refl (opened_is s (tables_now s m) t event), λ Q boot keeps q. q)
   answer_moves landed (act.Resent t) f failed sent = (was_open s m event (memory_by s m event now (record { act = act.Resent t; sent = sent })) (λ o i. in_resent m.opens t (open_at m.opens t) refl o i), λ Q boot keeps q. q)
   answer_moves landed (act.Conflicted t k) f failed sent = (λ o i. counted_from (memory_by s m event now (record { act = act.Conflicted t k; sent = sent })) t k o i, λ Q boot keeps q. q)
   answer_moves landed (act.Dropped xid c t cause) f failed sent = (was_open s m event (memory_by s m event now (record { act = act.Dropped xid c t cause; sent = sent })) (λ o i. in_without m.opens t o i), λ Q boot keeps q. q)
@@ -288,22 +290,26 @@ lands s past (o ∷ os) up = by o.step.act up (lands s past os)
     by (act.Restarted kept) up below = refl
     by _ up below = below up
 
--- what a refusing act of the second phase found
-abbrev pub RefusalFits : Setup → Memory → Event → Act → Type 0
-RefusalFits s m event (act.Dirty xid b key after now) = IsDirty s m event xid.0 b.0 key
-RefusalFits s m event (act.Unfenced xid b) = IsUnfenced m event xid.0 b.0
-RefusalFits s m event _ = Unit {0}
+-- what a refusing act of the second phase found, and for what a ticket was opened
+abbrev pub ActFinds : Setup → Memory → Event → Act → Type 0
+ActFinds s m event (act.Dirty xid b key after now) = IsDirty s m event xid.0 b.0 key
+ActFinds s m event (act.Unfenced xid b) = IsUnfenced m event xid.0 b.0
+ActFinds s m event (act.Opened xid c t) = (t ≡ next_ticket m) × IsForCall xid.0 c (opened_for s (tables_now s m) t event)
+ActFinds s m event (act.OpenedLocal k t) = IsForLocal k (opened_for s (tables_now s m) t event)
+ActFinds s m event _ = Unit {0}
 
--- what is sent, and what was refused
+-- what is sent, and what the act found
 module _ (s : Setup) (m : Memory) (event : Event) where
   abbrev Says : Step → Type 0
-  Says step = (Fits s m event step ⊎ (step.sent ≡ None)) × RefusalFits s m event step.act
+  Says step = (Fits s m event step ⊎ (step.sent ≡ None)) × ActFinds s m event step.act
 
   written_says : (done : Act) (failed : Bool) (sent : Option Outgoing) → ActFits s m event done → SentFits s m event done sent → Says (written failed (record { act = done; sent = sent }) done)
   written_says (act.Durable d) true sent f g = (inr refl, tt)
   written_says (act.Durable d) false sent f g = (inl (f, g), tt)
   written_says (act.Dirty xid b key after now) failed sent f g = (inl (f, g), f)
   written_says (act.Unfenced xid b) failed sent f g = (inl (f, g), f)
+  written_says (act.Opened xid c t) failed sent f g = (inl (f, g), (f.0, f.3))
+  written_says (act.OpenedLocal k t) failed sent f g = (inl (f, g), f.3)
   written_says _ failed sent f g = (inl (f, g), tt)
 
   reopens_says : (b : Bool) (kept : Option Durable) → Says (restarted true b kept)
@@ -354,14 +360,14 @@ module _ (s : Setup) (past : List ResourceRecord) (os : List Own) (now : ℕ) (f
   says_after event true e = rw e (down_says event)
   says_after event false e = rw e (up_says event)
 
--- of what happens at a resource: its tickets, what it keeps, what it sends and what it refuses
+-- of what happens at a resource: its tickets, what it keeps, what it sends and what its act found
 pub record ResourceMoves (s : Setup) (m : Memory) (event : Event) (now : ℕ) (step : Step) : Type 1 where
   pub later : Later m (memory_by s m event now step)
   pub tickets : Tickets (memory_by s m event now step)
   pub opens_from : OpensFrom s m event (memory_by s m event now step)
   pub keeps : KeepsBoth s m event (memory_by s m event now step)
   pub fits : Fits s m event step ⊎ (step.sent ≡ None)
-  pub refusal : RefusalFits s m event step.act
+  pub finds : ActFinds s m event step.act
 
 pub resource_moves : (s : Setup) (past : List ResourceRecord) (os : List Own) (event : Event) (now : ℕ) (step : Step) → Tickets (memory s past os) → Happens (Resource s past) os now event step
     → ResourceMoves s (memory s past os) event now step
@@ -370,5 +376,5 @@ resource_moves s past os event now step ts d =
     let k = kept_after s past os now d.fault d.keeps ts event (is_down os) refl in
     let v = moves_after s past os now d.fault d.keeps ts event (is_down os) refl in
     let f = says_after s past os now d.fault d.keeps ts event (is_down os) refl in
-    let all : ResourceMoves s (memory s past os) event now st = record { later = k.0; tickets = k.1; opens_from = v.0; keeps = v.1; fits = f.0; refusal = f.1 } in
+    let all : ResourceMoves s (memory s past os) event now st = record { later = k.0; tickets = k.1; opens_from = v.0; keeps = v.1; fits = f.0; finds = f.1 } in
     subst (λ (q : Step). ResourceMoves s (memory s past os) event now q) (sym d.done) all

@@ -1,5 +1,5 @@
 -- The order of the changes of a row in all legal histories.
-use Rattle.std.proofs.Common.{◌≡◌, ◌⊎◌, inl, inr, ◌+◌, ◌<◌, ◌==◌, ◌&&◌, ◌||◌, not, ℕ, Bool, true, false, cond, List, [], ◌∷◌, ◌++◌, length, filter, Option, Some, None, is_none, refl, ap, sym, subst, ◌∙◌, arith}
+use Rattle.std.proofs.Common.{◌≡◌, ◌⊎◌, inl, inr, ◌+◌, ◌<◌, ◌==◌, ◌&&◌, ℕ, Bool, true, false, cond, List, [], ◌∷◌, ◌++◌, length, filter, Option, Some, None, is_none, refl, ap, sym, subst, ◌∙◌, arith}
 use Rattle.seata_types.specs.declared.messages.Message.TheVariants as message
 use Rattle.seata_types.specs.declared.messages.Registered.TheVariants as registered
 use Rattle.seata_types.specs.declared.rows.Image.{Image}
@@ -11,11 +11,11 @@ use Rattle.durable_records.specs.declared.coordinators.SessionRecord.TheVariants
 use Rattle.durable_records.specs.declared.resources.ResourceRecord.{ResourceRecord}
 use Rattle.durable_records.specs.declared.resources.ResourceRecord.TheVariants as resource_log
 use Rattle.durable_records.specs.Transactions.{decided, is_commit}
-use Rattle.durable_records.specs.Branches.{Grant, grants, granted, is_ended, next_branch}
+use Rattle.durable_records.specs.Branches.{Grant, grants, granted, next_branch}
 use Rattle.durable_records.specs.Progress.{may_decide}
-use Rattle.durable_records.specs.Locks.{has_key, is_holding, holds_row, first_held}
+use Rattle.durable_records.specs.Locks.{has_key, first_held}
 use Rattle.durable_records.specs.UndoRecords.{Undo, undos, is_leg}
-use Rattle.durable_records.specs.ResourceOrder.{image_keys, read_keys}
+use Rattle.durable_records.specs.ResourceOrder.{image_keys}
 use Rattle.durable_records.specs.RowsKept.{Change, ByBranch, ByLocal, ByOutside, image_at, changed, by_branch, by_local, by_outside, is_by_other, changes}
 use Rattle.history_rules.specs.Own.{Left}
 use Rattle.history_rules.specs.CoordinatorRules.{xid_of, branch_of}
@@ -23,46 +23,40 @@ use Rattle.history_rules.specs.ResourceMemory.{Setup, Owner, OfCall, OfLocal, Op
 use Rattle.history_rules.specs.Nodes.{World, Past, counted_at}
 use Rattle.history_rules.specs.Histories.{Moment, coordinator_left}
 use Rattle.history_law.specs.Points.{In}
+use Rattle.history_law.specs.Network.{EachSent}
 use Rattle.history_law.specs.Tickets.{Names, IsAtOf, Asks}
 use Rattle.history_law.specs.Cover.{all_of, memory_of, HasKind, IsUndone, Backs, SaysIn, Covers}
-use Rattle.history_law.specs.OrderSafety.{LiesUnder, LieUnder, ArePiled}
-use Rattle.history_law.proofs.Tests.{true_false, and_left, and_right, and_both, false_not, same_nat, find_none, of_filter}
+use Rattle.history_law.specs.OrderSafety.{LiesUnder, LieUnder, IsSettled, AreSettled, ArePiled, CommitsLie, HasCommitted, UndosFollow}
+use Rattle.history_law.proofs.Tests.{and_left, and_right, found_in}
 use Rattle.history_law.proofs.Transactions.{numbered, next_number}
-use Rattle.history_law.proofs.Branches.{one_branch, in_all, stays_decided, decided_in_all}
+use Rattle.history_law.proofs.Branches.{in_all, stays_decided, decided_in_all}
 use Rattle.history_law.proofs.Holders.{none_held}
-use Rattle.history_law.proofs.UndoRecords.{HasCommit, WithUndo, IsCleared, leg_of, image_has, changed_in, change_has}
+use Rattle.history_law.proofs.UndoRecords.{HasCommit, WithUndo, IsCleared, change_has, commit_of, undo_committed, leg_of, leg_parts}
 use Rattle.history_law.proofs.CoordinatorCauses.{IsRegistered}
 use Rattle.history_law.proofs.CoverCoordinator.{MayCaused}
 use Rattle.history_law.proofs.CoverResource.{one_number, same_owner, in_added}
-use Rattle.history_law.proofs.ResourceSteps.{CommitFits, RecordFits, OpenFrom}
+use Rattle.history_law.proofs.ResourceSteps.{CommitFits, LocalFits, RecordFits, OpenFrom}
+use Rattle.history_law.proofs.ResourceRows.{image_row, commit_row, each_memory}
+use Rattle.history_law.proofs.RowChanges.{all_added, all_filter}
+use Rattle.history_law.proofs.RowHolders.{HeldBy, holder}
+use Rattle.history_law.proofs.RowMessages.{SaysRows, all_settled_on, rows_said_tc, rows_said_res}
 use Rattle.history_law.proofs.TicketSteps.{memory_by, given_later, next_not_given}
 use Rattle.history_law.proofs.CallResources.{owner_kind}
 use Rattle.history_law.proofs.Steps.{TcStep, ResStep}
 
 -- ---- lists of changes
 
-module _ (rs : List SessionRecord) (x b : ℕ) where
-  lie_added : (by : Image → Change) (o : Option Image) (cs : List Change) → ((i : Image) → o ≡ Some i → LiesUnder rs x b (by i)) → LieUnder rs x b cs → LieUnder rs x b (changed by o cs)
-  lie_added by o cs new all d j = each d (changed_in by o cs d j)
-    where
-      each : (d : Change) → ((i : Image) × (o ≡ Some i) × (d ≡ by i)) ⊎ In d cs → LiesUnder rs x b d
-      each d (inl (i, e, is)) = subst (λ z. LiesUnder rs x b z) (sym is) (new i e)
-      each d (inr k) = all d k
-
-  lie_filter : (test : Change → Bool) (cs : List Change) → LieUnder rs x b cs → LieUnder rs x b (filter test cs)
-  lie_filter test cs all d j = all d (of_filter test cs d j).0
-
 piled_filter : (rs : List SessionRecord) (test : Change → Bool) (cs : List Change) → ArePiled rs cs → ArePiled rs (filter test cs)
 piled_filter rs test [] p = tt
 piled_filter rs test (ByBranch x b before after ∷ cs) p = by (test (ByBranch x b before after)) (piled_filter rs test cs p.1)
   where
     by : (t : Bool) → ArePiled rs (filter test cs) → ArePiled rs (cond t (ByBranch x b before after ∷ filter test cs) (filter test cs))
-    by true rest = (lie_filter rs x b test cs p.0, rest)
+    by true rest = (all_filter (LiesUnder rs x b) test cs p.0, rest)
     by false rest = rest
-piled_filter rs test (ByLocal after ∷ cs) p = by (test (ByLocal after)) (piled_filter rs test cs p)
+piled_filter rs test (ByLocal after ∷ cs) p = by (test (ByLocal after)) (piled_filter rs test cs p.1)
   where
     by : (t : Bool) → ArePiled rs (filter test cs) → ArePiled rs (cond t (ByLocal after ∷ filter test cs) (filter test cs))
-    by true rest = rest
+    by true rest = (all_filter (IsSettled rs) test cs p.0, rest)
     by false rest = rest
 piled_filter rs test (ByOutside after ∷ cs) p = by (test (ByOutside after)) (piled_filter rs test cs p)
   where
@@ -83,8 +77,22 @@ module _ (rs rs' : List SessionRecord) (more : (x : ℕ) → is_commit (decided 
   pub piled_on : (cs : List Change) → ArePiled rs cs → ArePiled rs' cs
   piled_on [] p = tt
   piled_on (ByBranch x b before after ∷ cs) p = (lie_on x b cs p.0, piled_on cs p.1)
-  piled_on (ByLocal after ∷ cs) p = piled_on cs p
+  piled_on (ByLocal after ∷ cs) p = (all_settled_on rs rs' more cs p.0, piled_on cs p.1)
   piled_on (ByOutside after ∷ cs) p = piled_on cs p
+
+  pub commits_lie_on : (records : List ResourceRecord) → CommitsLie rs records → CommitsLie rs' records
+  commits_lie_on [] p = tt
+  commits_lie_on (resource_log.Committed xid b call images reads ∷ records) p = (commits_lie_on records p.0, λ key h. lie_on xid.0 b.0 (changes records key) (p.1 key h))
+  commits_lie_on (resource_log.Boot number ∷ records) p = commits_lie_on records p
+  commits_lie_on (resource_log.Undone xid b ∷ records) p = commits_lie_on records p
+  commits_lie_on (resource_log.Marked xid b ∷ records) p = commits_lie_on records p
+  commits_lie_on (resource_log.Cleared xid b ∷ records) p = commits_lie_on records p
+  commits_lie_on (resource_log.Tried xid b call images ∷ records) p = commits_lie_on records p
+  commits_lie_on (resource_log.Confirmed xid b images ∷ records) p = commits_lie_on records p
+  commits_lie_on (resource_log.Cancelled xid b images ∷ records) p = commits_lie_on records p
+  commits_lie_on (resource_log.Suspended xid b ∷ records) p = commits_lie_on records p
+  commits_lie_on (resource_log.LocalCommitted k images ∷ records) p = commits_lie_on records p
+  commits_lie_on (resource_log.Outside k images ∷ records) p = commits_lie_on records p
 
 -- ---- what is kept
 
@@ -98,19 +106,20 @@ Unders rs all n m = (g : Grant) → In g (grants all) → g.kind ≡ kind.At →
 abbrev pub PiledAt : List SessionRecord → Memory → Type 0
 PiledAt rs m = (key : RowKey) → ArePiled rs (changes m.left.records key) × ArePiled rs (changes (all_of m.left) key)
 
+abbrev pub CommitsLieAt : List SessionRecord → Memory → Type 0
+CommitsLieAt rs m = CommitsLie rs m.left.records × CommitsLie rs (all_of m.left)
+
+abbrev pub UndosFollowAt : Memory → Type 0
+UndosFollowAt m = UndosFollow m.left.records × UndosFollow (all_of m.left)
+
 pub record RowsBy (w : World) (tc : Left SessionRecord) (mem : ℕ → Setup → Memory) (ms : List Moment) : Type 0 where
+  pub said : EachSent (SaysRows w tc mem) ms
   pub unders : (n : ℕ) (s : Setup) → counted_at w.resources n ≡ Some s → Unders tc.records (all_of tc) n (mem n s)
   pub piled : (n : ℕ) (s : Setup) → counted_at w.resources n ≡ Some s → PiledAt tc.records (mem n s)
+  pub commits_lie : (n : ℕ) (s : Setup) → counted_at w.resources n ≡ Some s → CommitsLieAt tc.records (mem n s)
+  pub undos_follow : (n : ℕ) (s : Setup) → counted_at w.resources n ≡ Some s → UndosFollowAt (mem n s)
 
 -- ---- at the coordinator
-
--- the branch that holds the rows of an undo record
-record HeldBy (rs : List SessionRecord) (x b : ℕ) (key : RowKey) : Type 0 where
-  branch : Grant
-  there : In branch (grants rs)
-  xid : branch.xid ≡ x
-  number : branch.branch ≡ b
-  holding : holds_row rs key branch ≡ true
 
 module _ (w : World) (past : Past) (ms : List Moment) (m : Moment) (c : Covers w past ms) (i : RowsBy w (coordinator_left past ms) (memory_of past ms) ms) (t : TcStep w past ms m)
     (n : ℕ) (s : Setup) (is : counted_at w.resources n ≡ Some s) where
@@ -123,45 +132,11 @@ module _ (w : World) (past : Past) (ms : List Moment) (m : Moment) (c : Covers w
   abbrev me : Memory
   me = memory_of past ms n s
 
-  abbrev AnyUndo : Undo → Type 0
-  AnyUndo v = In v (undos (memory_of past ms n s).left.records) ⊎ In v (undos (all_of (memory_of past ms n s).left))
+  abbrev IsUndo : Undo → Type 0
+  IsUndo v = In v (undos (memory_of past ms n s).left.records) ⊎ In v (undos (all_of (memory_of past ms n s).left))
 
-  -- an undo record, also one in flight, is of a branch that isn't gone
-  not_gone : (v : Undo) → AnyUndo v → (g : Grant) → g.xid ≡ v.xid → g.branch ≡ v.branch → IsUndone me g → ⊥
-  not_gone v (inl j) g gx gb none = true_false (sym (leg_of v g.xid g.branch (sym gx) (sym gb)) ∙ find_none (is_leg g.xid g.branch) (undos me.left.records) v none.0.0 j)
-  not_gone v (inr j) g gx gb none = true_false (sym (leg_of v g.xid g.branch (sym gx) (sym gb)) ∙ find_none (is_leg g.xid g.branch) (undos (all_of me.left)) v none.0.1 j)
-
-  -- it is decided commit, or its branch holds its rows
-  held_by : (key : RowKey) (v : Undo) → AnyUndo v → has_key (image_keys v.images) key ≡ true → (b : Backs rs n me v)
-      → (ended committed : Bool) → is_ended rs b.branch.xid b.branch.branch ≡ ended → is_commit (decided rs b.branch.xid) ≡ committed
-      → (is_commit (decided rs v.xid) ≡ true) ⊎ HeldBy rs v.xid v.branch key
-  held_by key v j h b ended true e k = inl (subst (λ x. is_commit (decided rs x) ≡ true) b.xid k)
-  held_by key v j h b false false e k = inr (record {
-    branch = b.branch;
-    there = b.granted;
-    xid = b.xid;
-    number = b.number;
-    holding = and_both (has_key b.branch.hold key) (is_holding rs b.branch) (ap (λ ks. has_key ks key) (sym b.hold) ∙ h)
-        (and_both (not (is_ended rs b.branch.xid b.branch.branch)) (not (is_commit (decided rs b.branch.xid)))
-        (false_not (is_ended rs b.branch.xid b.branch.branch) e) (false_not (is_commit (decided rs b.branch.xid)) k));
-  })
-  held_by key v j h b true false e k = by (c.ended.0 b.branch.xid b.branch.branch e)
-    where
-      by : (is_commit (decided (coordinator_left past ms).records b.branch.xid) ≡ true)
-          ⊎ ((g : Grant) × (In g (grants (coordinator_left past ms).records)) × (g.xid ≡ b.branch.xid) × (g.branch ≡ b.branch.branch)
-          × (g.kind ≡ kind.At → (q : Setup) → counted_at w.resources g.resource ≡ Some q → IsUndone (memory_of past ms g.resource q) g))
-          → (is_commit (decided (coordinator_left past ms).records v.xid) ≡ true) ⊎ HeldBy (coordinator_left past ms).records v.xid v.branch key
-      by (inl commits) = true_false (sym commits ∙ k)
-      by (inr (g, there, gx, gb, undone)) =
-          let same : g ≡ b.branch = one_branch (coordinator_left past ms).records c.allowed.0 g b.branch there b.granted gb in
-          let here : g.resource ≡ n = ap (λ q. q.resource) same ∙ b.resource in
-          let none = undone (ap (λ q. q.kind) same ∙ b.at) s (ap (counted_at w.resources) here ∙ is) in
-          absurd (not_gone v j g (gx ∙ b.xid) (gb ∙ b.number) (subst (λ q. IsUndone (memory_of past ms q s) g) here none))
-
-  holder : (key : RowKey) (v : Undo) → AnyUndo v → has_key (image_keys v.images) key ≡ true → (is_commit (decided rs v.xid) ≡ true) ⊎ HeldBy rs v.xid v.branch key
-  holder key v j h =
-      let b = (c.at n s is).backed v j in
-      held_by key v j h b (is_ended rs b.branch.xid b.branch.branch) (is_commit (decided rs b.branch.xid)) refl refl
+  held : (key : RowKey) (v : Undo) → IsUndo v → has_key (image_keys v.images) key ≡ true → (is_commit (decided rs v.xid) ≡ true) ⊎ HeldBy rs v.xid v.branch key
+  held key v j h = holder w (coordinator_left past ms) (memory_of past ms) ms c n s is key v j h
 
   -- at a grant, where nobody else holds a row of the ticket, its changes lie under the new branch
   module _ (g : Grant) (keys : List RowKey) (key : RowKey) (number : g.branch ≡ length (grants rs) + 1) (free : first_held rs g.xid keys ≡ None) (row : has_key keys key ≡ true) where
@@ -173,13 +148,13 @@ module _ (w : World) (past : Past) (ms : List Moment) (m : Moment) (c : Covers w
         let same : h.branch.branch ≡ b = h.number in
         inr (sym h.xid ∙ own, omega arith)
 
-    commit_lies : (all : List ResourceRecord) → ((v : Undo) → In v (undos all) → AnyUndo v) → ((x b : ℕ) → In (resource_log.Cleared (xid_of x) (branch_of b)) all → is_commit (decided rs x) ≡ true)
+    commit_lies : (all : List ResourceRecord) → ((v : Undo) → In v (undos all) → IsUndo v) → ((x b : ℕ) → In (resource_log.Cleared (xid_of x) (branch_of b)) all → is_commit (decided rs x) ≡ true)
         → (x b : ℕ) → HasCommit all x b key → (is_commit (decided rs x) ≡ true) ⊎ ((x ≡ g.xid) × (b < g.branch))
     commit_lies all undo cleared x b (WithUndo v j ex eb h) =
-        held_lies x b (subst (λ q. (is_commit (decided rs q) ≡ true) ⊎ HeldBy rs q b key) ex (subst (λ q. (is_commit (decided rs v.xid) ≡ true) ⊎ HeldBy rs v.xid q key) eb (holder key v (undo v j) h)))
+        held_lies x b (subst (λ q. (is_commit (decided rs q) ≡ true) ⊎ HeldBy rs q b key) ex (subst (λ q. (is_commit (decided rs v.xid) ≡ true) ⊎ HeldBy rs v.xid q key) eb (held key v (undo v j) h)))
     commit_lies all undo cleared x b (IsCleared j) = inl (cleared x b j)
 
-    all_lie : (all : List ResourceRecord) → ((v : Undo) → In v (undos all) → AnyUndo v) → ((x b : ℕ) → In (resource_log.Cleared (xid_of x) (branch_of b)) all → is_commit (decided rs x) ≡ true)
+    all_lie : (all : List ResourceRecord) → ((v : Undo) → In v (undos all) → IsUndo v) → ((x b : ℕ) → In (resource_log.Cleared (xid_of x) (branch_of b)) all → is_commit (decided rs x) ≡ true)
         → LieUnder rs g.xid g.branch (changes all key)
     all_lie all undo cleared (ByBranch x b before after) j = commit_lies all undo cleared x b (change_has x b before after key all j)
     all_lie all undo cleared (ByLocal after) j = tt
@@ -238,9 +213,20 @@ module _ (w : World) (past : Past) (ms : List Moment) (m : Moment) (c : Covers w
       let p = i.piled n s is key in
       (piled_on rs t.after.records commits_stay (changes me.left.records key) p.0, piled_on rs t.after.records commits_stay (changes (all_of me.left) key) p.1)
 
+  commits_lie_tc : CommitsLieAt t.after.records me
+  commits_lie_tc =
+      let p = i.commits_lie n s is in
+      (commits_lie_on rs t.after.records commits_stay me.left.records p.0, commits_lie_on rs t.after.records commits_stay (all_of me.left) p.1)
+
 module _ (w : World) (past : Past) (ms : List Moment) (m : Moment) (c : Covers w past ms) (i : RowsBy w (coordinator_left past ms) (memory_of past ms) ms) (t : TcStep w past ms m) where
   pub rows_at_tc : RowsBy w t.after (memory_of past ms) (m ∷ ms)
-  rows_at_tc = record { unders = λ n s is. unders_tc w past ms m c i t n s is; piled = λ n s is. piled_tc w past ms m c i t n s is }
+  rows_at_tc = record {
+    said = rows_said_tc w past ms m c i.said t;
+    unders = λ n s is. unders_tc w past ms m c i t n s is;
+    piled = λ n s is. piled_tc w past ms m c i t n s is;
+    commits_lie = λ n s is. commits_lie_tc w past ms m c i t n s is;
+    undos_follow = i.undos_follow;
+  }
 
 -- ---- at a resource
 
@@ -259,19 +245,15 @@ module _ (w : World) (past : Past) (ms : List Moment) (m : Moment) (c : Covers w
   abbrev ne : Memory
   ne = memory_by r.s (memory_of past ms r.k r.s) r.event m.now m.step
 
-  -- a row of an image is a row of its ticket
-  image_row : (images : List Image) (o : Open) (key : RowKey) (a : Image) → images ≡ o.images → image_at images key ≡ Some a → has_row key o ≡ true
-  image_row images o key a same e = ap (λ b. b || has_key (read_keys o.reads) key) (subst (λ z. has_key (image_keys z) key ≡ true) same (image_has images key a e))
-
   -- a record leaves the changes of a row of a ticket that stays open where they are
   record_under : (g : Grant) (p o : Open) (key : RowKey) → In p before.opens → In o ne.opens → p.ticket ≡ o.ticket → has_row key p ≡ true → (q : ResourceRecord) → RecordFits r.s before ne.opens r.event q
       → LieUnder rs_here g.xid g.branch (changes before.left.records key) → LieUnder rs_here g.xid g.branch (changes (q ∷ before.left.records) key)
   record_under g p o key ip io same h (resource_log.Committed xid b call images reads) f all =
-      lie_added rs_here g.xid g.branch (by_branch xid.0 b.0) (image_at images key) (changes before.left.records key)
+      all_added (LiesUnder rs_here g.xid g.branch) (by_branch xid.0 b.0) (image_at images key) (changes before.left.records key)
       (λ a e. absurd (f.ends o io (sym same ∙ (c.at r.k r.s r.known).tickets.disjoint p f.open_ticket ip f.there key h (image_row images f.open_ticket key a f.images e)))) all
-  record_under g p o key ip io same h (resource_log.Undone xid b) f all = lie_filter rs_here g.xid g.branch (is_by_other xid.0 b.0) (changes before.left.records key) all
-  record_under g p o key ip io same h (resource_log.LocalCommitted k images) f all = lie_added rs_here g.xid g.branch by_local (image_at images key) (changes before.left.records key) (λ a e. tt) all
-  record_under g p o key ip io same h (resource_log.Outside k images) f all = lie_added rs_here g.xid g.branch by_outside (image_at images key) (changes before.left.records key) (λ a e. tt) all
+  record_under g p o key ip io same h (resource_log.Undone xid b) f all = all_filter (LiesUnder rs_here g.xid g.branch) (is_by_other xid.0 b.0) (changes before.left.records key) all
+  record_under g p o key ip io same h (resource_log.LocalCommitted k images) f all = all_added (LiesUnder rs_here g.xid g.branch) by_local (image_at images key) (changes before.left.records key) (λ a e. tt) all
+  record_under g p o key ip io same h (resource_log.Outside k images) f all = all_added (LiesUnder rs_here g.xid g.branch) by_outside (image_at images key) (changes before.left.records key) (λ a e. tt) all
   record_under g p o key ip io same h _ f all = all
 
   under_by : (g : Grant) → Names before g.ticket (Under rs_here before g) → (o : Open) → In o ne.opens → o.ticket ≡ g.ticket → OpenFrom r.s before r.event ne o → Under rs_here ne g o
@@ -287,9 +269,9 @@ module _ (w : World) (past : Past) (ms : List Moment) (m : Moment) (c : Covers w
       let names = i.unders r.k r.s r.known g j at here in
       record { given = given_later before ne g.ticket r.moves.later names.given; named = λ o io e. under_by g names o io e (r.moves.opens_from o io) }
 
-  -- the changes of the rows of a local commit lie under its branch
-  lies_below : (u : Undo) (f : CommitFits before ne.opens r.event u) (key : RowKey) (a : Image) → image_at u.images key ≡ Some a → LieUnder rs_here u.xid u.branch (changes before.left.records key)
-  lies_below u f key a e =
+  -- the changes of the rows of a local commit's ticket lie under its branch
+  lies_below : (u : Undo) (f : CommitFits before ne.opens r.event u) (key : RowKey) → has_row key f.open_ticket ≡ true → LieUnder rs_here u.xid u.branch (changes before.left.records key)
+  lies_below u f key row =
       let o = f.open_ticket in
       let said = r.heard (λ p out. Rattle.history_law.specs.Cover.Says w (coordinator_left past ms) (memory_of past ms) p out) c.said f.granted.from
       (message.RegisterAnswer f.open_ticket.ticket f.granted.xid (registered.Granted (branch_of u.branch))) f.granted.is in
@@ -302,21 +284,27 @@ module _ (w : World) (past : Past) (ms : List Moment) (m : Moment) (c : Covers w
       let there = in_all (coordinator_left past ms) said.branch said.granted in
       let asked = ((c.at r.k r.s r.known).asked said.branch there at (sym at_k)).named o f.there (sym ticket) in
       let xid : said.branch.xid ≡ u.xid = same_owner said.branch.xid u.xid o.owner asked.0 f.at in
-      let lies = ((i.unders r.k r.s r.known said.branch there at (sym at_k)).named o f.there (sym ticket) key (image_row u.images o key a f.images e)).0 in
+      let lies = ((i.unders r.k r.s r.known said.branch there at (sym at_k)).named o f.there (sym ticket) key row).0 in
       subst (λ z. LieUnder rs_here z u.branch (changes before.left.records key)) xid (subst (λ z. LieUnder rs_here said.branch.xid z (changes before.left.records key)) said.number lies)
+
+  -- those of a local commit are settled
+  settled_below : (n : ℕ) (images : List Image) (f : LocalFits before ne.opens r.event n images) (key : RowKey) (a : Image) → image_at images key ≡ Some a → AreSettled rs_here (changes before.left.records key)
+  settled_below n images f key a e =
+      let said = r.heard (λ p out. SaysRows w (coordinator_left past ms) (memory_of past ms) p out) i.said f.from (message.LockAnswer f.open_ticket.ticket None) f.is in
+      ((said r.k refl r.s r.known).named f.open_ticket f.there refl key (image_row images f.open_ticket key a f.images_are e)).0
 
   piled_step : (key : RowKey) (q : ResourceRecord) → RecordFits r.s before ne.opens r.event q → ArePiled rs_here (changes before.left.records key) → ArePiled rs_here (changes (q ∷ before.left.records) key)
   piled_step key (resource_log.Committed xid b call images reads) f p = by (image_at images key) refl
     where
       by : (z : Option Image) → image_at images key ≡ z → ArePiled (coordinator_left past ms).records (changed (by_branch xid.0 b.0) z (changes (memory_of past ms r.k r.s).left.records key))
       by None e = p
-      by (Some a) e = (lies_below (record { xid = xid.0; branch = b.0; call = call; images = images; reads = reads }) f key a e, p)
+      by (Some a) e = (lies_below (record { xid = xid.0; branch = b.0; call = call; images = images; reads = reads }) f key (image_row images f.open_ticket key a f.images e), p)
   piled_step key (resource_log.Undone xid b) f p = piled_filter rs_here (is_by_other xid.0 b.0) (changes before.left.records key) p
-  piled_step key (resource_log.LocalCommitted k images) f p = by (image_at images key)
+  piled_step key (resource_log.LocalCommitted k images) f p = by (image_at images key) refl
     where
-      by : (z : Option Image) → ArePiled (coordinator_left past ms).records (changed by_local z (changes (memory_of past ms r.k r.s).left.records key))
-      by None = p
-      by (Some a) = p
+      by : (z : Option Image) → image_at images key ≡ z → ArePiled (coordinator_left past ms).records (changed by_local z (changes (memory_of past ms r.k r.s).left.records key))
+      by None e = p
+      by (Some a) e = (settled_below k images f key a e, p)
   piled_step key (resource_log.Outside k images) f p = by (image_at images key)
     where
       by : (z : Option Image) → ArePiled (coordinator_left past ms).records (changed by_outside z (changes (memory_of past ms r.k r.s).left.records key))
@@ -327,20 +315,52 @@ module _ (w : World) (past : Past) (ms : List Moment) (m : Moment) (c : Covers w
   piled_here : PiledAt rs_here ne
   piled_here key = r.moves.keeps (λ z. ArePiled rs_here (changes z key)) (λ z q. q) (λ q f p. piled_step key q f p) (i.piled r.k r.s r.known key)
 
-  setup_by : (q : Setup) → Some q ≡ Some r.s → q ≡ r.s
-  setup_by q e = cc
+  commits_lie_step : (q : ResourceRecord) → RecordFits r.s before ne.opens r.event q → CommitsLie rs_here before.left.records → CommitsLie rs_here (q ∷ before.left.records)
+  commits_lie_step (resource_log.Committed xid b call images reads) f p =
+      let u : Undo = record { xid = xid.0; branch = b.0; call = call; images = images; reads = reads } in
+      (p, λ key h. lies_below u f key (commit_row images reads f.open_ticket key f.images f.reads h))
+  commits_lie_step (resource_log.Boot number) f p = p
+  commits_lie_step (resource_log.Undone xid b) f p = p
+  commits_lie_step (resource_log.Marked xid b) f p = p
+  commits_lie_step (resource_log.Cleared xid b) f p = p
+  commits_lie_step (resource_log.Tried xid b call images) f p = p
+  commits_lie_step (resource_log.Confirmed xid b images) f p = p
+  commits_lie_step (resource_log.Cancelled xid b images) f p = p
+  commits_lie_step (resource_log.Suspended xid b) f p = p
+  commits_lie_step (resource_log.LocalCommitted k images) f p = p
+  commits_lie_step (resource_log.Outside k images) f p = p
 
-  -- what holds of the memory here holds of the one that stands there
-  stands_at : (P : ℕ → Memory → Type 0) → P r.k ne → ((j : ℕ) (q : Setup) → counted_at w.resources j ≡ Some q → P j (memory_of past ms j q)) → (j : ℕ) (q : Setup) → counted_at w.resources j ≡ Some q → (b : Bool) → (j == r.k) ≡ b → P j (r.after j q)
-  stands_at P now old j q known true e =
-      let at : j ≡ r.k = same_nat j r.k e in
-      let setup : q ≡ r.s = setup_by q (sym known ∙ ap (counted_at w.resources) at ∙ r.known) in
-      let new : r.after j q ≡ ne = ap (λ z. r.after z q) at ∙ ap (r.after r.k) setup ∙ r.here in
-      subst (λ z. P j z) (sym new) (subst (λ z. P z ne) (sym at) now)
-  stands_at P now old j q known false e = subst (λ z. P j z) (sym (r.there j q e)) (old j q known)
+  commits_lie_here : CommitsLieAt rs_here ne
+  commits_lie_here = r.moves.keeps (CommitsLie rs_here) (λ z p. p) commits_lie_step (i.commits_lie r.k r.s r.known)
+
+  -- what is undone was committed
+  undone_committed : (u : Undo) (x b : ℕ) → In u (undos before.left.records) → u.xid ≡ x → u.branch ≡ b → HasCommitted before.left.records x b
+  undone_committed u x b j ex eb = (commit_of u, undo_committed before.left.records u j, leg_of u x b ex eb)
+
+  undos_follow_step : (q : ResourceRecord) → RecordFits r.s before ne.opens r.event q → UndosFollow before.left.records → UndosFollow (q ∷ before.left.records)
+  undos_follow_step (resource_log.Undone xid b) f p =
+      let k = found_in (is_leg xid.0 b.0) (undos before.left.records) f.undo f.found in
+      let leg = leg_parts xid.0 b.0 f.undo k.1 in
+      (p, undone_committed f.undo xid.0 b.0 k.0 leg.0 leg.1)
+  undos_follow_step (resource_log.Boot number) f p = p
+  undos_follow_step (resource_log.Committed xid b call images reads) f p = p
+  undos_follow_step (resource_log.Marked xid b) f p = p
+  undos_follow_step (resource_log.Cleared xid b) f p = p
+  undos_follow_step (resource_log.Tried xid b call images) f p = p
+  undos_follow_step (resource_log.Confirmed xid b images) f p = p
+  undos_follow_step (resource_log.Cancelled xid b images) f p = p
+  undos_follow_step (resource_log.Suspended xid b) f p = p
+  undos_follow_step (resource_log.LocalCommitted k images) f p = p
+  undos_follow_step (resource_log.Outside k images) f p = p
+
+  undos_follow_here : UndosFollowAt ne
+  undos_follow_here = r.moves.keeps UndosFollow (λ z p. p) undos_follow_step (i.undos_follow r.k r.s r.known)
 
   pub rows_at_res : RowsBy w (coordinator_left past ms) r.after (m ∷ ms)
   rows_at_res = record {
-    unders = λ j q known. stands_at (λ n z. Unders rs_here (all_of (coordinator_left past ms)) n z) unders_here i.unders j q known (j == r.k) refl;
-    piled = λ j q known. stands_at (λ n z. PiledAt rs_here z) piled_here i.piled j q known (j == r.k) refl;
+    said = rows_said_res w past ms m c i.said r;
+    unders = λ j q known. each_memory w past ms m r (λ n z me. Unders rs_here (all_of (coordinator_left past ms)) n me) j q known (λ old. unders_here) (i.unders j q known);
+    piled = λ j q known. each_memory w past ms m r (λ n z me. PiledAt rs_here me) j q known (λ old. piled_here) (i.piled j q known);
+    commits_lie = λ j q known. each_memory w past ms m r (λ n z me. CommitsLieAt rs_here me) j q known (λ old. commits_lie_here) (i.commits_lie j q known);
+    undos_follow = λ j q known. each_memory w past ms m r (λ n z me. UndosFollowAt me) j q known (λ old. undos_follow_here) (i.undos_follow j q known);
   }

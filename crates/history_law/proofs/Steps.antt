@@ -162,7 +162,11 @@ module _ (w : World) (past : Past) (numbered : AreNumbered w) (I : Left SessionR
     at_place place.Net (Some event) at same done = absurd (subst (λ p. HappensAt (role_at w past p) (own p ms) m.now event m.step) (sym at) done)
     at_place place.Net None at same done = keeps.quiet ms m before done.1
 
+  -- one entry
+  pub by_entry : (ms : List Moment) (m : Moment) → Legal w past (m ∷ ms) → Covers w past ms → I (coordinator_left past ms) (memory_of past ms) ms → I (coordinator_left past (m ∷ ms)) (memory_of past (m ∷ ms)) (m ∷ ms)
+  by_entry ms m legal c before = at_place ms m legal.0 legal.1 c before m.place m.event refl refl legal.1.done
+
   pub by_entries : Covers w past [] → I (coordinator_left past []) (memory_of past []) [] → (ms : List Moment) → Legal w past ms → I (coordinator_left past ms) (memory_of past ms) ms
   by_entries start first [] legal = first
   by_entries start first (m ∷ ms) legal =
-      at_place ms m legal.0 legal.1 (covers w past numbered start ms legal.0) (by_entries start first ms legal.0) m.place m.event refl refl legal.1.done
+      by_entry ms m legal (covers w past numbered start ms legal.0) (by_entries start first ms legal.0)

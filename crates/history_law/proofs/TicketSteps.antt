@@ -75,7 +75,7 @@ in_resent opens t (Some p) e o (inr i) = in_without opens t o i
 
 -- a count changes neither ticket nor rows
 module _ (t : Ticket) (k : ℕ) where
-  counting_ticket : (o : Open) → (counting t k o).ticket ≡ o.ticket
+  pub counting_ticket : (o : Open) → (counting t k o).ticket ≡ o.ticket
   counting_ticket o = by (same_ticket o.ticket t)
     where
       by : (b : Bool) → (if b then record o { conflicts = k } else o).ticket ≡ o.ticket

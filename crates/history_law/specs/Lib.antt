@@ -9,3 +9,6 @@ pub mod WorkSafety
 pub mod CallSafety
 pub mod OrderSafety
 pub mod FinishSafety
+pub mod ValueSafety
+pub mod OnceSafety
+pub mod Safety

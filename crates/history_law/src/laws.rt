@@ -3,8 +3,11 @@ ghost use Rattle.history_law.specs.SessionSafety.{SessionsLaw, QuestionsLaw, Ses
 ghost use Rattle.history_law.specs.TicketSafety.{TicketsLaw, TicketsOfChains};
 ghost use Rattle.history_law.specs.EndingSafety.{EndingsLaw, EndingsOfChains};
 ghost use Rattle.history_law.specs.WorkSafety.{CommitsLaw, CommitsOfChains};
-ghost use Rattle.history_law.specs.OrderSafety.{RowsLaw, RowsOfChains};
+ghost use Rattle.history_law.specs.OrderSafety.{RowsLaw, RowsOfChains, FreeLaw, FreeOfChains};
 ghost use Rattle.history_law.specs.FinishSafety.{FinishesLaw};
+ghost use Rattle.history_law.specs.OnceSafety.{OnceLaw, OnceOfChains};
+ghost use Rattle.history_law.specs.Safety.{SafetyLaw, SafetyOfChains};
+ghost use Rattle.history_law.specs.ValueSafety.{ValuesLaw, ValuesOfChains, DirtyLaw, DirtyOfChains};
 ghost use Rattle.history_law.specs.CallSafety.{CallsLaw, CallsOfChains, UnfencedLaw, UnfencedOfChains};
 
 /// At each point of a legal history the coordinator's records are in order: each transaction is decided at most once,
@@ -85,8 +88,10 @@ pub fn no_fence_of_chains_refuses()
 {}
 
 /// At each point of a legal history over disks without records, on each row: under a change by a branch that isn't undone lie,
-/// of those by branches, only changes of transactions that are decided commit and of earlier branches of its own transaction.
-/// So the changes that aren't decided commit stand last among those by branches, are of one transaction and rise by branch.
+/// of those by branches, only changes of transactions that are decided commit and of earlier branches of its own transaction;
+/// under a change by a local transaction only the former. So the changes that aren't decided commit stand last, are of one
+/// transaction and rise by branch. The same lies under a local commit on the rows that it only read, and on all rows of a
+/// branch's ticket from its grant on while the ticket is open.
 pub fn changes_of_rows_are_in_order()
     ensures { RowsLaw }
 {}
@@ -96,8 +101,76 @@ pub fn changes_of_rows_of_chains_are_in_order()
     ensures { RowsOfChains }
 {}
 
+/// At each point of a legal history over disks without records at which a branch is granted and hasn't committed locally yet, so at
+/// its grant: on each row that its local commit touches or reads later lie, of changes by branches, only those of transactions
+/// that are decided commit and of earlier branches of its own transaction.
+pub fn rows_are_free_from_the_grant_on()
+    ensures { FreeLaw }
+{}
+
+/// The same holds of every history of a chain.
+pub fn rows_of_chains_are_free_from_the_grant_on()
+    ensures { FreeOfChains }
+{}
+
 /// Each finish of the coordinator tells the status of its decision: committed after a commit, rolled back after a rollback,
 /// rolled back by the timeout after that.
 pub fn finishes_tell_the_decision()
     ensures { FinishesLaw }
+{}
+
+/// At each point of a legal history over disks without records, where AT calls name AT tables and TCC actions TCC tables, for each
+/// row of an AT table: since the last outside write on it each change found the value under it, and the row is what the last one
+/// left. A row that no outside write touched is the opening row with the changes that aren't undone. The images of an open
+/// ticket found the row as it is now. And a local commit is the effect of its call's statements, as the manager that began the
+/// transaction has them, on the tables that stood when its branch's ticket was opened, whose rows were kept in this way; the rows
+/// that it touched or read are the same at the commit.
+pub fn rows_have_their_values()
+    ensures { ValuesLaw }
+{}
+
+/// The same holds of every history of a chain; but of a local commit that the disks had before, whose ticket was opened in an
+/// earlier history, it says only that the tables were those of some earlier records.
+pub fn rows_of_chains_have_their_values()
+    ensures { ValuesOfChains }
+{}
+
+/// In such a history a rollback finds a row dirty only where an outside write touched it after the branch's local commit.
+pub fn only_outside_writes_make_rows_dirty()
+    ensures { DirtyLaw }
+{}
+
+/// The same holds of every history of a chain.
+pub fn only_outside_writes_make_rows_of_chains_dirty()
+    ensures { DirtyOfChains }
+{}
+
+/// At each point of a legal history over disks without records the work of a call stands at most once at each resource: the
+/// record of its local commit, or of its Try. Where a transaction is decided commit each call of the manager that began it
+/// has worked exactly once, at its resource, and nowhere else.
+pub fn calls_work_once()
+    ensures { OnceLaw }
+{}
+
+/// The same holds of every history of a chain.
+pub fn calls_of_chains_work_once()
+    ensures { OnceOfChains }
+{}
+
+/// Each legal history over disks without records is safe, where AT calls name AT tables and TCC actions TCC tables. At each
+/// point: no row has two holders; each change that isn't undone is covered; each row of an AT table that no outside write touched
+/// is kept; of a transaction that is decided commit each call has worked once; of one that is finished after a commit no branch was
+/// undone, and each TCC branch was confirmed once; of one that is finished after a rollback or timeout each branch that committed
+/// was undone, and each TCC branch was cancelled or suspended once; and local commits did and read what their calls do on rows that
+/// were kept at the opening of their tickets. No fence refuses a second phase, a rollback finds a row dirty only after an outside
+/// write, each finish tells the status of its decision, and from the grant of a branch to its local commit no other undecided
+/// transaction has changed its rows.
+pub fn legal_histories_are_safe()
+    ensures { SafetyLaw }
+{}
+
+/// The same holds of every history of a chain; of local commits that the disks had before, the opening of their tickets is spoken
+/// of in the history in which they were asked for.
+pub fn chains_are_safe()
+    ensures { SafetyOfChains }
 {}
