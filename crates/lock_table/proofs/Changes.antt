@@ -1,9 +1,8 @@
 -- What taking rows and giving them back leave to hold a row, and that the index agrees.
 use Rattle.std.proofs.Common.{◌≡◌, ℕ, Bool, true, false, not, cond, ◌||◌, ◌&&◌, List, [], ◌∷◌, ◌++◌, Option, Some, None, Ordering, Less, Equal, Greater, refl, sym, ap, ◌∙◌, true≢false}
 use Rattle.std.specs.Prelude.{◌==◌, unwrap_or}
-use Rattle.std.specs.List.{list_any}
 use Rattle.std.specs.BTreeMap.{insert_entry}
-use Rattle.std.specs.Map.{lookup, remove_entry}
+use Rattle.std.specs.Map.{lookup}
 use Rattle.std.specs.Ordering.{nat_cmp, ordering_then, match_ordering, is_eq}
 use Rattle.std.proofs.lemmas.Bool.{eqb-true}
 use Rattle.std.proofs.lemmas.Map.Lookups.{exact_unsigned}
@@ -14,7 +13,7 @@ use Rattle.local_tables.specs.Rows.{is_key}
 use Rattle.local_tables.specs.Lookups.{IsRising}
 use Rattle.local_tables.proofs.KeyLaws.{same_key}
 use Rattle.durable_records.specs.Locks.{has_key}
-use Rattle.lock_table.specs.Locks.{Locks, Holds, locked, leg_cmp, is_leg, holds, is_held_by, is_holder, rows_of, with_rows, without_leg, first_locked, IsIndex}
+use Rattle.lock_table.specs.Locks.{Locks, Holds, locked, leg_cmp, is_leg, holds, is_holder, rows_of, with_rows, without_leg, first_locked, IsIndex}
 use Rattle.lock_table.proofs.Puts.{same_xid, xid_itself, may_take, others_free}
 use Rattle.lock_table.proofs.Holders.{holder_is}
 

@@ -1,19 +1,15 @@
 -- The index of rows, by the branches that hold them.
-use Rattle.std.proofs.Common.{◌≡◌, ℕ, Bool, true, false, cond, ◌||◌, ◌&&◌, List, [], ◌∷◌, ◌++◌, length, Option, Some, None, refl, sym, ap, ◌∙◌, true≢false}
+use Rattle.std.proofs.Common.{◌≡◌, Bool, true, false, cond, ◌||◌, ◌&&◌, List, [], ◌∷◌, Option, Some, None, refl, sym, ap, ◌∙◌, true≢false}
 use Rattle.std.specs.Prelude.{◌==◌}
-use Rattle.std.specs.List.{list_any}
 use Rattle.std.specs.List.Sorted.{IsStrictlySortedBy}
-use Rattle.std.specs.BTreeMap.{insert_entry}
 use Rattle.std.proofs.lemmas.Bool.{eqb-true}
-use Rattle.seata_types.specs.Orders.{key_cmp}
 use Rattle.seata_types.specs.declared.ids.Xid.{Xid}
-use Rattle.seata_types.specs.declared.ids.Leg.{Leg}
 use Rattle.seata_types.specs.declared.rows.RowKey.{RowKey}
 use Rattle.local_tables.specs.Rows.{is_key}
 use Rattle.local_tables.specs.Lookups.{IsRising}
 use Rattle.local_tables.proofs.MapLaws.{at_insert, rising_insert, same_entries}
 use Rattle.durable_records.specs.Locks.{has_key}
-use Rattle.lock_table.specs.Locks.{Locks, Holds, locked, holds, is_held_by, is_holder, IsIndex, HaveOneHolder, locks_on, locks}
+use Rattle.lock_table.specs.Locks.{Locks, Holds, locked, holds, is_holder, IsIndex, HaveOneHolder, locks_on, locks}
 use Rattle.lock_table.proofs.Puts.{same_xid, xid_itself}
 
 none_rise : (ls : Locks) → ls ≡ [] → IsRising ls

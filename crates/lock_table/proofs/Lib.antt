@@ -8,3 +8,5 @@ pub mod Firsts
 pub mod Released
 pub mod Parts
 pub mod Answered
+pub mod Own
+pub mod GivenBack

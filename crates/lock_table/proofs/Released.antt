@@ -1,13 +1,11 @@
 -- Branches of a transaction that are released one after the other.
-use Rattle.std.proofs.Common.{◌≡◌, ℕ, suc, ◌+◌, ◌<◌, Bool, true, false, not, cond, ◌&&◌, ◌==◌, List, [], ◌∷◌, length, Option, Some, None, Ordering, Equal, refl, sym, ap, ◌∙◌, true≢false, arith}
-use Rattle.std.specs.Prelude.{filter, find}
-use Rattle.std.specs.Map.{remove_entry, keys_of}
+use Rattle.std.proofs.Common.{◌≡◌, ℕ, suc, ◌<◌, Bool, true, false, not, cond, ◌==◌, List, [], ◌∷◌, length, Option, Some, None, Ordering, refl, sym, ap, ◌∙◌, arith}
 use Rattle.std.specs.Ordering.{nat_cmp, ordering_then, is_eq}
 use Rattle.std.proofs.lemmas.Cmp.{nat_cmp_total, tied_itself}
 use Rattle.seata_types.specs.declared.ids.Xid.{Xid}
 use Rattle.seata_types.specs.declared.ids.Leg.{Leg}
 use Rattle.seata_types.specs.declared.rows.RowKey.{RowKey}
-use Rattle.lock_table.specs.Locks.{Holds, leg_cmp, is_leg, without_leg, is_leg_of, leg_of, is_of_other, without_xid}
+use Rattle.lock_table.specs.Locks.{Holds, is_leg, without_leg, is_leg_of, leg_of, is_of_other, without_xid}
 use Rattle.lock_table.proofs.Changes.{same_leg_xid}
 
 leg_itself : (leg : Leg) → is_leg leg leg ≡ true

@@ -1,5 +1,5 @@
 -- A search by halves among rows in rising order.
-use Rattle.std.proofs.Common.{◌≡◌, ℕ, zero, suc, ◌+◌, ◌-◌, ◌*◌, ◌/◌, ◌^◌, ◌<◌, ◌≤◌, List, [], ◌∷◌, length, Option, Some, Less, Equal, Greater, Ordering, refl, sym, ap, ◌∙◌, arith, inl, inr}
+use Rattle.std.proofs.Common.{◌≡◌, ℕ, zero, suc, ◌+◌, ◌-◌, ◌/◌, ◌^◌, ◌<◌, ◌≤◌, [], ◌∷◌, length, Some, Less, Equal, Greater, sym, ap, ◌∙◌, arith, inl, inr}
 use Rattle.std.specs.Prelude.{slice_get}
 use Rattle.std.specs.Ordering.{ordering_reverse}
 use Rattle.seata_types.specs.Orders.{key_cmp}

@@ -1,5 +1,5 @@
 -- Rows taken out one after the other.
-use Rattle.std.proofs.Common.{◌≡◌, Bool, true, false, not, cond, ◌&&◌, ◌||◌, List, [], ◌∷◌, Option, Some, None, refl, sym, ap, ◌∙◌}
+use Rattle.std.proofs.Common.{◌≡◌, Bool, true, false, not, cond, ◌&&◌, ◌||◌, List, ◌∷◌, Option, None, refl, sym, ap, ◌∙◌}
 use Rattle.std.specs.Map.{remove_entry}
 use Rattle.seata_types.specs.declared.ids.Xid.{Xid}
 use Rattle.seata_types.specs.declared.rows.RowKey.{RowKey}
@@ -9,6 +9,7 @@ use Rattle.local_tables.proofs.KeyLaws.{same_key}
 use Rattle.local_tables.proofs.MapLaws.{at_remove}
 use Rattle.durable_records.specs.Locks.{has_key}
 use Rattle.lock_table.specs.Locks.{Locks, Holds, locked, holds}
+use Rattle.lock_table.proofs.Puts.{both}
 
 -- a row that is held stays
 kept_row : (b h : Bool) (o : Option Xid) → (b ≡ true → h ≡ true) → o ≡ cond (b && not h) None o
@@ -39,3 +40,9 @@ both_out false b n o = refl
 pub out_after : (old new : Locks) (hs : Holds) (x : Xid) (k : RowKey) (ks : List RowKey) → ((q : RowKey) → locked new q ≡ cond (is_key k q && not (holds hs x q)) None (locked old q)) →
     (q : RowKey) → cond (has_key ks q && not (holds hs x q)) None (locked new q) ≡ cond (has_key (k ∷ ks) q && not (holds hs x q)) None (locked old q)
 out_after old new hs x k ks there q = rw (there q) (both_out (is_key k q) (has_key ks q) (not (holds hs x q)) (locked old q))
+
+-- one row more that is taken out, whoever holds it
+pub each_out : (old new : Locks) (k : RowKey) (ks all : List RowKey) → IsRising old → new ≡ remove_entry (is_key k) old → all ≡ k ∷ ks → (q : RowKey) → cond (has_key ks q) None (locked new q) ≡ cond (has_key all q) None (locked old q)
+each_out old new k ks all rising is next q =
+    ap (λ (ls : Locks). cond (has_key ks q) None (locked ls q)) is ∙ ap (λ (o : Option Xid). cond (has_key ks q) None o) (at_remove old k q rising) ∙
+    both (is_key k q) (has_key ks q) None (locked old q) ∙ ap (λ (rs : List RowKey). cond (has_key rs q) None (locked old q)) (sym next)

@@ -1,5 +1,5 @@
 -- Which rows each branch holds, in order of transaction and branch, and what that says of a row.
-use Rattle.std.specs.Prelude.{◌≡◌, ℕ, ◌<◌, ◌≤◌, ◌+◌, ◌*◌, ◌^◌, ◌==◌, ◌&&◌, Bool, true, false, not, List, [], ◌∷◌, ◌++◌, length, filter, find, Option, Some, None, unwrap_or, Result, Ok, Err, if◌then◌else◌}
+use Rattle.std.specs.Prelude.{◌≡◌, ℕ, ◌<◌, ◌≤◌, ◌+◌, ◌*◌, ◌^◌, ◌==◌, ◌&&◌, Bool, true, false, not, List, [], ◌∷◌, ◌++◌, filter, find, Option, Some, None, unwrap_or, if◌then◌else◌}
 use Rattle.std.specs.List.{list_any}
 use Rattle.std.specs.BTreeMap.{insert_entry, is_at}
 use Rattle.std.specs.Map.{lookup, remove_entry, keys_of}
@@ -99,6 +99,10 @@ without_leg hs leg = remove_entry (is_leg leg) hs
 
 abbrev pub is_leg_of : Xid → Leg → Bool
 is_leg_of x leg = leg.xid.0 == x.0
+
+-- the least branch that x may have
+abbrev pub least_leg : Xid → Leg
+least_leg x = record { xid = x; branch = record { 0 = 0 } }
 
 -- the first branch of x
 abbrev pub leg_of : Holds → Xid → Option Leg

@@ -1,5 +1,5 @@
 -- Places in a list of rows in rising order.
-use Rattle.std.specs.Prelude.{◌≡◌, ℕ, ◌<◌, ◌≤◌, List, length, slice_get, Option, Some, None}
+use Rattle.std.specs.Prelude.{◌≡◌, ℕ, ◌<◌, ◌≤◌, length, slice_get, Some}
 use Rattle.std.specs.declared.cmp.Ordering.TheVariants.{Less, Greater}
 use Rattle.seata_types.specs.Orders.{key_cmp}
 use Rattle.seata_types.specs.declared.ids.Xid.{Xid}

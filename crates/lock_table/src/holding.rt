@@ -5,14 +5,14 @@ ghost use Rattle.std.specs.Option.{option_copied, unwrap_or};
 ghost use Rattle.local_tables.specs.Rows.{is_key};
 ghost use Rattle.local_tables.specs.Lookups.{IsRising};
 ghost use Rattle.durable_records.specs.Locks.{has_key};
-ghost use Rattle.lock_table.specs.Locks.{locked, first_locked, holds, rows_of, leg_of, TakesAtMost};
+ghost use Rattle.lock_table.specs.Locks.{locked, first_locked, holds, rows_of, least_leg, leg_of, without_leg, without_xid, IsIndex, TakesAtMost};
 ghost use Rattle.lock_table.specs.Answers.{IsHeld, FindsConflict};
 ghost use Rattle.seata_types.specs.declared.rows.RowKey.{RowKey as Key};
 
 use crate::errors::HoldError;
 use crate::index;
 use crate::steps::Count;
-use seata_types::{Duplicate, Leg, List, NoMemory, RowKey, Xid};
+use seata_types::{BranchId, Duplicate, Leg, List, NoMemory, RowKey, Xid};
 use std::alloc::Global;
 use std::collections::BTreeMap;
 
@@ -113,11 +113,29 @@ fn has_key(keys: &[RowKey], key: &RowKey) -> bool
     false
 }
 
+// The least branch that a transaction may have; branches stand in order of their transactions.
+fn least_leg(xid: Xid) -> Leg
+    ensures { result ≡ least_leg xid }
+{
+    Leg {
+        xid,
+        branch: BranchId(0),
+    }
+}
+
 /// Whether a transaction holds a row, by some branch.
 fn holds(legs: &BTreeMap<Leg, List<RowKey>>, xid: Xid, key: &RowKey) -> bool
     ensures { result ≡ holds legs.now.entries xid key.now }
 {
-    legs.iter().any(|(leg, keys)| leg.xid.0 == xid.0 && has_key(keys.as_slice(), key))
+    for (leg, keys) in legs.range(least_leg(xid)..) {
+        if leg.xid.0 != xid.0 {
+            return false;
+        }
+        if has_key(keys.as_slice(), key) {
+            return true;
+        }
+    }
+    false
 }
 
 // Takes out a row that the transaction holds by no branch.
@@ -153,15 +171,51 @@ pub(crate) fn take_out_all(
 }
 
 /// The first branch of a transaction that holds rows.
-pub(crate) fn leg_of(legs: &BTreeMap<Leg, List<RowKey>>, xid: Xid) -> Option<Leg>
+fn leg_of(legs: &BTreeMap<Leg, List<RowKey>>, xid: Xid) -> Option<Leg>
     ensures { result ≡ leg_of legs.now.entries xid }
 {
-    for leg in legs.keys() {
-        if leg.xid.0 == xid.0 {
-            return Some(*leg);
-        }
+    match legs.range(least_leg(xid)..).next() {
+        Some((leg, _)) if leg.xid.0 == xid.0 => Some(*leg),
+        _ => None,
     }
-    None
+}
+
+// Takes out each of these rows.
+fn take_out_each(rows: &mut Vec<(RowKey, Xid)>, keys: &[RowKey])
+    requires { IsRising rows.old.items }
+    ensures order { IsRising rows.new.items }
+    ensures there { (q : Key) → locked rows.new.items q ≡ (if has_key keys.now q then None else locked rows.old.items q) }
+{
+    for key in keys {
+        index::take_out(rows, key);
+    }
+}
+
+// Takes out a branch with its rows.
+fn give_leg(rows: &mut Vec<(RowKey, Xid)>, legs: &mut BTreeMap<Leg, List<RowKey>>, leg: Leg)
+    requires { IsRising rows.old.items }
+    ensures order { IsRising rows.new.items }
+    ensures legs { legs.new.entries ≡ without_leg legs.old.entries leg }
+    ensures there { (q : Key) → locked rows.new.items q ≡ (if has_key (rows_of legs.old.entries leg) q then None else locked rows.old.items q) }
+{
+    if let Some(keys) = legs.remove(&leg) {
+        take_out_each(rows, keys.as_slice());
+    }
+}
+
+/// Takes out all branches of a transaction with their rows.
+pub(crate) fn give_all(
+    rows: &mut Vec<(RowKey, Xid)>,
+    legs: &mut BTreeMap<Leg, List<RowKey>>,
+    xid: Xid,
+)
+    requires { IsIndex rows.old.items legs.old.entries }
+    ensures index { IsIndex rows.new.items legs.new.entries }
+    ensures legs { legs.new.entries ≡ without_xid legs.old.entries xid }
+{
+    while let Some(leg) = leg_of(legs, xid) {
+        give_leg(rows, legs, leg);
+    }
 }
 
 /// Copies of the rows with their holders.

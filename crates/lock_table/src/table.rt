@@ -108,9 +108,7 @@ impl LockTable {
     pub fn release_all(&mut self, xid: Xid)
         ensures { self.new ≡ without_xid self.old xid }
     {
-        while let Some(leg) = holding::leg_of(&self.holds, xid) {
-            self.release(leg);
-        }
+        holding::give_all(&mut self.rows, &mut self.holds, xid);
     }
 
     /// Each row that is held and its holder, in the order of rows.

@@ -5,3 +5,5 @@
 mod locks;
 #[cfg(test)]
 mod records;
+#[cfg(test)]
+mod turns;

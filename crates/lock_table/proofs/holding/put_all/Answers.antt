@@ -1,7 +1,6 @@
-use Rattle.std.proofs.Common.{◌≡◌, ◌∷◌, length, arith, sym, ◌∙◌, ap}
+use Rattle.std.proofs.Common.{◌≡◌, ◌∷◌, length, arith, ap}
 use Rattle.std.specs.Vec.Iter.{into_iter_items}
 use Rattle.std.proofs.lemmas.Grind.{common_steps}
-use Rattle.seata_types.specs.declared.rows.RowKey.{RowKey}
 use Rattle.lock_table.proofs.Puts.{next_free, next_there, next_cost}
 use Rattle.lock_table.proofs.holding.put_all.Goals as goal
 

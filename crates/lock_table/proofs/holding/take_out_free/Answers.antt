@@ -1,7 +1,5 @@
 use Rattle.std.proofs.Common.{◌≡◌, true, false, arith}
-use Rattle.std.specs.Map.{remove_entry}
 use Rattle.std.proofs.lemmas.Grind.{common_steps}
-use Rattle.local_tables.specs.Rows.{is_key}
 use Rattle.local_tables.proofs.MapLaws.{rising_remove}
 use Rattle.lock_table.specs.Locks.{holds}
 use Rattle.lock_table.proofs.TakenOut.{held_stays, free_goes}

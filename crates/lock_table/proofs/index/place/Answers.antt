@@ -1,5 +1,4 @@
-use Rattle.std.proofs.Common.{◌≡◌, ◌+◌, ◌-◌, ◌/◌, get_or, Some, refl, sym, ◌∙◌, arith}
-use Rattle.std.specs.Prelude.{slice_get}
+use Rattle.std.proofs.Common.{◌+◌, ◌-◌, ◌/◌, get_or, refl, sym, arith}
 use Rattle.std.proofs.lemmas.Option.{slice_get-get_or}
 use Rattle.lock_table.proofs.Searching.{starts, goes_left, goes_right, gap, found_cost, missed_cost, is_place}
 use Rattle.lock_table.proofs.index.place.Goals as goal

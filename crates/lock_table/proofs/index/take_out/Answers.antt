@@ -1,4 +1,4 @@
-use Rattle.std.proofs.Common.{◌≡◌, sym, ◌∙◌}
+use Rattle.std.proofs.Common.{sym, ◌∙◌}
 use Rattle.lock_table.proofs.Places.{none_there, remove_place, remove_absent}
 use Rattle.lock_table.proofs.index.take_out.Goals as goal
 

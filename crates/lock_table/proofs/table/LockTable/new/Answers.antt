@@ -1,5 +1,3 @@
-use Rattle.std.proofs.Common.{◌≡◌}
-use Rattle.lock_table.specs.Locks.{IsIndex}
 use Rattle.lock_table.proofs.Holders.{no_rows}
 use Rattle.lock_table.proofs.table.LockTable.new.Goals as goal
 

@@ -1,4 +1,4 @@
-use Rattle.std.proofs.Common.{◌≡◌, ◌∙◌, Some, List, Option, ap, sym}
+use Rattle.std.proofs.Common.{◌≡◌, ◌∙◌, Some, List, ap, sym}
 use Rattle.seata_types.specs.declared.rows.RowKey.{RowKey}
 use Rattle.lock_table.specs.Locks.{rows_at, without_leg}
 use Rattle.lock_table.proofs.Parts.{gave_rows}

@@ -1,6 +1,6 @@
 use Rattle.std.proofs.Common.{◌≡◌, ◌∙◌, ap, arith, length}
 use Rattle.std.proofs.lemmas.Grind.{common_steps}
-use Rattle.lock_table.specs.Locks.{locks, with_rows, Holds}
+use Rattle.lock_table.specs.Locks.{locks, with_rows}
 use Rattle.lock_table.proofs.Holders.{rows_are}
 use Rattle.lock_table.proofs.Parts.{none_locked, took_rows, cost_of}
 use Rattle.lock_table.proofs.table.LockTable.take.Goals as goal

@@ -1,6 +1,6 @@
 use Rattle.std.proofs.Common.{◌≡◌, ◌∙◌, ap, length, None}
 use Rattle.std.proofs.lemmas.Result.{err_from_is_err_and}
-use Rattle.lock_table.specs.Locks.{Holds, locks, first_held}
+use Rattle.lock_table.specs.Locks.{locks, first_held}
 use Rattle.lock_table.proofs.Holders.{rows_are}
 use Rattle.lock_table.proofs.Answered.{first_answers, second_answers, took_answers, none_in, first_cost, second_cost, took_cost}
 use Rattle.lock_table.proofs.table.LockTable.try_hold.Goals as goal

@@ -1,0 +1,2 @@
+mod QueueLaws
+pub mod OneAnswer
