@@ -11,7 +11,7 @@ mod Opened
 mod ResourceFacts
 mod Rising
 mod Rowed
-mod RunnableFacts
+pub mod RunnableFacts
 mod StepFacts
 mod TableFacts
 mod Whole

@@ -4,6 +4,7 @@ use Rattle.std.specs.List.{list_all, list_any}
 use Rattle.std.specs.Cmp.Lexicographic.{slice_cmp}
 use Rattle.std.specs.BTreeMap.{is_at}
 use Rattle.std.specs.declared.cmp.Ordering.{Ordering}
+use Rattle.std.specs.declared.cmp.Ordering.TheVariants as order
 use Rattle.std.specs.Ordering.{is_eq}
 use Rattle.serde_json.specs.Data.{Data, Items}
 use Rattle.serde_json.specs.Find.{as_number, as_u64, as_i64, as_str, as_array}
@@ -220,6 +221,41 @@ Notes key old new = (q : List Value) → is_noted new q ≡ cond (same_key key q
 -- the keys are those of the rows
 unfoldable pub HaveKeys : List ℕ → List Row → List (List Value) → Type 0
 HaveKeys places rows keys = (key : List Value) → is_noted keys key ≡ has_key places rows key
+
+abbrev pub part_order : Option Value → Option Value → Option Ordering
+part_order (Some x) (Some y) = Some (ghosts.cmp x y)
+part_order _ _ = None
+
+abbrev pub rises_by : Option Ordering → Bool → Bool
+rises_by (Some order.Less) later = true
+rises_by (Some order.Equal) later = later
+rises_by _ later = false
+
+-- whether the second row's values at these places stand behind the first's, part by part
+abbrev pub rises : List ℕ → Row → Row → Bool
+rises [] a b = false
+rises (k ∷ ks) a b = rises_by (part_order (slice_get a.0 k) (slice_get b.0 k)) (rises ks a b)
+
+abbrev pub behind_last : List ℕ → Option Row → Row → Bool
+behind_last places (Some last) row = rises places last row
+behind_last places None row = true
+
+-- whether a row stands behind the last of these
+abbrev pub is_behind : List ℕ → List Row → Row → Bool
+is_behind places rows row = behind_last places (slice_get rows (length rows - 1)) row
+
+abbrev pub IsAbove : List ℕ → Option Row → List Value → Type 0
+IsAbove places (Some last) key = key_order (key_of places last) key ≡ order.Less
+IsAbove places None key = Unit {0}
+
+-- a key behind that of the last row is none of the rows'
+unfoldable pub AreRising : List ℕ → List Row → Type 0
+AreRising places rows = (key : List Value) → IsAbove places (slice_get rows (length rows - 1)) key → has_key places rows key ≡ false
+
+-- what is noted of the keys of rows: nothing as long as they rise, and else all of them
+unfoldable pub IsNoted : List ℕ → List Row → Option (List (List Value)) → Type 0
+IsNoted places rows None = AreRising places rows
+IsNoted places rows (Some keys) = HaveKeys places rows keys
 
 -- the rows of a table, where its resource has so many already
 unfoldable pub rows : ℕ → List Column → List ℕ → Option Data → Outcome (List Row)

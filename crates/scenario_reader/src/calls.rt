@@ -1,9 +1,9 @@
 //! The calls of managers, and the locals.
-ghost use Rattle.std.specs.Prelude.{◌≡◌, ◌≤◌, ◌<◌, [], option_map, option_copied, length, IfOk};
+ghost use Rattle.std.specs.Prelude.{◌≡◌, ◌≤◌, ◌<◌, [], option_map, option_copied, length, codes, IfOk};
 ghost use Rattle.seata_types.specs.declared.limits.TheConstants.{LOCALS};
 ghost use Rattle.serde_json.specs.View.{view, items_view};
 ghost use Rattle.scenario_reader.specs.Calls as form;
-ghost use Rattle.scenario_reader.specs.Faults.{Answers, AnswersAs, each, vec_of};
+ghost use Rattle.scenario_reader.specs.Faults.{Answers, AnswersAs, each, member, vec_of};
 
 use crate::errors::ScenarioError;
 use crate::names::{is_word, resource_position};
@@ -20,10 +20,7 @@ use std::alloc::Global;
 fn is_action(value: &Value) -> bool
     ensures { result ≡ form.is_action (view value.now) }
 {
-    if has("do", value) {
-        return false;
-    }
-    has("try", value) || has("confirm", value) || has("cancel", value)
+    !has("do", value) && (has("try", value) || has("confirm", value) || has("cancel", value))
 }
 
 /// The statements of the AT mode.
@@ -114,6 +111,14 @@ fn resource_at(
     resource_place(alloc, resources, name)
 }
 
+/// Where the resource of a call or a local stands.
+fn place_of(alloc: Global, resources: &[ResourceDef], value: &Value) -> Result<usize, ScenarioError>
+    ensures exact { Answers (member (codes "at") (form.resource_at resources.now) (view value.now)) result }
+    ensures within { IfOk result (λ k. k < length resources.now) }
+{
+    resource_at(alloc, resources, value.get("at")).map_err(|fault| fault.in_member(alloc, "at"))
+}
+
 /// A call: its resource's number, counted from 1, and its work.
 #[tactic(auto, unfolding(crate::specs::Calls::call))]
 fn call(
@@ -125,9 +130,7 @@ fn call(
     ensures { Answers (form.call resources.now (view value.now)) result }
 {
     an_object(alloc, value)?;
-    let place = resource_at(alloc, resources, value.get("at")).map_err(|fault| fault.in_member(
-        alloc, "at",
-    ))?;
+    let place = place_of(alloc, resources, value)?;
     let work = call_work(alloc, &resources[place].schema, value)?;
     only_call(alloc, value)?;
     Ok((place as u16 + 1, work))
@@ -191,9 +194,7 @@ fn local_item(
     ensures { Answers (form.local_item resources.now (view value.now)) result }
 {
     an_object(alloc, value)?;
-    let place = resource_at(alloc, resources, value.get("at")).map_err(|fault| fault.in_member(
-        alloc, "at",
-    ))?;
+    let place = place_of(alloc, resources, value)?;
     let found = local_statements(alloc, &resources[place].schema, value)?;
     only(alloc, &LOCAL_MEMBERS, value)?;
     Ok((place as u16 + 1, found))

@@ -36,12 +36,7 @@ pub fn is_word(text: &str) -> bool
     ensures { result ≡ form.is_word text.now }
 {
     match text.as_bytes().split_first() {
-        Some((first, rest)) => {
-            if is_letter(*first) {
-                return all_word_bytes(rest);
-            }
-            false
-        }
+        Some((first, rest)) => is_letter(*first) && all_word_bytes(rest),
         None => false,
     }
 }
@@ -51,13 +46,7 @@ pub fn is_word(text: &str) -> bool
 fn is_node_name(name: &str) -> bool
     ensures { result ≡ form.is_node_name name.now }
 {
-    if !is_word(name) {
-        return false;
-    }
-    if name == "tc" {
-        return false;
-    }
-    name != "net"
+    is_word(name) && name != "tc" && name != "net"
 }
 
 /// Where among the resources this name stands, counted from 0.
@@ -139,6 +128,12 @@ pub fn new_node(
     new_node_name(alloc, resources, managers, name)
 }
 
+fn is_lower(byte: u8) -> bool
+    ensures { result ≡ form.is_lower byte }
+{
+    matches!(byte, b'a'..=b'z')
+}
+
 fn is_name_byte(byte: u8) -> bool
     ensures { result ≡ form.is_name_byte byte }
 {
@@ -155,12 +150,7 @@ fn is_lower_word(text: &[u8]) -> bool
     ensures { result ≡ form.is_lower_word text.now }
 {
     match text.split_first() {
-        Some((first, rest)) => {
-            if matches!(*first, b'a'..=b'z') {
-                return all_name_bytes(rest);
-            }
-            false
-        }
+        Some((first, rest)) => is_lower(*first) && all_name_bytes(rest),
         None => false,
     }
 }
@@ -189,10 +179,7 @@ fn is_keyword(name: &str) -> bool
 pub fn is_table_name(name: &str) -> bool
     ensures { result ≡ form.is_table_name name.now }
 {
-    if !is_lower_word(name.as_bytes()) {
-        return false;
-    }
-    !is_keyword(name)
+    is_lower_word(name.as_bytes()) && !is_keyword(name)
 }
 
 /// A table's or column's name that isn't used.

@@ -1,5 +1,6 @@
 //! The rows of a table at the opening.
-ghost use Rattle.std.specs.Prelude.{◌≡◌, ◌≤◌, ◌+◌, [], slice_get, option_map, option_copied, length, not, ◌++◌, ◌∷◌, List as Items, IfOk, IfErr, OnOk};
+ghost use Rattle.std.specs.Prelude.{◌≡◌, ◌≤◌, ◌+◌, ◌-◌, [], slice_get, option_map, option_copied, length, not, ◌++◌, ◌∷◌, true, IfOk, IfErr, OnOk};
+ghost use Rattle.std.specs.BTreeSet as sets;
 ghost use Rattle.std.specs.List.{list_all};
 ghost use Rattle.seata_types.specs.declared.limits.TheConstants.{RESOURCE_ROWS};
 ghost use Rattle.serde_json.specs.Find.{as_array, as_str};
@@ -15,6 +16,7 @@ use seata_types::limits::{RESOURCE_ROWS, TEXT_BYTES};
 use seata_types::{Duplicate, List, Row, Text, Value as Cell};
 use serde_json::Value;
 use std::alloc::Global;
+use std::cmp::Ordering;
 use std::collections::BTreeSet;
 
 /// A whole number.
@@ -153,27 +155,109 @@ fn is_new(keys: &mut BTreeSet<List<Cell>>, key: List<Cell>) -> Result<bool, Scen
     Ok(keys.insert(key)?)
 }
 
-/// A row whose key is new among those that are noted.
-#[tactic(auto, using(crate::proofs::Rowed::used_row, crate::proofs::Rowed::free_row, crate::proofs::Rowed::keys_push), unfolding(crate::specs::Tables::new_row))]
+/// The keys of rows.
+#[tactic(auto, using(crate::proofs::Rowed::no_keys))]
+fn keys_of(
+    alloc: Global,
+    places: &[u16],
+    rows: &[Row],
+) -> Result<BTreeSet<List<Cell>>, ScenarioError>
+    ensures value { IfOk result (λ keys. form.HaveKeys places.now rows.now keys.keys) }
+    ensures refused { IfErr result (λ e. e ≡ ScenarioError.NoMemory) }
+{
+    let mut keys = BTreeSet::new(alloc);
+    for row in rows {
+        let key = key_of(alloc, places, row)?;
+        is_new(&mut keys, key)?;
+    }
+    Ok(keys)
+}
+
+/// How two rows' values at a place stand to each other, if both have one.
+fn part_order(place: u16, a: &Row, b: &Row) -> Option<Ordering>
+    ensures { result ≡ form.part_order (slice_get a.now.0 place) (slice_get b.now.0 place) }
+{
+    match (
+        a.0.as_slice().get(place as usize),
+        b.0.as_slice().get(place as usize),
+    ) {
+        (Some(first), Some(second)) => Some(first.cmp(second)),
+        _ => None,
+    }
+}
+
+/// Whether the second row's key stands behind the first's.
+fn rises(places: &[u16], a: &Row, b: &Row) -> bool
+    ensures { result ≡ form.rises places.now a.now b.now }
+{
+    for place in places {
+        match part_order(*place, a, b) {
+            Some(Ordering::Less) => return true,
+            Some(Ordering::Equal) => {}
+            _ => return false,
+        }
+    }
+    false
+}
+
+/// Whether a row's key stands behind that of the last of these.
+fn is_behind(places: &[u16], rows: &[Row], row: &Row) -> bool
+    ensures { result ≡ form.is_behind places.now rows.now row.now }
+{
+    match rows.last() {
+        Some(last) => rises(places, last, row),
+        None => true,
+    }
+}
+
+/// Whether none of these rows has this row's key. As long as the rows rise, their keys aren't noted.
+#[tactic(auto, using(crate::proofs::Rowed::behind_free, crate::proofs::Rowed::behind_push, crate::proofs::Rowed::keys_push), unfolding(crate::specs::Tables::IsNoted))]
+fn is_free(
+    alloc: Global,
+    places: &[u16],
+    rows: &[Row],
+    noted: &mut Option<BTreeSet<List<Cell>>>,
+    row: &Row,
+) -> Result<bool, ScenarioError>
+    ensures answer { form.IsNoted places.now rows.now (option_map sets.keys noted.old) → IfOk result (λ free. free ≡ not (form.has_key places.now rows.now (form.key_of places.now row.now))) }
+    ensures noted { form.IsNoted places.now rows.now (option_map sets.keys noted.old) → IfOk result (λ free. free ≡ true → form.IsNoted places.now (rows.now ++ row.now ∷ []) (option_map sets.keys noted.new)) }
+    ensures refused { IfErr result (λ e. e ≡ ScenarioError.NoMemory) }
+{
+    if let Some(keys) = noted {
+        let key = key_of(alloc, places, row)?;
+        return is_new(keys, key);
+    }
+    if is_behind(places, rows, row) {
+        return Ok(true);
+    }
+    let mut keys = keys_of(alloc, places, rows)?;
+    let key = key_of(alloc, places, row)?;
+    let is_free = is_new(&mut keys, key)?;
+    *noted = Some(keys);
+    Ok(is_free)
+}
+
+/// A row whose key none of these has.
+#[tactic(auto, using(crate::proofs::Rowed::used_row, crate::proofs::Rowed::free_row), unfolding(crate::specs::Tables::new_row))]
 fn new_row(
     alloc: Global,
     columns: &[(Text, ColType)],
     places: &[u16],
-    keys: &mut BTreeSet<List<Cell>>,
+    rows: &[Row],
+    noted: &mut Option<BTreeSet<List<Cell>>>,
     value: &Value,
 ) -> Result<Row, ScenarioError>
-    ensures exact { (rows : Items Row) → form.HaveKeys places.now rows keys.old.keys → Answers (form.new_row columns.now places.now rows (view value.now)) result }
-    ensures noted { IfOk result (λ row. (rows : Items Row) → form.HaveKeys places.now rows keys.old.keys → form.HaveKeys places.now (rows ++ row ∷ []) keys.new.keys) }
+    ensures exact { form.IsNoted places.now rows.now (option_map sets.keys noted.old) → Answers (form.new_row columns.now places.now rows.now (view value.now)) result }
+    ensures noted { form.IsNoted places.now rows.now (option_map sets.keys noted.old) → IfOk result (λ row. form.IsNoted places.now (rows.now ++ row ∷ []) (option_map sets.keys noted.new)) }
 {
     let row = row(alloc, columns, value)?;
-    let key = key_of(alloc, places, &row)?;
-    if !is_new(keys, key)? {
+    if !is_free(alloc, places, rows, noted, &row)? {
         return Err(ScenarioError::name(alloc));
     }
     Ok(row)
 }
 
-#[tactic(auto, using(crate::proofs::Rowed::no_keys))]
+#[tactic(auto, using(crate::proofs::Rowed::nothing_noted))]
 fn each_row(
     alloc: Global,
     columns: &[(Text, ColType)],
@@ -183,13 +267,12 @@ fn each_row(
     ensures exact { AnswersAs vec_of (each (form.new_row columns.now places.now) [] (items_view values.now)) result }
     ensures whole { IfOk result (λ rows. length rows.items ≡ length values.now) }
 {
-    let mut rows = Vec::new(alloc);
-    let mut keys = BTreeSet::new(alloc);
+    let mut rows = Vec::with_capacity(alloc, values.len())?;
+    let mut noted = None;
     for value in values {
-        let row = new_row(alloc, columns, places, &mut keys, value).map_err(|fault| fault.in_item(
-            alloc,
-            rows.len(),
-        ))?;
+        let row = new_row(alloc, columns, places, rows.as_slice(), &mut noted, value).map_err(
+            |fault| fault.in_item(alloc, rows.len()),
+        )?;
         rows.push(row)?;
     }
     Ok(rows)

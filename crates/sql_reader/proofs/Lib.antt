@@ -4,6 +4,7 @@ mod AheadStatements
 mod Cuts
 mod Doubled
 mod GoodPieces
+mod KeywordLengths
 mod Keywords
 mod KeywordTexts
 mod Numbers

@@ -30,7 +30,10 @@ fn op_of(symbol: Symbol) -> Option<Op>
 fn operator(tokens: &mut Cursor<'_>) -> Result<Op, Stop>
     ensures { Reads (spec.operator tokens.old) result tokens.new }
 {
-    let [Token::Symbol(symbol), rest @ ..] = tokens.rest() else {
+    let [first, rest @ ..] = tokens.rest() else {
+        return Err(tokens.unexpected());
+    };
+    let Token::Symbol(symbol) = first else {
         return Err(tokens.unexpected());
     };
     let Some(op) = op_of(*symbol) else {

@@ -11,7 +11,7 @@ use std::marker::Model;
 /// The tokens that are left. Contracts see their list.
 #[derive(Drop)]
 pub struct Cursor<'a> {
-    rest: &'a [Token],
+    rest: &'a [Token<'a>],
 }
 
 impl<'a> Model for Cursor<'a> {
@@ -24,14 +24,14 @@ impl<'a> Model for Cursor<'a> {
 }
 
 impl<'a> Cursor<'a> {
-    pub fn new(tokens: &'a [Token]) -> Cursor<'a>
+    pub fn new(tokens: &'a [Token<'a>]) -> Cursor<'a>
         ensures { result ≡ tokens.now }
     {
         Cursor { rest: tokens }
     }
 
     /// The tokens that are left.
-    pub fn rest(&self) -> &'a [Token]
+    pub fn rest(&self) -> &'a [Token<'a>]
         ensures { result.now ≡ self.now }
     {
         self.rest
@@ -45,7 +45,7 @@ impl<'a> Cursor<'a> {
     }
 
     /// Goes on with these.
-    pub fn go_on(&mut self, rest: &'a [Token])
+    pub fn go_on(&mut self, rest: &'a [Token<'a>])
         ensures { self.new ≡ rest.now }
     {
         self.rest = rest;
@@ -77,8 +77,8 @@ impl<'a> Cursor<'a> {
         ensures { result ≡ spec.sees wanted self.now }
     {
         match self.rest {
-            [Token::Symbol(found), ..] => same_symbol(*found, wanted),
-            _ => false,
+            [first, ..] => is_symbol(first, wanted),
+            [] => false,
         }
     }
 
@@ -89,11 +89,14 @@ impl<'a> Cursor<'a> {
         ensures rest { self.new ≡ spec.past wanted self.old }
     {
         match self.rest {
-            [Token::Symbol(found), rest @ ..] if same_symbol(*found, wanted) => {
+            [first, rest @ ..] => {
+                if !is_symbol(first, wanted) {
+                    return false;
+                }
                 self.rest = rest;
                 true
             }
-            _ => false,
+            [] => false,
         }
     }
 
@@ -126,4 +129,14 @@ fn same_symbol(a: Symbol, b: Symbol) -> bool
     ensures { result ≡ spec.same_symbol a b }
 {
     a == b
+}
+
+/// Whether a token is this symbol.
+fn is_symbol(token: &Token<'_>, wanted: Symbol) -> bool
+    ensures { result ≡ spec.is_symbol wanted token.now }
+{
+    match token {
+        Token::Symbol(found) => same_symbol(*found, wanted),
+        _ => false,
+    }
 }

@@ -4,8 +4,9 @@ ghost use Rattle.std.specs.Str.{IsUtf8, str_eq_ignore_ascii_case};
 ghost use Rattle.std.specs.List.{prefix_len, list_all};
 ghost use Rattle.sql_reader.specs.Lexing as spec;
 
-use crate::symbols::{KEYWORDS, Symbol};
+use crate::symbols::{OF_FIVE, OF_FOUR, OF_SIX, OF_THREE, OF_TWO, Symbol};
 use crate::tokens::{Lexed, Token};
+use crate::word::Word;
 use seata_types::limits::{NAME_BYTES, TEXT_BYTES};
 use seata_types::{NoMemory, Text};
 use std::alloc::Global;
@@ -63,7 +64,7 @@ fn digits_len(z: &[u8]) -> usize
     end
 }
 
-/// The keyword that a word is, in any case.
+/// Whether two words are alike but for the case of letters.
 fn same_word(a: &[u8], b: &[u8]) -> bool
     ensures { result ≡ str_eq_ignore_ascii_case a.now b.now }
 {
@@ -82,11 +83,19 @@ fn listed_as(mut table: &[(&[u8], Symbol)], word: &[u8]) -> Option<Symbol>
     None
 }
 
-#[tactic(auto, unfolding(crate::specs::Lexing::keyword))]
+/// The keyword that a word is, in any case, looked for among those of its length.
+#[tactic(auto, using(crate::proofs::KeywordLengths::keyword_of_two, crate::proofs::KeywordLengths::keyword_of_three, crate::proofs::KeywordLengths::keyword_of_four, crate::proofs::KeywordLengths::keyword_of_five, crate::proofs::KeywordLengths::keyword_of_six, crate::proofs::KeywordLengths::keyword_of_other))]
 fn keyword(word: &[u8]) -> Option<Symbol>
     ensures { result ≡ spec.keyword word.now }
 {
-    listed_as(&KEYWORDS, word)
+    match word.len() {
+        2 => listed_as(&OF_TWO, word),
+        3 => listed_as(&OF_THREE, word),
+        4 => listed_as(&OF_FOUR, word),
+        5 => listed_as(&OF_FIVE, word),
+        6 => listed_as(&OF_SIX, word),
+        _ => None,
+    }
 }
 
 fn has_name_bytes(word: &[u8]) -> bool
@@ -159,18 +168,25 @@ fn utf8_text(bytes: Vec<u8>) -> Text
     Text::of(String::from_utf8(bytes).unwrap())
 }
 
+/// The word that UTF-8 bytes spell.
+fn utf8_word(bytes: &[u8]) -> Word<'_>
+    requires { IsUtf8 bytes.now }
+    ensures { result ≡ bytes.now }
+{
+    Word::of(str::from_utf8(bytes).unwrap())
+}
+
 #[tactic(auto, using(crate::proofs::Words::name_utf8), unfolding(crate::specs::Lexing::word_token))]
-fn word_token(alloc: Global, word: &[u8]) -> Result<Token, NoMemory>
-    ensures { IfOk result (λ t. t ≡ spec.word_token word.now) }
+fn word_token(word: &[u8]) -> Token<'_>
+    ensures { result ≡ spec.word_token word.now }
 {
     if let Some(symbol) = keyword(word) {
-        return Ok(Token::Symbol(symbol));
+        return Token::Symbol(symbol);
     }
     if !has_name_form(word) {
-        return Ok(Token::Unknown);
+        return Token::Unknown;
     }
-    let name = Vec::from_slice(alloc, word).map_err(|_| NoMemory)?;
-    Ok(Token::Name(utf8_text(name)))
+    Token::Name(utf8_word(word))
 }
 
 /// The value of a text, by what follows its opening quote, and how many bytes it takes from there
@@ -195,7 +211,7 @@ fn text_value(alloc: Global, z: &[u8]) -> Result<Option<(Vec<u8>, usize)>, NoMem
 }
 
 /// The token of a text, by what follows its opening quote, and how many bytes it has.
-fn text_token(alloc: Global, rest: &str) -> Result<(Token, usize), NoMemory>
+fn text_token<'a>(alloc: Global, rest: &'a str) -> Result<(Token<'a>, usize), NoMemory>
     ensures value { IfOk result (λ t. t ≡ spec.text_by rest.now (spec.text_at rest.now)) }
     ensures within { IfOk result (λ t. (1 ≤ t.1) × (t.1 ≤ length rest.now + 1)) }
 {
@@ -209,7 +225,7 @@ fn text_token(alloc: Global, rest: &str) -> Result<(Token, usize), NoMemory>
 }
 
 #[tactic(auto, unfolding(crate::specs::Lexing::token_at))]
-fn token_at(alloc: Global, text: &str, at: usize) -> Result<(Token, usize), NoMemory>
+fn token_at<'a>(alloc: Global, text: &'a str, at: usize) -> Result<(Token<'a>, usize), NoMemory>
     requires { at < length text.now }
     ensures value { IfOk result (λ t. t ≡ spec.token_at (drop at text.now)) }
     ensures within { IfOk result (λ t. (1 ≤ t.1) × (at + t.1 ≤ length text.now)) }
@@ -218,7 +234,7 @@ fn token_at(alloc: Global, text: &str, at: usize) -> Result<(Token, usize), NoMe
     let first = byte(z, 0);
     if first.is_ascii_alphabetic() {
         let len = word_len(z);
-        return Ok((word_token(alloc, &z[..len])?, len));
+        return Ok((word_token(&z[..len]), len));
     }
     if first.is_ascii_digit() {
         let len = digits_len(z);
@@ -235,20 +251,25 @@ fn token_at(alloc: Global, text: &str, at: usize) -> Result<(Token, usize), NoMe
 }
 
 /// The tokens of a text, and where each begins.
-pub fn lex(alloc: Global, text: &str) -> Result<Lexed, NoMemory>
+pub fn lex<'a>(alloc: Global, text: &'a str) -> Result<Lexed<'a>, NoMemory>
     ensures tokens { IfOk result (λ l. l.tokens.items ≡ spec.tokens text.now) }
     ensures places { IfOk result (λ l. l.places.items ≡ spec.places text.now) }
 {
     let bytes = text.as_bytes();
-    let mut tokens = Vec::new(alloc);
-    let mut places = Vec::new(alloc);
+    // Most texts have at most one token for each two bytes; in steps of 64, so that the next text finds
+    // room of the same size.
+    let room = bytes.len() / 128 * 64 + 64;
+    let mut tokens = Vec::with_capacity(alloc, room).map_err(|_| NoMemory)?;
+    let mut places = Vec::with_capacity(alloc, room).map_err(|_| NoMemory)?;
     let mut at = 0;
     while at < bytes.len() {
         if is_blank(bytes[at]) {
             at += 1;
         } else {
             let (token, len) = token_at(alloc, text, at)?;
-            tokens.push(token).map_err(|_| NoMemory)?;
+            if tokens.push(token).is_err() {
+                return Err(NoMemory);
+            }
             places.push(at).map_err(|_| NoMemory)?;
             at += len;
         }

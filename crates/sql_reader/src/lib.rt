@@ -15,6 +15,7 @@ mod statements;
 mod symbols;
 mod tasks;
 mod tokens;
+mod word;
 mod writer;
 mod writing;
 

@@ -14,9 +14,12 @@ use std::alloc::Global;
 pub fn name(alloc: Global, tokens: &mut Cursor<'_>) -> Result<Text, Stop>
     ensures { Reads (spec.name tokens.old) result tokens.new }
 {
-    match tokens.rest() {
-        [Token::Name(found), rest @ ..] => {
-            let name = found.copy(alloc)?;
+    let [first, rest @ ..] = tokens.rest() else {
+        return Err(tokens.unexpected());
+    };
+    match first {
+        Token::Name(found) => {
+            let name = found.to_text(alloc)?;
             tokens.go_on(rest);
             Ok(name)
         }
@@ -28,30 +31,37 @@ pub fn name(alloc: Global, tokens: &mut Cursor<'_>) -> Result<Text, Stop>
 pub fn literal(alloc: Global, tokens: &mut Cursor<'_>) -> Result<Value, Stop>
     ensures { Reads (spec.literal tokens.old) result tokens.new }
 {
-    match tokens.rest() {
-        [Token::Number(number), rest @ ..] => {
+    let [first, rest @ ..] = tokens.rest() else {
+        return Err(tokens.unexpected());
+    };
+    match first {
+        Token::Number(number) => {
             let Ok(number) = i64::try_from(*number) else {
                 return Err(tokens.refused(SqlKind::Number));
             };
             tokens.go_on(rest);
             Ok(Value::Int(number))
         }
-        [Token::Symbol(Symbol::Minus), rest @ ..] => negative(tokens, rest),
-        [Token::Quoted(found), rest @ ..] => {
+        Token::Symbol(Symbol::Minus) => negative(tokens, rest),
+        Token::Quoted(found) => {
             let text = found.copy(alloc)?;
             tokens.go_on(rest);
             Ok(Value::Text(text))
         }
-        [Token::BadText, ..] => Err(tokens.refused(SqlKind::Text)),
+        Token::BadText => Err(tokens.refused(SqlKind::Text)),
         _ => Err(tokens.unexpected()),
     }
 }
 
 /// The number behind a sign. The cursor stands at the sign, which a refused number includes.
-fn negative<'a>(tokens: &mut Cursor<'a>, digits: &'a [Token]) -> Result<Value, Stop>
+fn negative<'a>(tokens: &mut Cursor<'a>, digits: &'a [Token<'a>]) -> Result<Value, Stop>
     ensures { Reads (spec.negative tokens.old digits.now) result tokens.new }
 {
-    let [Token::Number(number), rest @ ..] = digits else {
+    let [first, rest @ ..] = digits else {
+        tokens.go_on(digits);
+        return Err(tokens.unexpected());
+    };
+    let Token::Number(number) = first else {
         tokens.go_on(digits);
         return Err(tokens.unexpected());
     };
@@ -66,12 +76,17 @@ fn negative<'a>(tokens: &mut Cursor<'a>, digits: &'a [Token]) -> Result<Value, S
 pub fn term(alloc: Global, tokens: &mut Cursor<'_>) -> Result<Term, Stop>
     ensures { Reads (spec.term tokens.old) result tokens.new }
 {
-    if let [Token::Name(found), rest @ ..] = tokens.rest() {
-        let column = found.copy(alloc)?;
-        tokens.go_on(rest);
-        return Ok(Term::Column(column));
+    let [first, rest @ ..] = tokens.rest() else {
+        return Err(tokens.unexpected());
+    };
+    match first {
+        Token::Name(found) => {
+            let column = found.to_text(alloc)?;
+            tokens.go_on(rest);
+            Ok(Term::Column(column))
+        }
+        _ => Ok(Term::Lit(literal(alloc, tokens)?)),
     }
-    Ok(Term::Lit(literal(alloc, tokens)?))
 }
 
 #[tactic(auto, unfolding(crate::specs::Grammar::expr, crate::specs::Grammar::more_terms))]
@@ -91,9 +106,12 @@ pub fn expr(alloc: Global, tokens: &mut Cursor<'_>) -> Result<Expr, Stop>
 fn plus_or_minus(tokens: &mut Cursor<'_>) -> Option<Sign>
     ensures { spec.plus_or_minus tokens.old ≡ Ok (result, tokens.new) }
 {
-    let (sign, rest) = match tokens.rest() {
-        [Token::Symbol(Symbol::Plus), rest @ ..] => (Sign::Plus, rest),
-        [Token::Symbol(Symbol::Minus), rest @ ..] => (Sign::Minus, rest),
+    let [first, rest @ ..] = tokens.rest() else {
+        return None;
+    };
+    let sign = match first {
+        Token::Symbol(Symbol::Plus) => Sign::Plus,
+        Token::Symbol(Symbol::Minus) => Sign::Minus,
         _ => return None,
     };
     tokens.go_on(rest);

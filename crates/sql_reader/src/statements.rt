@@ -124,20 +124,23 @@ fn select(alloc: Global, tokens: &mut Cursor<'_>) -> Result<Stmt, Stop>
 fn body(alloc: Global, tokens: &mut Cursor<'_>) -> Result<Stmt, Stop>
     ensures { Reads (spec.body tokens.old) result tokens.new }
 {
-    match tokens.rest() {
-        [Token::Symbol(Symbol::Insert), rest @ ..] => {
+    let [first, rest @ ..] = tokens.rest() else {
+        return Err(tokens.unexpected());
+    };
+    match first {
+        Token::Symbol(Symbol::Insert) => {
             tokens.go_on(rest);
             insert(alloc, tokens)
         }
-        [Token::Symbol(Symbol::Update), rest @ ..] => {
+        Token::Symbol(Symbol::Update) => {
             tokens.go_on(rest);
             update(alloc, tokens)
         }
-        [Token::Symbol(Symbol::Delete), rest @ ..] => {
+        Token::Symbol(Symbol::Delete) => {
             tokens.go_on(rest);
             delete(alloc, tokens)
         }
-        [Token::Symbol(Symbol::Select), rest @ ..] => {
+        Token::Symbol(Symbol::Select) => {
             tokens.go_on(rest);
             select(alloc, tokens)
         }

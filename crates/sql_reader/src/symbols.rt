@@ -31,18 +31,24 @@ pub enum Symbol {
     GreaterOrEqual,
 }
 
-pub const KEYWORDS: [(&[u8], Symbol); 13] = [
-    (b"INSERT", Symbol::Insert),
-    (b"INTO", Symbol::Into),
-    (b"VALUES", Symbol::Values),
-    (b"UPDATE", Symbol::Update),
+/// The keywords by how many letters they have.
+pub const OF_TWO: [(&[u8], Symbol); 1] = [(b"OR", Symbol::Or)];
+
+pub const OF_THREE: [(&[u8], Symbol); 4] = [
     (b"SET", Symbol::Set),
-    (b"WHERE", Symbol::Where),
-    (b"DELETE", Symbol::Delete),
-    (b"FROM", Symbol::From),
-    (b"SELECT", Symbol::Select),
     (b"FOR", Symbol::For),
     (b"AND", Symbol::And),
-    (b"OR", Symbol::Or),
     (b"NOT", Symbol::Not),
+];
+
+pub const OF_FOUR: [(&[u8], Symbol); 2] = [(b"INTO", Symbol::Into), (b"FROM", Symbol::From)];
+
+pub const OF_FIVE: [(&[u8], Symbol); 1] = [(b"WHERE", Symbol::Where)];
+
+pub const OF_SIX: [(&[u8], Symbol); 5] = [
+    (b"INSERT", Symbol::Insert),
+    (b"VALUES", Symbol::Values),
+    (b"UPDATE", Symbol::Update),
+    (b"DELETE", Symbol::Delete),
+    (b"SELECT", Symbol::Select),
 ];

@@ -1,11 +1,12 @@
 //! The tokens that a text is cut into.
 use crate::symbols::Symbol;
+use crate::word::Word;
 use seata_types::Text;
 
 #[derive(Drop)]
-pub enum Token {
+pub enum Token<'a> {
     Symbol(Symbol),
-    Name(Text),
+    Name(Word<'a>),
     /// Digits, by their number; where that is above `u64::MAX`, this number stands for it.
     Number(u64),
     /// A text in quotes, by its value.
@@ -18,8 +19,8 @@ pub enum Token {
 
 /// A text cut into tokens.
 #[derive(Drop)]
-pub struct Lexed {
-    pub tokens: Vec<Token>,
+pub struct Lexed<'a> {
+    pub tokens: Vec<Token<'a>>,
     /// The byte at which each of them begins.
     pub places: Vec<usize>,
 }
