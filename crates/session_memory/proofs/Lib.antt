@@ -1,0 +1,10 @@
+pub mod Small
+pub mod EntryLaws
+pub mod HeldLaws
+pub mod Lists
+pub mod RecordFacts
+pub mod StepLaws
+pub mod MayLaws
+pub mod GrantLaws
+pub mod KeptLaws
+pub mod PlaceLaws

@@ -1,0 +1,6 @@
+pub mod Lookups
+pub mod Holding
+pub mod Changes
+pub mod Order
+pub mod Answers
+pub mod Laws

@@ -1,0 +1,13 @@
+//! What a coordinator knows of its transactions while it runs: the snapshot of its records, with the table of global locks
+//! beside it. Each kind of record changes it in one place, and whether a record may come is asked of it.
+#![tactic(auto)]
+
+mod allowing;
+pub mod laws;
+mod lookups;
+mod memory;
+mod sessions;
+mod snapshots;
+mod statuses;
+
+pub use memory::Memory;

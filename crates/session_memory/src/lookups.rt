@@ -1,0 +1,152 @@
+//! Look-ups among transactions and their branches.
+ghost use Rattle.std.specs.Prelude.{◌≡◌, ◌&&◌, ◌++◌, find, map, option_map, OnOk, IfOk};
+ghost use Rattle.std.specs.List.{list_all, list_any};
+ghost use Rattle.std.specs.Option.{option_copied};
+ghost use Rattle.session_log.specs.Soundness.{is_at_branch, is_ended_branch, is_open_with};
+ghost use Rattle.session_memory.specs.Lookups.{has_xid, session_of, has_manager, was_of_manager, xid_of, forgotten_xid, has_ticket, has_call, leg_with, first_leg};
+ghost use Rattle.durable_records.specs.Branches.{is_at, same_ticket};
+
+use seata_types::{BranchId, BranchKind, Leg, List, NoMemory, Ticket, Xid};
+use session_log::{Branch, Forgotten, Session, SessionEntry};
+use std::alloc::Global;
+
+/// A transaction, where it is known.
+pub(crate) fn session(sessions: &[SessionEntry], xid: Xid) -> Option<&Session>
+    ensures { option_copied result ≡ option_map session_of (find (has_xid xid.0) sessions.now) }
+{
+    for entry in sessions {
+        if entry.xid.0 == xid.0 {
+            return Some(&entry.session);
+        }
+    }
+    None
+}
+
+/// The transaction that a manager began, where it is known.
+pub(crate) fn known_xid(sessions: &[SessionEntry], manager: u16) -> Option<Xid>
+    ensures { result ≡ option_map xid_of (find (has_manager manager) sessions.now) }
+{
+    for entry in sessions {
+        if entry.session.manager == manager {
+            return Some(entry.xid);
+        }
+    }
+    None
+}
+
+/// The transaction that a manager began, where it is forgotten.
+pub(crate) fn forgotten_xid(forgotten: &[Forgotten], manager: u16) -> Option<Xid>
+    ensures { result ≡ option_map forgotten_xid (find (was_of_manager manager) forgotten.now) }
+{
+    for entry in forgotten {
+        if entry.manager == manager {
+            return Some(entry.xid);
+        }
+    }
+    None
+}
+
+fn is_at(branch: &Branch) -> bool
+    ensures { result ≡ is_at_branch branch.now }
+{
+    matches!(branch.place.kind, BranchKind::At)
+}
+
+fn same_ticket(one: Ticket, other: Ticket) -> bool
+    ensures { result ≡ same_ticket one other }
+{
+    one.boot == other.boot && one.seq == other.seq
+}
+
+fn has_ticket(branch: &Branch, resource: u16, ticket: Ticket) -> bool
+    ensures { result ≡ has_ticket resource ticket branch.now }
+{
+    is_at(branch) && branch.place.resource == resource && same_ticket(branch.place.ticket, ticket)
+}
+
+fn has_call(branch: &Branch, resource: u16, call: u16) -> bool
+    ensures { result ≡ has_call resource call branch.now }
+{
+    !is_at(branch) && branch.place.resource == resource && branch.place.call == call
+}
+
+fn leg_for_ticket(xid: Xid, branches: &[Branch], resource: u16, ticket: Ticket) -> Option<Leg>
+    ensures { result ≡ leg_with (has_ticket resource ticket) xid branches.now }
+{
+    for branch in branches {
+        if has_ticket(branch, resource, ticket) {
+            return Some(Leg {
+                xid,
+                branch: branch.id,
+            });
+        }
+    }
+    None
+}
+
+/// The AT branch of a resource's local transaction.
+pub(crate) fn ticket_leg(sessions: &[SessionEntry], resource: u16, ticket: Ticket) -> Option<Leg>
+    ensures { result ≡ first_leg (has_ticket resource ticket) sessions.now }
+{
+    for entry in sessions {
+        let found = leg_for_ticket(
+            entry.xid,
+            entry.session.branches.as_slice(),
+            resource,
+            ticket,
+        );
+        if found.is_some() {
+            return found;
+        }
+    }
+    None
+}
+
+/// The TCC branch of a call at a resource.
+pub(crate) fn call_leg(xid: Xid, branches: &[Branch], resource: u16, call: u16) -> Option<Leg>
+    ensures { result ≡ leg_with (has_call resource call) xid branches.now }
+{
+    for branch in branches {
+        if has_call(branch, resource, call) {
+            return Some(Leg {
+                xid,
+                branch: branch.id,
+            });
+        }
+    }
+    None
+}
+
+/// Whether all branches are AT.
+pub(crate) fn are_at(branches: &[Branch]) -> bool
+    ensures { result ≡ list_all is_at_branch branches.now }
+{
+    branches.iter().all(|branch| is_at(branch))
+}
+
+/// Whether all branches are ended.
+pub(crate) fn are_ended(branches: &[Branch]) -> bool
+    ensures { result ≡ list_all is_ended_branch branches.now }
+{
+    branches.iter().all(|branch| branch.ended)
+}
+
+/// Whether this is a branch that isn't ended.
+pub(crate) fn has_open(branches: &[Branch], id: BranchId) -> bool
+    ensures { result ≡ list_any (is_open_with id.0) branches.now }
+{
+    branches
+        .iter()
+        .any(|branch| branch.id.0 == id.0 && !branch.ended)
+}
+
+/// The numbers of these transactions, in their order.
+pub(crate) fn xids(alloc: Global, sessions: &[SessionEntry]) -> Result<List<Xid>, NoMemory>
+    ensures { IfOk result (λ xids. xids ≡ map xid_of sessions.now) }
+{
+    let mut xids = Vec::new(alloc);
+    for entry in sessions {
+        xids.push(entry.xid).map_err(|_| NoMemory)?;
+    }
+    Ok(List::of(xids))
+}

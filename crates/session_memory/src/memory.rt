@@ -1,0 +1,354 @@
+//! The memory of a coordinator.
+ghost use Rattle.std.specs.Prelude.{◌≡◌, ◌<◌, ◌≤◌, ◌+◌, ◌*◌, ◌^◌, ◌&&◌, ◌++◌, [], map, length, is_none, true, IfOk, IfErr, OnOk, OnErr, Some, None, Err, Ok};
+ghost use Rattle.std.specs.Option.{option_copied};
+ghost use Rattle.durable_records.specs.declared.coordinators.SessionRecord.TheVariants as log;
+ghost use Rattle.lock_table.specs.Locks.{HaveOneHolder, locks, TakesAtMost};
+ghost use Rattle.session_log.specs.SnapshotOf.{snapshot_of};
+ghost use Rattle.session_memory.specs.Lookups.{session_in, status_in, xid_for, ticket_leg, call_leg, xid_of};
+ghost use Rattle.session_memory.specs.Holding.{held_in};
+ghost use Rattle.session_memory.specs.Changes.{is_begin, is_new, is_open, may_come, after, granted_record, turns};
+ghost use Rattle.session_memory.specs.Order.{IsCounted};
+ghost use Rattle.session_memory.specs.Answers.{Grants};
+
+use crate::{allowing, lookups, sessions, snapshots, statuses};
+use durable_records::SessionRecord;
+use lock_table::{HoldError, LockTable, Steps};
+use seata_types::{BranchId, BranchKind, GlobalStatus, Leg, List, NoMemory, RowKey, Ticket, Xid};
+use session_log::{Branch, RegisterPlace, Session, Snapshot};
+use std::alloc::Global;
+use std::marker::Model;
+use std::sync::ledger::Ledger;
+
+/// All that a coordinator knows of its transactions: contracts see the snapshot of its records. The table of global locks
+/// beside it has the rows that the snapshot's branches hold.
+#[derive(Drop)]
+pub struct Memory {
+    snapshot: Snapshot,
+    locks: LockTable,
+}
+
+impl Model for Memory {
+    ghost use Rattle.session_log.specs.declared.sessions.Snapshot.{Snapshot as Known};
+    ghost use Rattle.session_memory.specs.Order.{IsKept};
+
+    ghost Value = { Known };
+
+    ghost view = { λ m. m.snapshot };
+
+    ghost invariant = { λ m. IsKept m.snapshot m.locks };
+}
+
+impl Memory {
+    /// No transaction began; takes no memory.
+    pub fn new(alloc: Global) -> Memory
+        ensures { result ≡ snapshot_of [] }
+    {
+        let snapshot = Snapshot {
+            acts: 0,
+            begun: 0,
+            granted: 0,
+            sessions: List::of(Vec::new(alloc)),
+            forgotten: List::of(Vec::new(alloc)),
+        };
+        Memory {
+            snapshot,
+            locks: LockTable::new(alloc),
+        }
+    }
+
+    /// The snapshot, to be written; takes no memory.
+    pub fn snapshot(&self) -> &Snapshot
+        ensures { result.now ≡ self.now }
+    {
+        &self.snapshot
+    }
+
+    /// Which transaction holds a row.
+    pub fn locks(&self) -> &LockTable
+        ensures rows { result.now ≡ held_in self.now }
+    {
+        &self.locks
+    }
+
+    /// A transaction, where it is known; takes no memory.
+    pub fn find(&self, xid: Xid) -> Option<&Session>
+        ensures { option_copied result ≡ session_in self.now xid.0 }
+    {
+        lookups::session(self.snapshot.sessions.as_slice(), xid)
+    }
+
+    /// The status of a transaction: Finished where it isn't known. Takes no memory.
+    pub fn status(&self, xid: Xid) -> GlobalStatus
+        ensures { result ≡ status_in self.now xid.0 }
+    {
+        match self.find(xid) {
+            Some(session) => session.status,
+            None => GlobalStatus::Finished,
+        }
+    }
+
+    /// The transaction that a manager began, also where it is forgotten; takes no memory.
+    pub fn manager_xid(&self, manager: u16) -> Option<Xid>
+        ensures { result ≡ xid_for self.now manager }
+    {
+        match lookups::known_xid(self.snapshot.sessions.as_slice(), manager) {
+            Some(xid) => Some(xid),
+            None => lookups::forgotten_xid(self.snapshot.forgotten.as_slice(), manager),
+        }
+    }
+
+    /// The AT branch that was registered for a resource's ticket, of a transaction that is known; takes no memory.
+    pub fn ticket_leg(&self, resource: u16, ticket: Ticket) -> Option<Leg>
+        ensures { result ≡ ticket_leg self.now resource ticket }
+    {
+        lookups::ticket_leg(self.snapshot.sessions.as_slice(), resource, ticket)
+    }
+
+    /// The TCC branch that was registered for a call of a known transaction at a resource; takes no memory.
+    pub fn call_leg(&self, xid: Xid, resource: u16, call: u16) -> Option<Leg>
+        ensures { result ≡ call_leg self.now xid resource call }
+    {
+        match self.find(xid) {
+            Some(session) => lookups::call_leg(xid, session.branches.as_slice(), resource, call),
+            None => None,
+        }
+    }
+
+    /// The numbers of the transactions that are known, in rising order.
+    pub fn list(&self, alloc: Global) -> Result<List<Xid>, NoMemory>
+        ensures all { IfOk result (λ xids. xids ≡ map xid_of self.now.sessions) }
+        ensures order { IsCounted self.now }
+    {
+        lookups::xids(alloc, self.snapshot.sessions.as_slice())
+    }
+
+    /// The number of the next transaction.
+    pub fn next_xid(&self) -> Xid
+        ensures { result.0 ≡ self.now.begun + 1 }
+    {
+        let acts = u64::from(self.snapshot.acts);
+        prove!(self.snapshot.begun <= acts);
+        Xid(self.snapshot.begun + 1)
+    }
+
+    /// The number of the next branch.
+    pub fn next_branch(&self) -> BranchId
+        ensures { result.0 ≡ self.now.granted + 1 }
+    {
+        let acts = u64::from(self.snapshot.acts);
+        prove!(self.snapshot.granted <= acts);
+        BranchId(self.snapshot.granted + 1)
+    }
+
+    /// Whether a record may come; takes no memory. A step is a comparison of two keys.
+    pub fn allows<L: Ledger>(&self, item: &SessionRecord, steps: &mut Steps<L>) -> bool
+        ensures { result ≡ may_come self.now item.now }
+    {
+        match item {
+            SessionRecord::Begun { xid, manager, .. } => {
+                xid.0 == self.next_xid().0 && self.manager_xid(*manager).is_none()
+            }
+            SessionRecord::Granted {
+                xid,
+                branch,
+                resource,
+                call,
+                ticket,
+                kind,
+                hold,
+            } => {
+                statuses::is_begin(self.status(*xid))
+                    && branch.0 == self.next_branch().0
+                    && self.is_new(*xid, *resource, *call, *ticket, *kind)
+                    && allowing::are_free(&self.locks, *xid, hold.as_slice(), steps)
+            }
+            SessionRecord::Decided { xid, .. } => statuses::is_begin(self.status(*xid)),
+            SessionRecord::Retrying { xid } => statuses::has_retrying(self.status(*xid)),
+            SessionRecord::Ended { xid, branch } => self.is_open(*xid, *branch),
+            SessionRecord::Failed { xid, branch, .. } => self.is_open(*xid, *branch),
+            SessionRecord::Finished { xid } => self.may_finish(*xid),
+            SessionRecord::Forgot { xid } => statuses::is_finished(self.status(*xid)),
+        }
+    }
+
+    // Whether nothing is registered for this.
+    fn is_new(&self, xid: Xid, resource: u16, call: u16, ticket: Ticket, kind: BranchKind) -> bool
+        ensures { result ≡ is_new self.now xid resource call ticket kind }
+    {
+        match kind {
+            BranchKind::At => self.ticket_leg(resource, ticket).is_none(),
+            BranchKind::Tcc => self.call_leg(xid, resource, call).is_none(),
+        }
+    }
+
+    // Whether this is an unended branch of a transaction in its second phase.
+    fn is_open(&self, xid: Xid, branch: BranchId) -> bool
+        ensures { result ≡ is_open self.now xid.0 branch.0 }
+    {
+        match self.find(xid) {
+            Some(session) => {
+                statuses::is_going(session.status)
+                    && lookups::has_open(session.branches.as_slice(), branch)
+            }
+            None => false,
+        }
+    }
+
+    // Whether all branches of a transaction in its second phase are ended.
+    fn may_finish(&self, xid: Xid) -> bool
+        ensures { result ≡ may_come self.now (log.Finished xid) }
+    {
+        match self.find(xid) {
+            Some(session) => {
+                statuses::is_going(session.status)
+                    && lookups::are_ended(session.branches.as_slice())
+            }
+            None => false,
+        }
+    }
+
+    /// Takes in one more record that may come. After an error all is as before. A step is a comparison of two keys.
+    pub fn apply<L: Ledger>(
+        &mut self,
+        alloc: Global,
+        item: &SessionRecord,
+        steps: &mut Steps<L>,
+    ) -> Result<(), NoMemory>
+        requires allowed { may_come self.old item.now ≡ true }
+        requires room { self.old.acts + 1 < 2 ^ 32 }
+        ensures ok { OnOk result (self.new ≡ after item.now self.old) }
+        ensures err { OnErr result (self.new ≡ self.old) }
+    {
+        match item {
+            SessionRecord::Begun {
+                xid,
+                manager,
+                begun,
+                timeout,
+            } => self.begin(alloc, *xid, *manager, *begun, *timeout),
+            SessionRecord::Granted {
+                xid,
+                branch,
+                resource,
+                call,
+                ticket,
+                kind,
+                hold,
+            } => {
+                let place = RegisterPlace {
+                    resource: *resource,
+                    call: *call,
+                    ticket: *ticket,
+                    kind: *kind,
+                };
+                self.grant(alloc, *xid, *branch, place, hold.as_slice(), steps)
+            }
+            SessionRecord::Forgot { xid } => self.forget(alloc, *xid),
+            SessionRecord::Decided { .. } => self.turn(alloc, item),
+            SessionRecord::Retrying { .. } => self.turn(alloc, item),
+            SessionRecord::Ended { .. } => self.turn(alloc, item),
+            SessionRecord::Failed { .. } => self.turn(alloc, item),
+            SessionRecord::Finished { .. } => self.turn(alloc, item),
+        }
+    }
+
+    /// Registers a branch of an undecided transaction under the next number, unless another transaction holds one of the
+    /// rows to hold or to check. After an error all is as before. A step is a comparison of two keys.
+    pub fn register<L: Ledger>(
+        &mut self,
+        alloc: Global,
+        xid: Xid,
+        place: RegisterPlace,
+        hold: &[RowKey],
+        check: &[RowKey],
+        steps: &mut Steps<L>,
+    ) -> Result<(), HoldError>
+        requires begin { is_begin (status_in self.old xid.0) ≡ true }
+        requires room { self.old.acts + 1 < 2 ^ 32 }
+        ensures granted { Grants (granted_record xid (self.old.granted + 1) place hold.now) xid hold.now check.now self.old result self.new }
+        ensures cost { TakesAtMost (2 * length hold.now + length check.now) (length (locks (held_in self.old)) + length hold.now) steps.old steps.new }
+    {
+        let leg = Leg {
+            xid,
+            branch: self.next_branch(),
+        };
+        let Ok(rows) = sessions::copies(alloc, hold) else {
+            return Err(HoldError::NoMemory);
+        };
+        self.locks.try_hold(alloc, leg, hold, check, steps)?;
+        let branch = Branch {
+            id: leg.branch,
+            place,
+            hold: rows,
+            ended: false,
+        };
+        if snapshots::register(alloc, &mut self.snapshot, xid, branch).is_err() {
+            self.locks.release(leg);
+            return Err(HoldError::NoMemory);
+        }
+        Ok(())
+    }
+
+    // Registers a branch whose rows are free.
+    fn grant<L: Ledger>(
+        &mut self,
+        alloc: Global,
+        xid: Xid,
+        branch: BranchId,
+        place: RegisterPlace,
+        hold: &[RowKey],
+        steps: &mut Steps<L>,
+    ) -> Result<(), NoMemory>
+        requires allowed { may_come self.old (granted_record xid branch.0 place hold.now) ≡ true }
+        requires room { self.old.acts + 1 < 2 ^ 32 }
+        ensures ok { OnOk result (self.new ≡ after (granted_record xid branch.0 place hold.now) self.old) }
+        ensures err { OnErr result (self.new ≡ self.old) }
+    {
+        match self.register(alloc, xid, place, hold, &[], steps) {
+            Ok(()) => Ok(()),
+            Err(_) => Err(NoMemory),
+        }
+    }
+
+    // A transaction begins under the next number.
+    fn begin(
+        &mut self,
+        alloc: Global,
+        xid: Xid,
+        manager: u16,
+        begun: u64,
+        timeout: u64,
+    ) -> Result<(), NoMemory>
+        requires next { xid.0 ≡ self.old.begun + 1 }
+        requires room { self.old.acts + 1 < 2 ^ 32 }
+        ensures ok { OnOk result (self.new ≡ after (log.Begun xid manager begun timeout) self.old) }
+        ensures err { OnErr result (self.new ≡ self.old) }
+    {
+        let _next = self.next_xid();
+        snapshots::begin(alloc, &mut self.snapshot, xid, manager, begun, timeout)
+    }
+
+    // A transaction is known no more, and holds nothing.
+    fn forget(&mut self, alloc: Global, xid: Xid) -> Result<(), NoMemory>
+        requires room { self.old.acts + 1 < 2 ^ 32 }
+        ensures ok { OnOk result (self.new ≡ after (log.Forgot xid) self.old) }
+        ensures err { OnErr result (self.new ≡ self.old) }
+    {
+        snapshots::forget(alloc, &mut self.snapshot, xid)?;
+        self.locks.release_all(xid);
+        Ok(())
+    }
+
+    // A record changes its transaction, and registers no branch.
+    fn turn(&mut self, alloc: Global, item: &SessionRecord) -> Result<(), NoMemory>
+        requires turns { turns item.now ≡ true }
+        requires allowed { may_come self.old item.now ≡ true }
+        requires room { self.old.acts + 1 < 2 ^ 32 }
+        ensures ok { OnOk result (self.new ≡ after item.now self.old) }
+        ensures err { OnErr result (self.new ≡ self.old) }
+    {
+        snapshots::turn(alloc, &mut self.snapshot, item);
+        allowing::give_back(&mut self.locks, item);
+        Ok(())
+    }
+}

@@ -1,0 +1,168 @@
+//! Changes of transactions and their branches.
+ghost use Rattle.std.specs.Prelude.{◌≡◌, [], IfOk, OnOk, OnErr, find, option_map};
+ghost use Rattle.std.specs.List.{position};
+ghost use Rattle.session_memory.specs.Lookups.{has_xid, session_of, has_number, is_later};
+ghost use Rattle.session_memory.specs.Changes.{with_ended, turned, changed, with_branch, without, with_forgotten, forgotten_as, xid_in};
+
+use crate::{lookups, statuses};
+use durable_records::SessionRecord;
+use seata_types::{BranchId, Duplicate, List, NoMemory, RowKey, Xid};
+use session_log::{Branch, Forgotten, Session, SessionEntry};
+use std::alloc::Global;
+use std::mem;
+
+/// Takes the items of a list out.
+pub(crate) fn take_items<T>(alloc: Global, list: &mut List<T>) -> Vec<T>
+    ensures taken { result.items ≡ list.old }
+    ensures left { list.new ≡ [] }
+{
+    mem::replace(list, List::of(Vec::new(alloc))).into_vec()
+}
+
+fn branch_place(branches: &[Branch], id: BranchId) -> Option<usize>
+    ensures { result ≡ position (has_number id.0) branches.now }
+{
+    branches.iter().position(|branch| branch.id.0 == id.0)
+}
+
+fn end_branch(branches: &mut [Branch], id: BranchId)
+    ensures { branches.new ≡ with_ended id.0 branches.old }
+{
+    if let Some(at) = branch_place(branches, id) {
+        branches[at].ended = true;
+    }
+}
+
+/// Changes a transaction by a record on it that registers no branch.
+pub(crate) fn turn(alloc: Global, session: &mut Session, item: &SessionRecord)
+    ensures { session.new ≡ turned item.now session.old }
+{
+    match item {
+        SessionRecord::Decided { how, .. } => {
+            session.status = statuses::decided(*how, lookups::are_at(session.branches.as_slice()));
+        }
+        SessionRecord::Retrying { .. } => session.status = statuses::retrying(session.status),
+        SessionRecord::Ended { branch, .. } => {
+            let mut branches = take_items(alloc, &mut session.branches);
+            end_branch(&mut branches, *branch);
+            session.branches = List::of(branches);
+        }
+        SessionRecord::Failed { branch, stmt, .. } => {
+            session.status = statuses::failed(session.status);
+            session.failed = Some((*branch, *stmt));
+        }
+        SessionRecord::Finished { .. } => session.status = statuses::finished(session.status),
+        _ => {}
+    }
+}
+
+/// The transaction that a record is on.
+pub(crate) fn xid_of(item: &SessionRecord) -> Xid
+    ensures { result.0 ≡ xid_in item.now }
+{
+    match item {
+        SessionRecord::Begun { xid, .. } => *xid,
+        SessionRecord::Granted { xid, .. } => *xid,
+        SessionRecord::Decided { xid, .. } => *xid,
+        SessionRecord::Retrying { xid } => *xid,
+        SessionRecord::Ended { xid, .. } => *xid,
+        SessionRecord::Failed { xid, .. } => *xid,
+        SessionRecord::Finished { xid } => *xid,
+        SessionRecord::Forgot { xid } => *xid,
+    }
+}
+
+/// Where a transaction stands.
+pub(crate) fn place(sessions: &[SessionEntry], xid: Xid) -> Option<usize>
+    ensures { result ≡ position (has_xid xid.0) sessions.now }
+{
+    sessions.iter().position(|entry| entry.xid.0 == xid.0)
+}
+
+/// Changes the transaction of a record that registers no branch.
+pub(crate) fn turn_one(alloc: Global, sessions: &mut [SessionEntry], item: &SessionRecord)
+    ensures { sessions.new ≡ changed (xid_in item.now) (turned item.now) sessions.old }
+{
+    if let Some(at) = place(sessions, xid_of(item)) {
+        turn(alloc, &mut sessions[at].session, item);
+    }
+}
+
+// Where a forgotten transaction goes, if a greater one stands there.
+fn later_place(forgotten: &[Forgotten], xid: Xid) -> Option<usize>
+    ensures { result ≡ position (is_later xid.0) forgotten.now }
+{
+    forgotten.iter().position(|other| xid.0 < other.xid.0)
+}
+
+fn put_forgotten(forgotten: &mut Vec<Forgotten>, entry: Forgotten) -> Result<(), NoMemory>
+    ensures ok { OnOk result (forgotten.new.items ≡ with_forgotten entry forgotten.old.items) }
+    ensures err { OnErr result (forgotten.new.items ≡ forgotten.old.items) }
+{
+    match later_place(forgotten, entry.xid) {
+        Some(at) => forgotten.insert(at, entry).map_err(|_| NoMemory)?,
+        None => forgotten.push(entry).map_err(|_| NoMemory)?,
+    }
+    Ok(())
+}
+
+/// Forgets a transaction, where it is known. After an error all is as before.
+pub(crate) fn forget(
+    sessions: &mut Vec<SessionEntry>,
+    forgotten: &mut Vec<Forgotten>,
+    xid: Xid,
+) -> Result<(), NoMemory>
+    ensures sessions { OnOk result (sessions.new.items ≡ without xid.0 sessions.old.items) }
+    ensures forgotten { OnOk result (forgotten.new.items ≡ forgotten_as xid (option_map session_of (find (has_xid xid.0) sessions.old.items)) forgotten.old.items) }
+    ensures same_sessions { OnErr result (sessions.new.items ≡ sessions.old.items) }
+    ensures same_forgotten { OnErr result (forgotten.new.items ≡ forgotten.old.items) }
+{
+    if let Some(at) = place(sessions, xid) {
+        let manager = sessions[at].session.manager;
+        put_forgotten(forgotten, Forgotten { xid, manager })?;
+        drop(sessions.remove(at));
+    }
+    Ok(())
+}
+
+/// Adds a branch to a transaction. After an error all is as before.
+pub(crate) fn push_branch(
+    alloc: Global,
+    session: &mut Session,
+    branch: Branch,
+) -> Result<(), NoMemory>
+    ensures ok { OnOk result (session.new ≡ with_branch branch session.old) }
+    ensures err { OnErr result (session.new ≡ session.old) }
+{
+    let mut branches = take_items(alloc, &mut session.branches);
+    let result = branches.push(branch).map_err(|_| NoMemory);
+    session.branches = List::of(branches);
+    result
+}
+
+/// Adds a branch to a transaction, where it is known. After an error all is as before.
+pub(crate) fn add_branch(
+    alloc: Global,
+    sessions: &mut [SessionEntry],
+    xid: Xid,
+    branch: Branch,
+) -> Result<(), NoMemory>
+    ensures ok { OnOk result (sessions.new ≡ changed xid.0 (with_branch branch) sessions.old) }
+    ensures err { OnErr result (sessions.new ≡ sessions.old) }
+{
+    match place(sessions, xid) {
+        Some(at) => push_branch(alloc, &mut sessions[at].session, branch),
+        None => Ok(()),
+    }
+}
+
+/// Copies of these rows.
+pub(crate) fn copies(alloc: Global, rows: &[RowKey]) -> Result<List<RowKey>, NoMemory>
+    ensures { IfOk result (λ copied. copied ≡ rows.now) }
+{
+    let mut copied = Vec::new(alloc);
+    for row in rows {
+        copied.push(row.copy(alloc)?).map_err(|_| NoMemory)?;
+    }
+    Ok(List::of(copied))
+}

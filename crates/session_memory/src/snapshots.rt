@@ -1,0 +1,94 @@
+//! A snapshot after one more record.
+ghost use Rattle.std.specs.Prelude.{◌≡◌, ◌<◌, ◌+◌, ◌^◌, OnOk, OnErr};
+ghost use Rattle.durable_records.specs.declared.coordinators.SessionRecord.TheVariants as log;
+ghost use Rattle.session_memory.specs.Changes.{after, with_turned, with_registered};
+
+use crate::sessions;
+use durable_records::SessionRecord;
+use seata_types::{GlobalStatus, List, NoMemory, Xid};
+use session_log::{Branch, Session, SessionEntry, Snapshot};
+use std::alloc::Global;
+
+/// A transaction begins. After an error all is as before.
+pub(crate) fn begin(
+    alloc: Global,
+    snapshot: &mut Snapshot,
+    xid: Xid,
+    manager: u16,
+    begun: u64,
+    timeout: u64,
+) -> Result<(), NoMemory>
+    requires acts { snapshot.old.acts + 1 < 2 ^ 32 }
+    requires begun { snapshot.old.begun + 1 < 2 ^ 64 }
+    ensures ok { OnOk result (snapshot.new ≡ after (log.Begun xid manager begun timeout) snapshot.old) }
+    ensures err { OnErr result (snapshot.new ≡ snapshot.old) }
+{
+    let entry = SessionEntry {
+        xid,
+        session: Session {
+            manager,
+            begun,
+            timeout,
+            status: GlobalStatus::Begin,
+            branches: List::of(Vec::new(alloc)),
+            failed: None,
+        },
+    };
+    let mut entries = sessions::take_items(alloc, &mut snapshot.sessions);
+    let pushed = entries.push(entry);
+    snapshot.sessions = List::of(entries);
+    if pushed.is_err() {
+        return Err(NoMemory);
+    }
+    snapshot.begun += 1;
+    snapshot.acts += 1;
+    Ok(())
+}
+
+/// A branch is registered for a transaction. After an error all is as before.
+pub(crate) fn register(
+    alloc: Global,
+    snapshot: &mut Snapshot,
+    xid: Xid,
+    branch: Branch,
+) -> Result<(), NoMemory>
+    requires acts { snapshot.old.acts + 1 < 2 ^ 32 }
+    requires granted { snapshot.old.granted + 1 < 2 ^ 64 }
+    ensures ok { OnOk result (snapshot.new ≡ with_registered snapshot.old xid.0 branch) }
+    ensures err { OnErr result (snapshot.new ≡ snapshot.old) }
+{
+    let mut entries = sessions::take_items(alloc, &mut snapshot.sessions);
+    let added = sessions::add_branch(alloc, &mut entries, xid, branch);
+    snapshot.sessions = List::of(entries);
+    added?;
+    snapshot.granted += 1;
+    snapshot.acts += 1;
+    Ok(())
+}
+
+/// A transaction is known no more. After an error all is as before.
+pub(crate) fn forget(alloc: Global, snapshot: &mut Snapshot, xid: Xid) -> Result<(), NoMemory>
+    requires acts { snapshot.old.acts + 1 < 2 ^ 32 }
+    ensures ok { OnOk result (snapshot.new ≡ after (log.Forgot xid) snapshot.old) }
+    ensures err { OnErr result (snapshot.new ≡ snapshot.old) }
+{
+    let mut entries = sessions::take_items(alloc, &mut snapshot.sessions);
+    let mut forgotten = sessions::take_items(alloc, &mut snapshot.forgotten);
+    let result = sessions::forget(&mut entries, &mut forgotten, xid);
+    snapshot.sessions = List::of(entries);
+    snapshot.forgotten = List::of(forgotten);
+    result?;
+    snapshot.acts += 1;
+    Ok(())
+}
+
+/// A record changes its transaction, and registers no branch.
+pub(crate) fn turn(alloc: Global, snapshot: &mut Snapshot, item: &SessionRecord)
+    requires acts { snapshot.old.acts + 1 < 2 ^ 32 }
+    ensures { snapshot.new ≡ with_turned item.now snapshot.old }
+{
+    let mut entries = sessions::take_items(alloc, &mut snapshot.sessions);
+    sessions::turn_one(alloc, &mut entries, item);
+    snapshot.sessions = List::of(entries);
+    snapshot.acts += 1;
+}
