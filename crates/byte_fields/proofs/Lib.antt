@@ -7,3 +7,8 @@ pub mod Values
 pub mod Sequences
 pub mod KeyLaws
 pub mod Records
+pub mod StatusCodes
+pub mod Tables
+pub mod PartLaws
+pub mod LongListLaws
+pub mod LaidTables

@@ -4,3 +4,8 @@ pub mod Reading
 pub mod Cursors
 pub mod Appending
 pub mod Exactness
+pub mod Taking
+pub mod Tags
+pub mod Parts
+pub mod LongLists
+pub mod Entire

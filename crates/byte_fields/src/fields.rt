@@ -4,12 +4,17 @@ ghost use Rattle.std.specs.Int.{w8, w16, w32, w64, to_be_bytes};
 ghost use Rattle.byte_fields.specs.Layout.{FitsText, FitsValue, FitsRow, FitsOptionRow, FitsKey, FitsKeys, FitsImages, FitsReads, FitsKeyIn, FitsKeysIn, FitsImagesIn, FitsReadsIn, FitsTicket, text_bytes, value_bytes, row_bytes, option_row_bytes, key_bytes, keys_bytes, images_bytes, reads_bytes, key_bytes_in, keys_bytes_in, images_bytes_in, reads_bytes_in, ticket_bytes};
 ghost use Rattle.byte_fields.specs.Reading.{Takes, number_at, text_at, value_at, row_at, option_row_at, key_at, keys_at, images_at, reads_at, key_in, keys_in, images_in, reads_in, ticket_at};
 ghost use Rattle.byte_fields.specs.Exactness.{ReadsExactly};
+ghost use Rattle.byte_fields.specs.Parts.{xid_bytes, FitsXid, xid_at, branch_bytes, FitsBranch, branch_at, leg_bytes, FitsLeg, leg_at, kind_code, kind_at, truth_code, truth_at, status_at, branch_status_at};
+ghost use Rattle.seata_types.specs.Statuses.{code_of, branch_code_of};
 
 use crate::cursor::Cursor;
 use crate::errors::FieldError;
 use crate::layouts::KeyLayout;
-use crate::{keys, lists, reading, rows};
-use seata_types::{Image, List, ReadRow, Row, RowKey, Text, Ticket, Value};
+use crate::{codes, keys, lists, reading, rows};
+use seata_types::{
+    BranchId, BranchKind, BranchStatus, GlobalStatus, Image, Leg, List, ReadRow, Row, RowKey, Text,
+    Ticket, Value, Xid,
+};
 use std::alloc::Global;
 use std::marker::Model;
 
@@ -247,5 +252,126 @@ impl<'a> Fields<'a> {
         let (ticket, after) = reading::ticket(self.cursor)?;
         self.cursor = after;
         Ok(ticket)
+    }
+    /// Takes keys in either layout.
+    #[tactic(auto, using(crate::proofs::Records::keys_exact))]
+    pub fn take_keys_in(
+        &mut self,
+        alloc: Global,
+        layout: KeyLayout,
+    ) -> Result<List<RowKey>, FieldError>
+        ensures exact { Takes (keys_in layout) self.old self.new result }
+        ensures layout { ReadsExactly (keys_in layout) (keys_bytes_in layout) (FitsKeysIn layout) }
+    {
+        let (found, after) = lists::list::<RowKey>(alloc, layout, self.cursor)?;
+        self.cursor = after;
+        Ok(found)
+    }
+
+    /// Takes images whose keys have either layout.
+    #[tactic(auto, using(crate::proofs::Records::images_exact))]
+    pub fn take_images_in(
+        &mut self,
+        alloc: Global,
+        layout: KeyLayout,
+    ) -> Result<List<Image>, FieldError>
+        ensures exact { Takes (images_in layout) self.old self.new result }
+        ensures layout { ReadsExactly (images_in layout) (images_bytes_in layout) (FitsImagesIn layout) }
+    {
+        let (found, after) = lists::list::<Image>(alloc, layout, self.cursor)?;
+        self.cursor = after;
+        Ok(found)
+    }
+
+    /// Takes reads whose keys have either layout.
+    #[tactic(auto, using(crate::proofs::Records::reads_exact))]
+    pub fn take_reads_in(
+        &mut self,
+        alloc: Global,
+        layout: KeyLayout,
+    ) -> Result<List<ReadRow>, FieldError>
+        ensures exact { Takes (reads_in layout) self.old self.new result }
+        ensures layout { ReadsExactly (reads_in layout) (reads_bytes_in layout) (FitsReadsIn layout) }
+    {
+        let (found, after) = lists::list::<ReadRow>(alloc, layout, self.cursor)?;
+        self.cursor = after;
+        Ok(found)
+    }
+
+    /// Takes a transaction, eight bytes.
+    #[tactic(auto, using(crate::proofs::PartLaws::xid_exact))]
+    pub fn take_xid(&mut self) -> Result<Xid, FieldError>
+        ensures exact { Takes xid_at self.old self.new result }
+        ensures layout { ReadsExactly xid_at xid_bytes FitsXid }
+    {
+        let (found, after) = codes::xid(self.cursor)?;
+        self.cursor = after;
+        Ok(found)
+    }
+
+    /// Takes a branch, eight bytes.
+    #[tactic(auto, using(crate::proofs::PartLaws::branch_exact))]
+    pub fn take_branch(&mut self) -> Result<BranchId, FieldError>
+        ensures exact { Takes branch_at self.old self.new result }
+        ensures layout { ReadsExactly branch_at branch_bytes FitsBranch }
+    {
+        let (found, after) = codes::branch(self.cursor)?;
+        self.cursor = after;
+        Ok(found)
+    }
+
+    /// Takes a branch behind its transaction, eight bytes each.
+    #[tactic(auto, using(crate::proofs::PartLaws::leg_exact))]
+    pub fn take_leg(&mut self) -> Result<Leg, FieldError>
+        ensures exact { Takes leg_at self.old self.new result }
+        ensures layout { ReadsExactly leg_at leg_bytes FitsLeg }
+    {
+        let (found, after) = codes::leg(self.cursor)?;
+        self.cursor = after;
+        Ok(found)
+    }
+
+    /// Takes the mode of a branch: 0 for AT, 1 for TCC.
+    #[tactic(auto, using(crate::proofs::PartLaws::kind_exact))]
+    pub fn take_kind(&mut self) -> Result<BranchKind, FieldError>
+        ensures exact { Takes kind_at self.old self.new result }
+        ensures layout { ReadsExactly kind_at (λ kind. kind_code kind ∷ []) (λ kind. Unit {0}) }
+    {
+        let (found, after) = codes::kind(self.cursor)?;
+        self.cursor = after;
+        Ok(found)
+    }
+
+    /// Takes 0 for false, or 1 for true.
+    #[tactic(auto, using(crate::proofs::PartLaws::truth_exact))]
+    pub fn take_truth(&mut self) -> Result<bool, FieldError>
+        ensures exact { Takes truth_at self.old self.new result }
+        ensures layout { ReadsExactly truth_at (λ truth. truth_code truth ∷ []) (λ truth. Unit {0}) }
+    {
+        let (found, after) = codes::truth(self.cursor)?;
+        self.cursor = after;
+        Ok(found)
+    }
+
+    /// Takes the number of a global status of Seata, 0 to 15.
+    #[tactic(auto, using(crate::proofs::PartLaws::status_exact))]
+    pub fn take_status(&mut self) -> Result<GlobalStatus, FieldError>
+        ensures exact { Takes status_at self.old self.new result }
+        ensures layout { ReadsExactly status_at (λ status. code_of status ∷ []) (λ status. Unit {0}) }
+    {
+        let (found, after) = codes::status(self.cursor)?;
+        self.cursor = after;
+        Ok(found)
+    }
+
+    /// Takes the number of a branch status of Seata, 0 to 10.
+    #[tactic(auto, using(crate::proofs::PartLaws::branch_status_exact))]
+    pub fn take_branch_status(&mut self) -> Result<BranchStatus, FieldError>
+        ensures exact { Takes branch_status_at self.old self.new result }
+        ensures layout { ReadsExactly branch_status_at (λ status. branch_code_of status ∷ []) (λ status. Unit {0}) }
+    {
+        let (found, after) = codes::branch_status(self.cursor)?;
+        self.cursor = after;
+        Ok(found)
     }
 }

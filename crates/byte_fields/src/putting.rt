@@ -1,11 +1,12 @@
 //! Each field appended to bytes, or the bytes left as they were.
 ghost use Rattle.std.specs.Prelude.{◌≡◌, ◌∷◌, ◌++◌, [], OnOk, OnErr};
 ghost use Rattle.std.specs.Int.{w16, w32, w64, to_be_bytes};
+ghost use Rattle.byte_fields.specs.Parts.{kind_code, leg_bytes};
 ghost use Rattle.byte_fields.specs.Layout.{FitsText, FitsValue, FitsRow, FitsOptionRow, FitsKey, FitsKeys, FitsImages, FitsReads, text_bytes, value_bytes, row_bytes, option_row_bytes, key_bytes, keys_bytes, images_bytes, reads_bytes, ticket_bytes};
 
 use crate::appending::{put, put_list, settled};
 use crate::writing;
-use seata_types::{Image, NoMemory, ReadRow, Row, RowKey, Ticket, Value};
+use seata_types::{BranchKind, Image, Leg, NoMemory, ReadRow, Row, RowKey, Ticket, Value};
 
 /// Appends one byte.
 pub fn put_u8(out: &mut Vec<u8>, value: u8) -> Result<(), NoMemory>
@@ -121,4 +122,24 @@ pub fn put_ticket(out: &mut Vec<u8>, value: Ticket) -> Result<(), NoMemory>
     ensures err { OnErr result (out.new.items ≡ out.old.items) }
 {
     put(out, &value)
+}
+
+/// Appends a branch behind its transaction, eight bytes each.
+pub fn put_leg(out: &mut Vec<u8>, value: Leg) -> Result<(), NoMemory>
+    ensures ok { OnOk result (out.new.items ≡ out.old.items ++ leg_bytes value) }
+    ensures err { OnErr result (out.new.items ≡ out.old.items) }
+{
+    put(out, &value)
+}
+
+/// Appends the mode of a branch: 0 for AT, 1 for TCC.
+pub fn put_kind(out: &mut Vec<u8>, value: BranchKind) -> Result<(), NoMemory>
+    ensures ok { OnOk result (out.new.items ≡ out.old.items ++ kind_code value ∷ []) }
+    ensures err { OnErr result (out.new.items ≡ out.old.items) }
+{
+    let code = match value {
+        BranchKind::At => 0,
+        BranchKind::Tcc => 1,
+    };
+    put_u8(out, code)
 }

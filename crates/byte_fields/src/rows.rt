@@ -1,28 +1,20 @@
 //! Rows, and images and reads in lists: read at a cursor, and appended.
-ghost use Rattle.std.specs.Prelude.{◌≡◌, ◌-◌, option_map, length, slice_get};
-ghost use Rattle.std.specs.Option.{option_copied};
 ghost use Rattle.byte_fields.specs.Layout.{FitsRow, FitsOptionRow, FitsImageIn, FitsReadIn, row_bytes, option_row_bytes, image_bytes_in, read_bytes_in};
 ghost use Rattle.byte_fields.specs.Reading.{row_at, option_row_at, next_image, next_read};
 ghost use Rattle.byte_fields.specs.Cursors.{Reads};
+ghost use Rattle.byte_fields.specs.Layout.{any_order};
+ghost use Rattle.byte_fields.specs.Parts.{named_row_at};
 
 use crate::appending::{Appended, append_list};
 use crate::cursor::Cursor;
 use crate::errors::FieldError;
+use crate::fields::Fields;
+use crate::items::Item;
 use crate::layouts::KeyLayout;
 use crate::lists::{self, Listed};
 use crate::{keys, reading, writing};
-use seata_types::{Image, NoMemory, ReadRow, Row, RowKey, Value};
+use seata_types::{Image, NoMemory, ReadRow, Row, Text, Value};
 use std::alloc::Global;
-
-/// The key of the last image, if there is one.
-fn last_image_key(images: &[Image]) -> Option<&RowKey>
-    ensures { option_copied result ≡ option_map (λ (i : Image). i.key) (slice_get images.now (length images.now - 1)) }
-{
-    match images.last() {
-        Some(last) => Some(&last.key),
-        None => None,
-    }
-}
 
 impl Appended for Image {
     ghost use Rattle.byte_fields.specs.declared.layouts.KeyLayout.TheVariants as layouts;
@@ -49,20 +41,10 @@ impl Listed for Image {
         items: &[Self],
         from: Cursor<'a>,
     ) -> Result<(Self, Cursor<'a>), FieldError> {
-        let (key, after) = keys::next_key(alloc, layout, last_image_key(items), from)?;
+        let (key, after) = keys::next_key(alloc, layout, items.last().map(|last| &last.key), from)?;
         let (before, rest) = option_row(alloc, after)?;
         let (after, rest) = option_row(alloc, rest)?;
         Ok((Image { key, before, after }, rest))
-    }
-}
-
-/// The key of the last read, if there is one.
-fn last_read_key(reads: &[ReadRow]) -> Option<&RowKey>
-    ensures { option_copied result ≡ option_map (λ (r : ReadRow). r.key) (slice_get reads.now (length reads.now - 1)) }
-{
-    match reads.last() {
-        Some(last) => Some(&last.key),
-        None => None,
     }
 }
 
@@ -90,7 +72,7 @@ impl Listed for ReadRow {
         items: &[Self],
         from: Cursor<'a>,
     ) -> Result<(Self, Cursor<'a>), FieldError> {
-        let (key, after) = keys::next_key(alloc, layout, last_read_key(items), from)?;
+        let (key, after) = keys::next_key(alloc, layout, items.last().map(|last| &last.key), from)?;
         let (row, after) = row(alloc, after)?;
         Ok((ReadRow { key, row }, after))
     }
@@ -144,5 +126,23 @@ impl Appended for Option<Row> {
                 row.append(out)
             }
         }
+    }
+}
+
+/// A row behind its table's name, in no order.
+impl Item for (Text, Row) {
+    ghost item = { λ keys. named_row_at };
+
+    ghost follows = { any_order };
+
+    #[tactic(auto, unfolding(crate::specs::Parts::named_row_at))]
+    fn take(alloc: Global, _keys: KeyLayout, fields: &mut Fields) -> Result<Self, FieldError> {
+        let table = fields.take_text(alloc)?;
+        let row = fields.take_row(alloc)?;
+        Ok((table, row))
+    }
+
+    fn follows(&self, _last: &Self) -> bool {
+        true
     }
 }

@@ -1,11 +1,12 @@
 //! Each field but rows, keys and lists appended to bytes. After want of memory a part of it may stand there.
 ghost use Rattle.std.specs.Prelude.{◌≡◌, ◌++◌, OnOk, OnErr};
-ghost use Rattle.std.specs.Int.{w16, w32, to_be_bytes};
+ghost use Rattle.std.specs.Int.{w16, w32, w64, to_be_bytes};
 ghost use Rattle.byte_fields.specs.Layout.{FitsText, FitsValue, text_bytes, value_bytes, FitsTicket, ticket_bytes};
+ghost use Rattle.byte_fields.specs.Parts.{leg_bytes};
 ghost use Rattle.byte_fields.specs.Appending.{Keeps};
 
 use crate::appending::Appended;
-use seata_types::{NoMemory, Ticket, Value};
+use seata_types::{Leg, NoMemory, Ticket, Value};
 
 pub(crate) fn bytes(out: &mut Vec<u8>, bytes: &[u8]) -> Result<(), NoMemory>
     ensures ok { OnOk result (out.new.items ≡ out.old.items ++ bytes.now) }
@@ -51,5 +52,16 @@ impl Appended for Ticket {
     fn append(&self, out: &mut Vec<u8>) -> Result<(), NoMemory> {
         bytes(out, &self.boot.to_be_bytes())?;
         bytes(out, &self.seq.to_be_bytes())
+    }
+}
+
+impl Appended for Leg {
+    ghost fits = { λ leg. Unit {0} };
+
+    ghost bytes = { leg_bytes };
+
+    fn append(&self, out: &mut Vec<u8>) -> Result<(), NoMemory> {
+        bytes(out, &self.xid.0.to_be_bytes())?;
+        bytes(out, &self.branch.0.to_be_bytes())
     }
 }

@@ -25,7 +25,8 @@ use Rattle.seata_types.specs.declared.messages.Message.{Message}
 use Rattle.seata_types.specs.declared.messages.Message.TheVariants as message
 use Rattle.byte_fields.specs.declared.layouts.KeyLayout.TheVariants as layout
 use Rattle.byte_fields.specs.Layout.{FitsValue, FitsParts, FitsKey, value_bytes, text_bytes, parts_bytes, key_bytes, key_bytes_in, keys_bytes, ticket_bytes}
-use Rattle.frame_codec.specs.Parts.{xid_bytes, kind_code, truth_code, registered_bytes, held_bytes, stmt_error_bytes, why_bytes, answer_bytes, FitsRegistered, FitsHeld, FitsStmtError, FitsWhy, FitsAnswer}
+use Rattle.byte_fields.specs.Parts.{xid_bytes, kind_code, truth_code}
+use Rattle.frame_codec.specs.Parts.{registered_bytes, held_bytes, stmt_error_bytes, why_bytes, answer_bytes, FitsRegistered, FitsHeld, FitsStmtError, FitsWhy, FitsAnswer}
 use Rattle.frame_codec.specs.Messages.{fields_bytes, FitsMessage}
 use Rattle.frame_codec.specs.Limits.{IsKeyWithin, IsRegisteredWithin, IsErrorWithin, IsWhyWithin, IsAnswerWithin, IsHeldWithin, IsStmtWithin, AreStmtsWithin, IsWorkWithin, IsWithinLimits, IsFramable}
 use Rattle.frame_codec.specs.Works.{stmt_bytes, stmts_bytes, work_bytes}

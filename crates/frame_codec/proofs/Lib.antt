@@ -1,5 +1,3 @@
-pub mod StatusCodes
-pub mod Tables
 pub mod PartLaws
 pub mod WorkLaws
 pub mod MessageLaws

@@ -20,12 +20,14 @@ use Rattle.byte_fields.specs.Exactness.{AreBytes, Stands}
 use Rattle.byte_fields.proofs.Chains.{ReadsParts, part, last_part}
 use Rattle.byte_fields.proofs.Numbers.{two_bytes_exact, eight_bytes_exact}
 use Rattle.byte_fields.proofs.Records.{written_keys_exact, ticket_exact}
-use Rattle.frame_codec.specs.Parts.{xid_bytes, FitsXid, branch_bytes, FitsBranch, kind_code, registered_bytes, FitsRegistered, held_bytes, FitsHeld, answer_bytes, FitsAnswer}
+use Rattle.byte_fields.specs.Parts.{xid_bytes, FitsXid, branch_bytes, FitsBranch, kind_code}
+use Rattle.frame_codec.specs.Parts.{registered_bytes, FitsRegistered, held_bytes, FitsHeld, answer_bytes, FitsAnswer}
 use Rattle.frame_codec.specs.Works.{work_bytes, FitsWork}
 use Rattle.frame_codec.specs.Messages.{type_code, fields_bytes, FitsMessage, begin_at, begun_at, branch_commit_at, branch_committed_at, branch_rollback_at, branch_rollbacked_at, global_commit_at, commit_status_at, global_rollback_at, rollback_status_at, register_at, register_answer_at, global_status_at, status_answer_at, lock_query_at, lock_answer_at, call_at, call_answer_at, messages, is_known, fields_at}
-use Rattle.frame_codec.proofs.PartLaws.{xid_exact, branch_exact, kind_exact, status_exact, branch_status_exact, registered_exact, held_exact, answer_exact}
+use Rattle.byte_fields.proofs.PartLaws.{xid_exact, branch_exact, kind_exact, status_exact, branch_status_exact}
+use Rattle.frame_codec.proofs.PartLaws.{registered_exact, held_exact, answer_exact}
 use Rattle.frame_codec.proofs.WorkLaws.{work_exact}
-use Rattle.frame_codec.proofs.Tables.{IsComplete, AreSound, sound, table_sound}
+use Rattle.byte_fields.proofs.Tables.{IsComplete, AreSound, sound, table_sound}
 
 begin_part : ReadsParts begin_at (λ (t : ℕ × (ℕ)). message.Begin t.0 t.1)
     (λ t. to_be_bytes w16 t.0 ++ (to_be_bytes w64 t.1))

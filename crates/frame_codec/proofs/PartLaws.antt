@@ -1,71 +1,27 @@
 -- Each part of a message is read back, and what is read as one stands there.
-use Rattle.std.proofs.Common.{◌≡◌, ℕ, ◌+◌, ◌^◌, ◌<◌, Bool, true, false, Option, Some, None, List, [], ◌∷◌, ◌++◌, Ok, refl}
+use Rattle.std.proofs.Common.{◌≡◌, ℕ, ◌+◌, ◌^◌, ◌<◌, Bool, Some, None, List, [], ◌∷◌, ◌++◌, refl}
 use Rattle.std.specs.Int.{w16, to_be_bytes}
 use Rattle.seata_types.specs.declared.ids.Xid.{Xid}
-use Rattle.seata_types.specs.declared.ids.BranchId.{BranchId}
 use Rattle.seata_types.specs.declared.ids.Ticket.{Ticket}
 use Rattle.seata_types.specs.declared.rows.RowKey.{RowKey}
-use Rattle.seata_types.specs.declared.statuses.BranchKind.{BranchKind}
-use Rattle.seata_types.specs.declared.statuses.BranchKind.TheVariants as kind
 use Rattle.seata_types.specs.declared.errors.StmtError.{StmtError}
 use Rattle.seata_types.specs.declared.errors.StmtError.TheVariants as stmt
 use Rattle.seata_types.specs.declared.errors.Why.{Why}
 use Rattle.seata_types.specs.declared.errors.Why.TheVariants as why
 use Rattle.seata_types.specs.declared.messages.Registered.TheVariants as registered
 use Rattle.seata_types.specs.declared.messages.CallAnswer.TheVariants as answer
-use Rattle.seata_types.specs.Statuses.{code_of, branch_code_of}
+use Rattle.seata_types.specs.Statuses.{code_of}
 use Rattle.byte_fields.specs.Layout.{FitsKey, FitsTicket, key_bytes, ticket_bytes}
 use Rattle.byte_fields.specs.Reading.{Reader, gives}
 use Rattle.byte_fields.specs.Exactness.{ReadsExactly}
-use Rattle.byte_fields.proofs.Chains.{ReadsParts, part, last_part, no_part, whole}
-use Rattle.byte_fields.proofs.Numbers.{two_bytes_exact, eight_bytes_exact}
+use Rattle.byte_fields.proofs.Chains.{ReadsParts, part, last_part, no_part}
+use Rattle.byte_fields.proofs.Numbers.{two_bytes_exact}
 use Rattle.byte_fields.proofs.Records.{ticket_exact}
 use Rattle.byte_fields.proofs.KeyLaws.{written_key_exact}
-use Rattle.frame_codec.specs.Tags.{look_up}
-use Rattle.frame_codec.specs.Parts.{xid_bytes, FitsXid, xid_at, branch_bytes, FitsBranch, branch_at, kind_code, kind_at, truth_code, truth_at, statuses, status_at, branch_statuses, branch_status_at, registered_tag, registered_rest, registered_bytes, FitsRegistered, granted_at, conflict_at, closed_at, registered_at, held_tag, held_rest, held_bytes, FitsHeld, held_key_at, held_at, stmt_error_tag, stmt_error_rest, stmt_error_bytes, FitsStmtError, overflow_at, duplicate_at, stmt_error_at, why_tag, why_rest, why_bytes, FitsWhy, why_stmt_at, why_rolling_at, why_closed_at, why_no_row_at, why_at, answer_tag, answer_rest, answer_bytes, FitsAnswer, done_at, busy_at, failed_at, answer_at}
-use Rattle.frame_codec.proofs.StatusCodes.{by_code, status_found, branch_status_found}
-use Rattle.frame_codec.proofs.Tables.{IsComplete, IsSound, sound, tagged_exact, coded_exact}
-
-alone : {X : Type 0} (x : X) (at : ℕ) (rest : List ℕ) → gives x (record { at = at; rest = rest }) ≡ Ok (x, record { at = at + 0; rest = rest })
-alone x at rest = (no_part x).back tt at rest tt
-
--- ---- identities
-
-pub xid_exact : ReadsExactly xid_at xid_bytes FitsXid
-unfolding xid_at
-xid_exact = whole xid_bytes FitsXid (λ (xid : Xid). xid.0) (last_part (λ n. record { 0 = n }) eight_bytes_exact)
-    (λ xid. refl) (λ xid. refl) (λ n. refl) (λ xid fits. fits) (λ n fits. fits)
-
-pub branch_exact : ReadsExactly branch_at branch_bytes FitsBranch
-unfolding branch_at
-branch_exact = whole branch_bytes FitsBranch (λ (id : BranchId). id.0) (last_part (λ n. record { 0 = n }) eight_bytes_exact)
-    (λ id. refl) (λ id. refl) (λ n. refl) (λ id fits. fits) (λ n fits. fits)
-
--- ---- codes of one byte
-
-kind_found : (x : BranchKind) → look_up (kind_code x) (by_code kind_code (kind.At ∷ kind.Tcc ∷ [])) ≡ Some (gives x)
-kind_found kind.At = refl
-kind_found kind.Tcc = refl
-
-pub kind_exact : ReadsExactly kind_at (λ x. kind_code x ∷ []) (λ x. Unit {0})
-unfolding kind_at
-kind_exact = coded_exact kind_code (kind.At ∷ kind.Tcc ∷ []) kind_found
-
-truth_found : (x : Bool) → look_up (truth_code x) (by_code truth_code (false ∷ true ∷ [])) ≡ Some (gives x)
-truth_found false = refl
-truth_found true = refl
-
-pub truth_exact : ReadsExactly truth_at (λ x. truth_code x ∷ []) (λ x. Unit {0})
-unfolding truth_at
-truth_exact = coded_exact truth_code (false ∷ true ∷ []) truth_found
-
-pub status_exact : ReadsExactly status_at (λ x. code_of x ∷ []) (λ x. Unit {0})
-unfolding status_at
-status_exact = coded_exact code_of statuses status_found
-
-pub branch_status_exact : ReadsExactly branch_status_at (λ x. branch_code_of x ∷ []) (λ x. Unit {0})
-unfolding branch_status_at
-branch_status_exact = coded_exact branch_code_of branch_statuses branch_status_found
+use Rattle.byte_fields.specs.Parts.{xid_bytes, FitsXid, branch_bytes, FitsBranch, truth_code}
+use Rattle.frame_codec.specs.Parts.{registered_tag, registered_rest, registered_bytes, FitsRegistered, granted_at, conflict_at, closed_at, registered_at, held_tag, held_rest, held_bytes, FitsHeld, held_key_at, held_at, stmt_error_tag, stmt_error_rest, stmt_error_bytes, FitsStmtError, overflow_at, duplicate_at, stmt_error_at, why_tag, why_rest, why_bytes, FitsWhy, why_stmt_at, why_rolling_at, why_closed_at, why_no_row_at, why_at, answer_tag, answer_rest, answer_bytes, FitsAnswer, done_at, busy_at, failed_at, answer_at}
+use Rattle.byte_fields.proofs.PartLaws.{alone, xid_exact, branch_exact, truth_exact, status_exact}
+use Rattle.byte_fields.proofs.Tables.{IsComplete, IsSound, sound, tagged_exact}
 
 -- ---- the answer to a registration
 

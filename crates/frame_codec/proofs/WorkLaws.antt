@@ -21,7 +21,7 @@ use Rattle.byte_fields.proofs.Texts.{text_exact}
 use Rattle.byte_fields.proofs.KeyLaws.{in_no_order}
 use Rattle.byte_fields.proofs.Sequences.{FollowsExactly, list_exact}
 use Rattle.frame_codec.specs.Works.{stmt_bytes, FitsStmt, if_canonical, stmt_of, stmt_or_fault, stmt_at, FitsStmts, stmts_bytes, any_stmt, stmts_at, work_tag, work_rest, work_bytes, FitsWork, at_work_at, tcc_work_at, work_at}
-use Rattle.frame_codec.proofs.Tables.{IsComplete, sound, tagged_exact}
+use Rattle.byte_fields.proofs.Tables.{IsComplete, sound, tagged_exact}
 
 -- ---- canonical texts
 

@@ -3,7 +3,7 @@ use Rattle.std.specs.Prelude.{ℕ, List, [], ◌∷◌}
 use Rattle.std.specs.Int.{w8, w16, w32, to_be_bytes}
 use Rattle.byte_fields.specs.Reading.{Reader, ◌>>=◌, gives, number_at}
 use Rattle.frame_codec.specs.declared.head.Head.{Head}
-use Rattle.frame_codec.specs.Messages.{joined}
+use Rattle.byte_fields.specs.Parts.{joined}
 
 unfoldable pub head_bytes : Head → List ℕ
 head_bytes head = joined (

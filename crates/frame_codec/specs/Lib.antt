@@ -1,5 +1,3 @@
-pub mod Taking
-pub mod Tags
 pub mod Parts
 pub mod Works
 pub mod Messages

@@ -6,8 +6,9 @@ use Rattle.seata_types.specs.declared.messages.Message.TheVariants as message
 use Rattle.seata_types.specs.Statuses.{code_of, branch_code_of}
 use Rattle.byte_fields.specs.Layout.{FitsKeys, FitsTicket, keys_bytes, ticket_bytes}
 use Rattle.byte_fields.specs.Reading.{Reader, ◌>>=◌, gives, number_at, keys_at, ticket_at}
-use Rattle.frame_codec.specs.Tags.{look_up, chosen}
-use Rattle.frame_codec.specs.Parts.{xid_bytes, FitsXid, xid_at, branch_bytes, FitsBranch, branch_at, kind_code, kind_at, status_at, branch_status_at, registered_bytes, FitsRegistered, registered_at, held_bytes, FitsHeld, held_at, answer_bytes, FitsAnswer, answer_at}
+use Rattle.byte_fields.specs.Tags.{look_up, chosen}
+use Rattle.byte_fields.specs.Parts.{joined, xid_bytes, FitsXid, xid_at, branch_bytes, FitsBranch, branch_at, kind_code, kind_at, status_at, branch_status_at}
+use Rattle.frame_codec.specs.Parts.{registered_bytes, FitsRegistered, registered_at, held_bytes, FitsHeld, held_at, answer_bytes, FitsAnswer, answer_at}
 use Rattle.frame_codec.specs.Works.{work_bytes, FitsWork, work_at}
 use Rattle.frame_codec.specs.declared.codes.TheConstants.{BEGIN, BEGUN, BRANCH_COMMIT, BRANCH_COMMITTED, BRANCH_ROLLBACK, BRANCH_ROLLBACKED, GLOBAL_COMMIT, COMMIT_STATUS, GLOBAL_ROLLBACK, ROLLBACK_STATUS, REGISTER, REGISTER_ANSWER, GLOBAL_STATUS, STATUS_ANSWER, LOCK_QUERY, LOCK_ANSWER, CALL, ANSWER}
 
@@ -35,12 +36,6 @@ type_code (message.Answer xid call given) = ANSWER
 -- a request is 0 and an answer 1: messages with odd codes ask, those with even codes answer
 abbrev pub kind_of : ℕ → ℕ
 kind_of code = (code + 1) % 2
-
--- the parts one after the other
-abbrev pub joined : List (List ℕ) → List ℕ
-joined [] = []
-joined (part ∷ []) = part
-joined (part ∷ next ∷ parts) = part ++ joined (next ∷ parts)
 
 -- the fields behind the code
 unfoldable pub fields_bytes : Message → List ℕ

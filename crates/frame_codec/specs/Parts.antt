@@ -1,16 +1,9 @@
--- The parts of messages: identities, codes, and the answers to registrations and calls.
+-- The parts that messages alone have: the answers to registrations, lock queries and calls.
 -- Of each: its bytes, which values have such bytes, and how it is read.
-use Rattle.std.specs.Prelude.{ℕ, ◌<◌, ◌^◌, Bool, true, false, Option, Some, None, List, [], ◌∷◌, ◌++◌}
-use Rattle.std.specs.Int.{w16, w64, to_be_bytes}
+use Rattle.std.specs.Prelude.{ℕ, ◌<◌, ◌^◌, Option, Some, None, List, [], ◌∷◌, ◌++◌}
+use Rattle.std.specs.Int.{w16, to_be_bytes}
 use Rattle.seata_types.specs.declared.ids.Xid.{Xid}
-use Rattle.seata_types.specs.declared.ids.BranchId.{BranchId}
 use Rattle.seata_types.specs.declared.rows.RowKey.{RowKey}
-use Rattle.seata_types.specs.declared.statuses.BranchKind.{BranchKind}
-use Rattle.seata_types.specs.declared.statuses.BranchKind.TheVariants as kind
-use Rattle.seata_types.specs.declared.statuses.GlobalStatus.{GlobalStatus}
-use Rattle.seata_types.specs.declared.statuses.GlobalStatus.TheVariants as global
-use Rattle.seata_types.specs.declared.statuses.BranchStatus.{BranchStatus}
-use Rattle.seata_types.specs.declared.statuses.BranchStatus.TheVariants as branch
 use Rattle.seata_types.specs.declared.errors.StmtError.{StmtError}
 use Rattle.seata_types.specs.declared.errors.StmtError.TheVariants as stmt
 use Rattle.seata_types.specs.declared.errors.Why.{Why}
@@ -19,68 +12,11 @@ use Rattle.seata_types.specs.declared.messages.Registered.{Registered}
 use Rattle.seata_types.specs.declared.messages.Registered.TheVariants as registered
 use Rattle.seata_types.specs.declared.messages.CallAnswer.{CallAnswer}
 use Rattle.seata_types.specs.declared.messages.CallAnswer.TheVariants as answer
-use Rattle.seata_types.specs.Statuses.{code_of, branch_code_of}
+use Rattle.seata_types.specs.Statuses.{code_of}
 use Rattle.byte_fields.specs.Layout.{FitsKey, FitsTicket, key_bytes, ticket_bytes}
 use Rattle.byte_fields.specs.Reading.{Reader, ◌>>=◌, gives, number_at, key_at, ticket_at}
-use Rattle.frame_codec.specs.Tags.{tagged, coded}
-
--- ---- identities
-
-abbrev pub xid_bytes : Xid → List ℕ
-xid_bytes xid = to_be_bytes w64 xid.0
-
-abbrev pub FitsXid : Xid → Type 0
-FitsXid xid = xid.0 < 2 ^ 64
-
-unfoldable pub xid_at : Reader Xid
-xid_at = do
-  n ← number_at w64
-  gives (record { 0 = n })
-
-abbrev pub branch_bytes : BranchId → List ℕ
-branch_bytes id = to_be_bytes w64 id.0
-
-abbrev pub FitsBranch : BranchId → Type 0
-FitsBranch id = id.0 < 2 ^ 64
-
-unfoldable pub branch_at : Reader BranchId
-branch_at = do
-  n ← number_at w64
-  gives (record { 0 = n })
-
--- ---- codes of one byte
-
-abbrev pub kind_code : BranchKind → ℕ
-kind_code kind.At = 0
-kind_code kind.Tcc = 1
-
-unfoldable pub kind_at : Reader BranchKind
-kind_at = coded kind_code (kind.At ∷ kind.Tcc ∷ [])
-
-abbrev pub truth_code : Bool → ℕ
-truth_code false = 0
-truth_code true = 1
-
-unfoldable pub truth_at : Reader Bool
-truth_at = coded truth_code (false ∷ true ∷ [])
-
-abbrev pub statuses : List GlobalStatus
-statuses =
-    global.UnKnown ∷ global.Begin ∷ global.Committing ∷ global.CommitRetrying ∷ global.Rollbacking ∷ global.RollbackRetrying ∷
-    global.TimeoutRollbacking ∷ global.TimeoutRollbackRetrying ∷ global.AsyncCommitting ∷ global.Committed ∷ global.CommitFailed ∷
-    global.Rollbacked ∷ global.RollbackFailed ∷ global.TimeoutRollbacked ∷ global.TimeoutRollbackFailed ∷ global.Finished ∷ []
-
-unfoldable pub status_at : Reader GlobalStatus
-status_at = coded code_of statuses
-
-abbrev pub branch_statuses : List BranchStatus
-branch_statuses =
-    branch.Unknown ∷ branch.Registered ∷ branch.PhaseOneDone ∷ branch.PhaseOneFailed ∷ branch.PhaseOneTimeout ∷
-    branch.PhaseTwoCommitted ∷ branch.PhaseTwoCommitFailedRetryable ∷ branch.PhaseTwoCommitFailedUnretryable ∷
-    branch.PhaseTwoRollbacked ∷ branch.PhaseTwoRollbackFailedRetryable ∷ branch.PhaseTwoRollbackFailedUnretryable ∷ []
-
-unfoldable pub branch_status_at : Reader BranchStatus
-branch_status_at = coded branch_code_of branch_statuses
+use Rattle.byte_fields.specs.Tags.{tagged}
+use Rattle.byte_fields.specs.Parts.{xid_bytes, FitsXid, xid_at, branch_bytes, FitsBranch, branch_at, truth_code, truth_at, status_at}
 
 -- ---- the answer to a registration
 

@@ -13,7 +13,7 @@ use Rattle.sql_reader.specs.Canonical.{canonical_text}
 use Rattle.byte_fields.specs.declared.errors.FieldError.TheVariants as errors
 use Rattle.byte_fields.specs.Layout.{FitsText, text_bytes, list_bytes}
 use Rattle.byte_fields.specs.Reading.{Reader, ◌>>=◌, and_then, gives, fails, number_at, text_at, items_at}
-use Rattle.frame_codec.specs.Tags.{tagged}
+use Rattle.byte_fields.specs.Tags.{tagged}
 
 -- ---- a statement
 

@@ -1,6 +1,6 @@
 //! The fields of each message, taken from a body.
 ghost use Rattle.std.specs.Prelude.{◌≡◌, IsTrue};
-ghost use Rattle.frame_codec.specs.Taking.{Reads};
+ghost use Rattle.byte_fields.specs.Taking.{Reads};
 ghost use Rattle.frame_codec.specs.Messages.{kind_of, is_known, fields_at, begin_at, begun_at, branch_commit_at, branch_committed_at, branch_rollback_at, branch_rollbacked_at, global_commit_at, commit_status_at, global_rollback_at, rollback_status_at, register_at, register_answer_at, global_status_at, status_answer_at, lock_query_at, lock_answer_at, call_at, call_answer_at};
 
 use crate::codes::*;
@@ -22,7 +22,7 @@ fn begin(fields: &mut Fields) -> Result<Message, FieldError>
 fn begun(fields: &mut Fields) -> Result<Message, FieldError>
     ensures { Reads begun_at fields.old fields.new result }
 {
-    let xid = parts::xid(fields)?;
+    let xid = fields.take_xid()?;
     Ok(Message::Begun { xid })
 }
 
@@ -30,9 +30,9 @@ fn begun(fields: &mut Fields) -> Result<Message, FieldError>
 fn branch_commit(fields: &mut Fields) -> Result<Message, FieldError>
     ensures { Reads branch_commit_at fields.old fields.new result }
 {
-    let xid = parts::xid(fields)?;
-    let branch = parts::branch(fields)?;
-    let kind = parts::kind(fields)?;
+    let xid = fields.take_xid()?;
+    let branch = fields.take_branch()?;
+    let kind = fields.take_kind()?;
     let manager = fields.take_u16()?;
     let call = fields.take_u16()?;
     Ok(Message::BranchCommit {
@@ -48,9 +48,9 @@ fn branch_commit(fields: &mut Fields) -> Result<Message, FieldError>
 fn branch_committed(fields: &mut Fields) -> Result<Message, FieldError>
     ensures { Reads branch_committed_at fields.old fields.new result }
 {
-    let xid = parts::xid(fields)?;
-    let branch = parts::branch(fields)?;
-    let status = parts::branch_status(fields)?;
+    let xid = fields.take_xid()?;
+    let branch = fields.take_branch()?;
+    let status = fields.take_branch_status()?;
     let stmt = fields.take_u16()?;
     Ok(Message::BranchCommitted {
         xid,
@@ -64,9 +64,9 @@ fn branch_committed(fields: &mut Fields) -> Result<Message, FieldError>
 fn branch_rollback(fields: &mut Fields) -> Result<Message, FieldError>
     ensures { Reads branch_rollback_at fields.old fields.new result }
 {
-    let xid = parts::xid(fields)?;
-    let branch = parts::branch(fields)?;
-    let kind = parts::kind(fields)?;
+    let xid = fields.take_xid()?;
+    let branch = fields.take_branch()?;
+    let kind = fields.take_kind()?;
     let manager = fields.take_u16()?;
     let call = fields.take_u16()?;
     Ok(Message::BranchRollback {
@@ -82,9 +82,9 @@ fn branch_rollback(fields: &mut Fields) -> Result<Message, FieldError>
 fn branch_rollbacked(fields: &mut Fields) -> Result<Message, FieldError>
     ensures { Reads branch_rollbacked_at fields.old fields.new result }
 {
-    let xid = parts::xid(fields)?;
-    let branch = parts::branch(fields)?;
-    let status = parts::branch_status(fields)?;
+    let xid = fields.take_xid()?;
+    let branch = fields.take_branch()?;
+    let status = fields.take_branch_status()?;
     let stmt = fields.take_u16()?;
     Ok(Message::BranchRollbacked {
         xid,
@@ -98,7 +98,7 @@ fn branch_rollbacked(fields: &mut Fields) -> Result<Message, FieldError>
 fn global_commit(fields: &mut Fields) -> Result<Message, FieldError>
     ensures { Reads global_commit_at fields.old fields.new result }
 {
-    let xid = parts::xid(fields)?;
+    let xid = fields.take_xid()?;
     Ok(Message::GlobalCommit { xid })
 }
 
@@ -106,8 +106,8 @@ fn global_commit(fields: &mut Fields) -> Result<Message, FieldError>
 fn commit_status(fields: &mut Fields) -> Result<Message, FieldError>
     ensures { Reads commit_status_at fields.old fields.new result }
 {
-    let xid = parts::xid(fields)?;
-    let status = parts::status(fields)?;
+    let xid = fields.take_xid()?;
+    let status = fields.take_status()?;
     Ok(Message::CommitStatus { xid, status })
 }
 
@@ -115,7 +115,7 @@ fn commit_status(fields: &mut Fields) -> Result<Message, FieldError>
 fn global_rollback(fields: &mut Fields) -> Result<Message, FieldError>
     ensures { Reads global_rollback_at fields.old fields.new result }
 {
-    let xid = parts::xid(fields)?;
+    let xid = fields.take_xid()?;
     Ok(Message::GlobalRollback { xid })
 }
 
@@ -123,8 +123,8 @@ fn global_rollback(fields: &mut Fields) -> Result<Message, FieldError>
 fn rollback_status(fields: &mut Fields) -> Result<Message, FieldError>
     ensures { Reads rollback_status_at fields.old fields.new result }
 {
-    let xid = parts::xid(fields)?;
-    let status = parts::status(fields)?;
+    let xid = fields.take_xid()?;
+    let status = fields.take_status()?;
     Ok(Message::RollbackStatus { xid, status })
 }
 
@@ -132,11 +132,11 @@ fn rollback_status(fields: &mut Fields) -> Result<Message, FieldError>
 fn register(alloc: Global, fields: &mut Fields) -> Result<Message, FieldError>
     ensures { Reads register_at fields.old fields.new result }
 {
-    let xid = parts::xid(fields)?;
+    let xid = fields.take_xid()?;
     let resource = fields.take_u16()?;
     let call = fields.take_u16()?;
     let ticket = fields.take_ticket()?;
-    let kind = parts::kind(fields)?;
+    let kind = fields.take_kind()?;
     let hold = fields.take_keys(alloc)?;
     let check = fields.take_keys(alloc)?;
     Ok(Message::Register {
@@ -155,7 +155,7 @@ fn register_answer(alloc: Global, fields: &mut Fields) -> Result<Message, FieldE
     ensures { Reads register_answer_at fields.old fields.new result }
 {
     let ticket = fields.take_ticket()?;
-    let xid = parts::xid(fields)?;
+    let xid = fields.take_xid()?;
     let answer = parts::registered(alloc, fields)?;
     Ok(Message::RegisterAnswer {
         ticket,
@@ -168,7 +168,7 @@ fn register_answer(alloc: Global, fields: &mut Fields) -> Result<Message, FieldE
 fn global_status(fields: &mut Fields) -> Result<Message, FieldError>
     ensures { Reads global_status_at fields.old fields.new result }
 {
-    let xid = parts::xid(fields)?;
+    let xid = fields.take_xid()?;
     Ok(Message::GlobalStatus { xid })
 }
 
@@ -176,8 +176,8 @@ fn global_status(fields: &mut Fields) -> Result<Message, FieldError>
 fn status_answer(fields: &mut Fields) -> Result<Message, FieldError>
     ensures { Reads status_answer_at fields.old fields.new result }
 {
-    let xid = parts::xid(fields)?;
-    let status = parts::status(fields)?;
+    let xid = fields.take_xid()?;
+    let status = fields.take_status()?;
     Ok(Message::StatusAnswer { xid, status })
 }
 
@@ -208,7 +208,7 @@ fn lock_answer(alloc: Global, fields: &mut Fields) -> Result<Message, FieldError
 fn call(alloc: Global, fields: &mut Fields) -> Result<Message, FieldError>
     ensures { Reads call_at fields.old fields.new result }
 {
-    let xid = parts::xid(fields)?;
+    let xid = fields.take_xid()?;
     let manager = fields.take_u16()?;
     let resource = fields.take_u16()?;
     let call = fields.take_u16()?;
@@ -226,7 +226,7 @@ fn call(alloc: Global, fields: &mut Fields) -> Result<Message, FieldError>
 fn call_answer(alloc: Global, fields: &mut Fields) -> Result<Message, FieldError>
     ensures { Reads call_answer_at fields.old fields.new result }
 {
-    let xid = parts::xid(fields)?;
+    let xid = fields.take_xid()?;
     let call = fields.take_u16()?;
     let answer = parts::answer(alloc, fields)?;
     Ok(Message::Answer { xid, call, answer })

@@ -1,6 +1,6 @@
 //! What bytes are as a frame.
 ghost use Rattle.std.specs.Prelude.{◌≡◌, ◌≤◌, IsOk, IfOk, length};
-ghost use Rattle.frame_codec.specs.Taking.{Reads};
+ghost use Rattle.byte_fields.specs.Taking.{Reads};
 ghost use Rattle.frame_codec.specs.Messages.{kind_of};
 ghost use Rattle.frame_codec.specs.Heads.{head_at};
 ghost use Rattle.frame_codec.specs.Frames.{Gives, AnswersFrame, BeginsWithFrame, in_frame, checked_head, message_behind, decoded};

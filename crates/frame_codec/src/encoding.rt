@@ -3,16 +3,17 @@ ghost use Rattle.std.specs.Prelude.{◌≡◌, ◌≤◌, ◌<◌, ◌^◌, ◌�
 ghost use Rattle.std.specs.Int.{w16, w64, to_be_bytes};
 ghost use Rattle.seata_types.specs.Statuses.{code_of, branch_code_of};
 ghost use Rattle.byte_fields.specs.Layout.{FitsKeys, FitsTicket, keys_bytes, ticket_bytes};
-ghost use Rattle.frame_codec.specs.Parts.{FitsRegistered, FitsHeld, FitsAnswer, kind_code, xid_bytes, branch_bytes, registered_bytes, held_bytes, answer_bytes};
+ghost use Rattle.byte_fields.specs.Parts.{kind_code, xid_bytes, branch_bytes, joined};
+ghost use Rattle.frame_codec.specs.Parts.{FitsRegistered, FitsHeld, FitsAnswer, registered_bytes, held_bytes, answer_bytes};
 ghost use Rattle.frame_codec.specs.Works.{FitsWork, work_bytes};
-ghost use Rattle.frame_codec.specs.Messages.{FitsMessage, type_code, joined, fields_bytes};
+ghost use Rattle.frame_codec.specs.Messages.{FitsMessage, type_code, fields_bytes};
 ghost use Rattle.frame_codec.specs.Heads.{head_bytes};
 ghost use Rattle.frame_codec.specs.Frames.{HasFrame, body_bytes, frame_bytes};
 
 use crate::codes::*;
 use crate::head::{CODEC, HEAD_BYTES, Head, MAGIC, VERSION};
 use crate::{bodies, putting, works};
-use byte_fields::{put_keys, put_ticket, put_u8, put_u16, put_u32, put_u64};
+use byte_fields::{put_keys, put_kind, put_ticket, put_u8, put_u16, put_u32, put_u64};
 use seata_types::{
     BranchId, BranchKind, BranchStatus, CallAnswer, GlobalStatus, Message, NoMemory, Registered,
     RowKey, Ticket, Work, Xid,
@@ -64,7 +65,7 @@ fn put_ending(
         xid_bytes xid ∷ branch_bytes branch ∷ (kind_code kind ∷ []) ∷ to_be_bytes w16 manager ∷ to_be_bytes w16 call ∷ [])) }
 {
     put_branch(out, xid, branch)?;
-    putting::put_kind(out, kind)?;
+    put_kind(out, kind)?;
     put_u16(out, manager)?;
     put_u16(out, call)
 }
@@ -108,7 +109,7 @@ fn put_place(
     put_u16(out, resource)?;
     put_u16(out, call)?;
     put_ticket(out, ticket)?;
-    putting::put_kind(out, kind)?;
+    put_kind(out, kind)?;
     Ok(())
 }
 

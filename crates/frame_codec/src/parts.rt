@@ -1,86 +1,19 @@
-//! The parts of messages, taken from fields.
+//! The parts that messages alone have, taken from fields.
 ghost use Rattle.std.specs.Prelude.{◌≡◌};
-ghost use Rattle.frame_codec.specs.Taking.{Reads};
-ghost use Rattle.frame_codec.specs.Parts.{xid_at, branch_at, kind_at, truth_at, status_at, branch_status_at, registered_at, conflict_at, held_at, held_key_at, stmt_error_at, why_at, why_stmt_at, answer_at, busy_at};
+ghost use Rattle.byte_fields.specs.Taking.{Reads};
+ghost use Rattle.frame_codec.specs.Parts.{registered_at, conflict_at, held_at, held_key_at, stmt_error_at, why_at, why_stmt_at, answer_at, busy_at};
 
 use byte_fields::{FieldError, Fields};
-use seata_types::{
-    BranchId, BranchKind, BranchStatus, CallAnswer, GlobalStatus, Registered, RowKey, StmtError,
-    Why, Xid,
-};
+use seata_types::{CallAnswer, Registered, RowKey, StmtError, Why, Xid};
 use std::alloc::Global;
-
-#[tactic(auto, unfolding(crate::specs::Parts::xid_at))]
-pub(crate) fn xid(fields: &mut Fields) -> Result<Xid, FieldError>
-    ensures { Reads xid_at fields.old fields.new result }
-{
-    let number = fields.take_u64()?;
-    Ok(Xid(number))
-}
-
-#[tactic(auto, unfolding(crate::specs::Parts::branch_at))]
-pub(crate) fn branch(fields: &mut Fields) -> Result<BranchId, FieldError>
-    ensures { Reads branch_at fields.old fields.new result }
-{
-    let number = fields.take_u64()?;
-    Ok(BranchId(number))
-}
-
-#[tactic(auto, unfolding(crate::specs::Parts::kind_at, crate::specs::Tags::tagged))]
-pub(crate) fn kind(fields: &mut Fields) -> Result<BranchKind, FieldError>
-    ensures { Reads kind_at fields.old fields.new result }
-{
-    let place = fields.at();
-    match fields.take_u8()? {
-        0 => Ok(BranchKind::At),
-        1 => Ok(BranchKind::Tcc),
-        _ => Err(FieldError::BadTag { at: place }),
-    }
-}
-
-#[tactic(auto, unfolding(crate::specs::Parts::truth_at, crate::specs::Tags::tagged))]
-fn truth(fields: &mut Fields) -> Result<bool, FieldError>
-    ensures { Reads truth_at fields.old fields.new result }
-{
-    let place = fields.at();
-    match fields.take_u8()? {
-        0 => Ok(false),
-        1 => Ok(true),
-        _ => Err(FieldError::BadTag { at: place }),
-    }
-}
-
-#[tactic(auto, unfolding(crate::specs::Parts::status_at, crate::specs::Tags::tagged))]
-pub(crate) fn status(fields: &mut Fields) -> Result<GlobalStatus, FieldError>
-    ensures { Reads status_at fields.old fields.new result }
-{
-    let place = fields.at();
-    let code = fields.take_u8()?;
-    match GlobalStatus::from_code(code) {
-        Some(status) => Ok(status),
-        None => Err(FieldError::BadTag { at: place }),
-    }
-}
-
-#[tactic(auto, unfolding(crate::specs::Parts::branch_status_at, crate::specs::Tags::tagged))]
-pub(crate) fn branch_status(fields: &mut Fields) -> Result<BranchStatus, FieldError>
-    ensures { Reads branch_status_at fields.old fields.new result }
-{
-    let place = fields.at();
-    let code = fields.take_u8()?;
-    match BranchStatus::from_code(code) {
-        Some(status) => Ok(status),
-        None => Err(FieldError::BadTag { at: place }),
-    }
-}
 
 #[tactic(auto, unfolding(crate::specs::Parts::conflict_at))]
 fn conflict(alloc: Global, fields: &mut Fields) -> Result<Registered, FieldError>
     ensures { Reads conflict_at fields.old fields.new result }
 {
     let key = fields.take_key(alloc)?;
-    let holder = xid(fields)?;
-    let rolling = truth(fields)?;
+    let holder = fields.take_xid()?;
+    let rolling = fields.take_truth()?;
     Ok(Registered::Conflict {
         key,
         holder,
@@ -88,19 +21,19 @@ fn conflict(alloc: Global, fields: &mut Fields) -> Result<Registered, FieldError
     })
 }
 
-#[tactic(auto, unfolding(crate::specs::Parts::registered_at, crate::specs::Tags::tagged))]
+#[tactic(auto, unfolding(crate::specs::Parts::registered_at, byte_fields::specs::Tags::tagged))]
 pub(crate) fn registered(alloc: Global, fields: &mut Fields) -> Result<Registered, FieldError>
     ensures { Reads registered_at fields.old fields.new result }
 {
     let place = fields.at();
     match fields.take_u8()? {
         0 => {
-            let branch = branch(fields)?;
+            let branch = fields.take_branch()?;
             Ok(Registered::Granted { branch })
         }
         1 => conflict(alloc, fields),
         2 => {
-            let status = status(fields)?;
+            let status = fields.take_status()?;
             Ok(Registered::Closed { status })
         }
         3 => Ok(Registered::Late),
@@ -113,11 +46,11 @@ fn held_key(alloc: Global, fields: &mut Fields) -> Result<Option<(RowKey, Xid)>,
     ensures { Reads held_key_at fields.old fields.new result }
 {
     let key = fields.take_key(alloc)?;
-    let holder = xid(fields)?;
+    let holder = fields.take_xid()?;
     Ok(Some((key, holder)))
 }
 
-#[tactic(auto, unfolding(crate::specs::Parts::held_at, crate::specs::Tags::tagged))]
+#[tactic(auto, unfolding(crate::specs::Parts::held_at, byte_fields::specs::Tags::tagged))]
 pub(crate) fn held(alloc: Global, fields: &mut Fields) -> Result<Option<(RowKey, Xid)>, FieldError>
     ensures { Reads held_at fields.old fields.new result }
 {
@@ -129,7 +62,7 @@ pub(crate) fn held(alloc: Global, fields: &mut Fields) -> Result<Option<(RowKey,
     }
 }
 
-#[tactic(auto, unfolding(crate::specs::Parts::stmt_error_at, crate::specs::Tags::tagged))]
+#[tactic(auto, unfolding(crate::specs::Parts::stmt_error_at, byte_fields::specs::Tags::tagged))]
 fn stmt_error(alloc: Global, fields: &mut Fields) -> Result<StmtError, FieldError>
     ensures { Reads stmt_error_at fields.old fields.new result }
 {
@@ -163,7 +96,7 @@ fn why_stmt(alloc: Global, fields: &mut Fields) -> Result<Why, FieldError>
     Ok(Why::Stmt { index, why })
 }
 
-#[tactic(auto, unfolding(crate::specs::Parts::why_at, crate::specs::Tags::tagged))]
+#[tactic(auto, unfolding(crate::specs::Parts::why_at, byte_fields::specs::Tags::tagged))]
 fn why(alloc: Global, fields: &mut Fields) -> Result<Why, FieldError>
     ensures { Reads why_at fields.old fields.new result }
 {
@@ -172,11 +105,11 @@ fn why(alloc: Global, fields: &mut Fields) -> Result<Why, FieldError>
         0 => why_stmt(alloc, fields),
         1 => Ok(Why::Tries),
         2 => {
-            let holder = xid(fields)?;
+            let holder = fields.take_xid()?;
             Ok(Why::Rolling { holder })
         }
         3 => {
-            let status = status(fields)?;
+            let status = fields.take_status()?;
             Ok(Why::Closed { status })
         }
         4 => Ok(Why::Late),
@@ -199,14 +132,14 @@ fn busy(alloc: Global, fields: &mut Fields) -> Result<CallAnswer, FieldError>
     Ok(CallAnswer::Busy { key, by })
 }
 
-#[tactic(auto, unfolding(crate::specs::Parts::answer_at, crate::specs::Tags::tagged))]
+#[tactic(auto, unfolding(crate::specs::Parts::answer_at, byte_fields::specs::Tags::tagged))]
 pub(crate) fn answer(alloc: Global, fields: &mut Fields) -> Result<CallAnswer, FieldError>
     ensures { Reads answer_at fields.old fields.new result }
 {
     let place = fields.at();
     match fields.take_u8()? {
         0 => {
-            let branch = branch(fields)?;
+            let branch = fields.take_branch()?;
             Ok(CallAnswer::Done { branch })
         }
         1 => busy(alloc, fields),

@@ -3,8 +3,9 @@ ghost use Rattle.std.specs.Prelude.{◌≡◌, ◌<◌, ◌^◌, ◌∷◌, ◌+
 ghost use Rattle.std.specs.Int.{w16, w64, to_be_bytes};
 ghost use Rattle.seata_types.specs.Statuses.{code_of, branch_code_of};
 ghost use Rattle.byte_fields.specs.Layout.{FitsKeys, keys_bytes, ticket_bytes};
-ghost use Rattle.frame_codec.specs.Parts.{FitsRegistered, FitsHeld, FitsStmtError, FitsWhy, FitsAnswer, kind_code, xid_bytes, branch_bytes, registered_bytes, held_bytes, stmt_error_bytes, why_bytes, answer_bytes};
-ghost use Rattle.frame_codec.specs.Messages.{FitsMessage, type_code, joined, fields_bytes};
+ghost use Rattle.byte_fields.specs.Parts.{kind_code, xid_bytes, branch_bytes, joined};
+ghost use Rattle.frame_codec.specs.Parts.{FitsRegistered, FitsHeld, FitsStmtError, FitsWhy, FitsAnswer, registered_bytes, held_bytes, stmt_error_bytes, why_bytes, answer_bytes};
+ghost use Rattle.frame_codec.specs.Messages.{FitsMessage, type_code, fields_bytes};
 ghost use Rattle.frame_codec.specs.Frames.{body_bytes};
 
 use byte_fields::{put_key, put_keys, put_ticket, put_u8, put_u16, put_u64};
@@ -12,16 +13,6 @@ use seata_types::{
     BranchId, BranchKind, BranchStatus, CallAnswer, GlobalStatus, Message, NoMemory, Registered,
     RowKey, StmtError, Ticket, Why, Xid,
 };
-
-pub(crate) fn put_kind(out: &mut Vec<u8>, kind: BranchKind) -> Result<(), NoMemory>
-    ensures { OnOk result (out.new.items ≡ out.old.items ++ kind_code kind ∷ []) }
-{
-    let code = match kind {
-        BranchKind::At => 0,
-        BranchKind::Tcc => 1,
-    };
-    put_u8(out, code)
-}
 
 pub(crate) fn put_registered(out: &mut Vec<u8>, answer: &Registered) -> Result<(), NoMemory>
     requires { FitsRegistered answer.now }

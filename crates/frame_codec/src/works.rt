@@ -5,7 +5,7 @@ ghost use Rattle.seata_types.specs.Orders.{same_text};
 ghost use Rattle.sql_reader.specs.Readable.{IsReadable};
 ghost use Rattle.sql_reader.specs.Canonical.{canonical_text};
 ghost use Rattle.byte_fields.specs.Reading.{items_at};
-ghost use Rattle.frame_codec.specs.Taking.{Reads};
+ghost use Rattle.byte_fields.specs.Taking.{Reads};
 ghost use Rattle.frame_codec.specs.Works.{FitsStmt, FitsStmts, FitsWork, stmt_bytes, stmts_bytes, work_bytes, if_canonical, stmt_of, any_stmt, stmt_at, stmts_at, at_work_at, tcc_work_at, work_at};
 
 use byte_fields::{FieldError, Fields, put_text, put_u8, put_u16};
@@ -110,7 +110,7 @@ fn tcc_work(alloc: Global, fields: &mut Fields) -> Result<Work, FieldError>
 }
 
 /// What a call asks, taken.
-#[tactic(auto, unfolding(crate::specs::Works::work_at, crate::specs::Tags::tagged))]
+#[tactic(auto, unfolding(crate::specs::Works::work_at, byte_fields::specs::Tags::tagged))]
 pub(crate) fn work(alloc: Global, fields: &mut Fields) -> Result<Work, FieldError>
     ensures { Reads work_at fields.old fields.new result }
 {

@@ -8,3 +8,4 @@ pub mod Lookups
 pub mod Puts
 pub mod Sound
 pub mod Refusals
+pub mod Fitting

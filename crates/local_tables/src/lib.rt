@@ -7,6 +7,7 @@ mod checking;
 mod conditions;
 mod effects;
 mod expressions;
+mod fitting;
 pub mod laws;
 mod maps;
 mod matching;
@@ -18,5 +19,6 @@ mod tables;
 mod touching;
 mod typing;
 
+pub use fitting::{is_image, is_read, row_key};
 pub use schemas::{ColType, Effect, EffectError, Schema, TableDef, Way};
 pub use tables::Tables;

@@ -61,7 +61,7 @@ fn cell_at(row: &Row, place: u16) -> Option<&Value>
 }
 
 /// A row's values in the key columns, in key order, where all are there.
-fn key_values(alloc: Global, def: &TableDef, row: &Row) -> Result<Option<List<Value>>, NoMemory>
+pub fn key_values(alloc: Global, def: &TableDef, row: &Row) -> Result<Option<List<Value>>, NoMemory>
     ensures { IfOk result (λ found. found ≡ key_values def.now row.now) }
 {
     let mut values = Vec::new(alloc);

@@ -1,4 +1,3 @@
-pub mod LaidTables
 pub mod RecordLaws
 pub mod SnapshotLaws
 pub mod WritingLaws

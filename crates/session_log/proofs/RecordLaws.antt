@@ -18,19 +18,18 @@ use Rattle.byte_fields.specs.Exactness.{ReadsExactly}
 use Rattle.byte_fields.proofs.Chains.{ReadsParts, part, last_part}
 use Rattle.byte_fields.proofs.Numbers.{two_bytes_exact, eight_bytes_exact}
 use Rattle.byte_fields.proofs.Records.{keys_exact, ticket_exact}
-use Rattle.frame_codec.specs.Tags.{look_up}
-use Rattle.frame_codec.specs.Parts.{xid_bytes, FitsXid, branch_bytes, FitsBranch, kind_code}
-use Rattle.frame_codec.proofs.StatusCodes.{by_code}
-use Rattle.frame_codec.proofs.Tables.{coded_exact}
-use Rattle.frame_codec.proofs.PartLaws.{xid_exact, branch_exact, kind_exact}
+use Rattle.byte_fields.specs.Tags.{look_up}
+use Rattle.byte_fields.specs.Parts.{xid_bytes, FitsXid, branch_bytes, FitsBranch, kind_code}
+use Rattle.byte_fields.proofs.StatusCodes.{by_code}
+use Rattle.byte_fields.proofs.Tables.{coded_exact}
+use Rattle.byte_fields.proofs.PartLaws.{xid_exact, branch_exact, kind_exact}
 use Rattle.durable_records.specs.declared.coordinators.SessionRecord.{SessionRecord}
 use Rattle.durable_records.specs.declared.coordinators.SessionRecord.TheVariants as log
 use Rattle.session_log.specs.declared.errors.RecordError.{RecordError}
 use Rattle.session_log.specs.declared.errors.RecordError.TheVariants as errors
-use Rattle.session_log.specs.Layouts.{ReadsLayouts}
-use Rattle.session_log.specs.Entire.{IsOfLayouts}
+use Rattle.byte_fields.specs.Entire.{ReadsLayouts, IsOfLayouts}
 use Rattle.session_log.specs.Records.{decision_code, decision_at, record_tag, fields_bytes, record_bytes_in, FitsRecordIn, begun_at, granted_at, decided_at, retrying_at, ended_at, failed_at, finished_at, forgot_at, records, record_at, record_of, IsFaultOfRecord, ReadsRecord}
-use Rattle.session_log.proofs.LaidTables.{AreLaid, HasEach, laid, tagged_layouts, entire_layouts, entire_some, entire_longer, entire_none}
+use Rattle.byte_fields.proofs.LaidTables.{AreLaid, HasEach, laid, tagged_layouts, entire_layouts, entire_some, entire_longer, entire_none}
 
 decision_found : (x : Decision) → look_up (decision_code x) (by_code decision_code (how.Commit ∷ how.Rollback ∷ how.Timeout ∷ [])) ≡ Some (gives x)
 decision_found how.Commit = refl

@@ -2,12 +2,12 @@
 use Rattle.std.proofs.Common.{◌≡◌, ℕ, List, [], ◌∷◌, ◌++◌, append_assoc}
 use Rattle.std.specs.Int.{w32, w64, to_be_bytes}
 use Rattle.byte_fields.specs.declared.layouts.KeyLayout.TheVariants as key
-use Rattle.frame_codec.specs.Messages.{joined}
+use Rattle.byte_fields.specs.Parts.{joined}
 use Rattle.session_log.specs.declared.layouts.SnapshotLayout.TheVariants as layout
 use Rattle.session_log.specs.declared.sessions.SessionEntry.{SessionEntry}
 use Rattle.session_log.specs.declared.sessions.Forgotten.{Forgotten}
 use Rattle.session_log.specs.declared.sessions.Snapshot.{Snapshot}
-use Rattle.session_log.specs.Lists.{long_list_bytes}
+use Rattle.byte_fields.specs.LongLists.{long_list_bytes}
 use Rattle.session_log.specs.Snapshots.{entry_fields, all_forgotten_bytes, snapshot_fields}
 
 regroup : (out counts entries forgotten : List ℕ) → ((out ++ counts) ++ entries) ++ forgotten ≡ out ++ (counts ++ (entries ++ forgotten))

@@ -9,15 +9,14 @@ use Rattle.byte_fields.specs.declared.errors.FieldError.{FieldError}
 use Rattle.byte_fields.specs.declared.errors.FieldError.TheVariants as field
 use Rattle.byte_fields.specs.Layout.{FitsKeysIn, FitsTicket, keys_bytes_in, ticket_bytes}
 use Rattle.byte_fields.specs.Reading.{Reader, ◌>>=◌, gives, number_at, keys_in, ticket_at}
-use Rattle.frame_codec.specs.Tags.{tagged, coded}
-use Rattle.frame_codec.specs.Messages.{joined}
-use Rattle.frame_codec.specs.Parts.{xid_bytes, FitsXid, xid_at, branch_bytes, FitsBranch, branch_at, kind_code, kind_at}
+use Rattle.byte_fields.specs.Tags.{tagged, coded}
+use Rattle.byte_fields.specs.Parts.{joined, xid_bytes, FitsXid, xid_at, branch_bytes, FitsBranch, branch_at, kind_code, kind_at}
 use Rattle.durable_records.specs.declared.coordinators.SessionRecord.{SessionRecord}
 use Rattle.durable_records.specs.declared.coordinators.SessionRecord.TheVariants as log
 use Rattle.session_log.specs.declared.tags.TheConstants.{BEGUN, OLD_GRANTED, DECIDED, RETRYING, ENDED, FAILED, FINISHED, FORGOT, GRANTED}
 use Rattle.session_log.specs.declared.errors.RecordError.{RecordError}
 use Rattle.session_log.specs.declared.errors.RecordError.TheVariants as errors
-use Rattle.session_log.specs.Entire.{entire}
+use Rattle.byte_fields.specs.Entire.{entire}
 
 -- ---- parts
 

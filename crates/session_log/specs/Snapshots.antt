@@ -6,9 +6,8 @@ use Rattle.seata_types.specs.Statuses.{code_of}
 use Rattle.byte_fields.specs.declared.layouts.KeyLayout.{KeyLayout}
 use Rattle.byte_fields.specs.Layout.{FitsKeysIn, FitsTicket, FitsList, keys_bytes_in, ticket_bytes, list_bytes}
 use Rattle.byte_fields.specs.Reading.{Reader, ◌>>=◌, gives, number_at, keys_in, ticket_at, list_at}
-use Rattle.frame_codec.specs.Tags.{tagged}
-use Rattle.frame_codec.specs.Messages.{joined}
-use Rattle.frame_codec.specs.Parts.{xid_bytes, FitsXid, xid_at, branch_bytes, FitsBranch, branch_at, kind_code, kind_at, truth_code, truth_at, status_at}
+use Rattle.byte_fields.specs.Tags.{tagged}
+use Rattle.byte_fields.specs.Parts.{joined, xid_bytes, FitsXid, xid_at, branch_bytes, FitsBranch, branch_at, kind_code, kind_at, truth_code, truth_at, status_at}
 use Rattle.session_log.specs.declared.layouts.SnapshotLayout.{SnapshotLayout}
 use Rattle.session_log.specs.declared.layouts.SnapshotLayout.TheVariants as layout
 use Rattle.session_log.specs.declared.sessions.Branch.{Branch}
@@ -16,8 +15,8 @@ use Rattle.session_log.specs.declared.sessions.SessionEntry.{SessionEntry}
 use Rattle.session_log.specs.declared.sessions.Forgotten.{Forgotten}
 use Rattle.session_log.specs.declared.sessions.Snapshot.{Snapshot}
 use Rattle.session_log.specs.Layouts.{keys_of}
-use Rattle.session_log.specs.Entire.{entire}
-use Rattle.session_log.specs.Lists.{next_item, long_list_bytes, FitsLongList, long_list_at}
+use Rattle.byte_fields.specs.Entire.{entire}
+use Rattle.byte_fields.specs.LongLists.{next_item, long_list_bytes, FitsLongList, long_list_at}
 
 -- ---- branches, in order of their numbers
 

@@ -4,10 +4,8 @@
 
 mod checks;
 mod errors;
-mod items;
 mod keys;
 mod layouts;
-mod parts;
 mod records;
 mod sessions;
 mod snapshots;

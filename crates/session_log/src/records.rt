@@ -1,21 +1,34 @@
 //! Records, read.
 ghost use Rattle.std.specs.Prelude.{◌≡◌};
-ghost use Rattle.frame_codec.specs.Taking.{Reads};
-ghost use Rattle.session_log.specs.Entire.{IsOfLayouts};
-ghost use Rattle.session_log.specs.Records.{FitsRecordIn, record_bytes_in, begun_at, granted_at, decided_at, retrying_at, ended_at, failed_at, finished_at, forgot_at, record_at, record_of, IsFaultOfRecord, ReadsRecord};
+ghost use Rattle.byte_fields.specs.Taking.{Reads};
+ghost use Rattle.byte_fields.specs.Entire.{IsOfLayouts};
+ghost use Rattle.session_log.specs.Records.{FitsRecordIn, record_bytes_in, decision_at, begun_at, granted_at, decided_at, retrying_at, ended_at, failed_at, finished_at, forgot_at, record_at, record_of, IsFaultOfRecord, ReadsRecord};
 
 use crate::errors::RecordError;
-use crate::parts;
 use crate::tags::*;
 use byte_fields::{FieldError, Fields, KeyLayout};
 use durable_records::SessionRecord;
+use seata_types::Decision;
 use std::alloc::Global;
+
+#[tactic(auto, unfolding(crate::specs::Records::decision_at, byte_fields::specs::Tags::tagged))]
+fn decision(fields: &mut Fields) -> Result<Decision, FieldError>
+    ensures { Reads decision_at fields.old fields.new result }
+{
+    let place = fields.at();
+    match fields.take_u8()? {
+        1 => Ok(Decision::Commit),
+        2 => Ok(Decision::Rollback),
+        3 => Ok(Decision::Timeout),
+        _ => Err(FieldError::BadTag { at: place }),
+    }
+}
 
 #[tactic(auto, unfolding(crate::specs::Records::begun_at))]
 fn begun(fields: &mut Fields) -> Result<SessionRecord, FieldError>
     ensures { Reads begun_at fields.old fields.new result }
 {
-    let xid = parts::xid(fields)?;
+    let xid = fields.take_xid()?;
     let manager = fields.take_u16()?;
     let begun = fields.take_u64()?;
     let timeout = fields.take_u64()?;
@@ -35,13 +48,13 @@ fn granted(
 ) -> Result<SessionRecord, FieldError>
     ensures { Reads (granted_at layout) fields.old fields.new result }
 {
-    let xid = parts::xid(fields)?;
-    let branch = parts::branch(fields)?;
+    let xid = fields.take_xid()?;
+    let branch = fields.take_branch()?;
     let resource = fields.take_u16()?;
     let call = fields.take_u16()?;
     let ticket = fields.take_ticket()?;
-    let kind = parts::kind(fields)?;
-    let hold = parts::keys(alloc, layout, fields)?;
+    let kind = fields.take_kind()?;
+    let hold = fields.take_keys_in(alloc, layout)?;
     Ok(SessionRecord::Granted {
         xid,
         branch,
@@ -57,8 +70,8 @@ fn granted(
 fn decided(fields: &mut Fields) -> Result<SessionRecord, FieldError>
     ensures { Reads decided_at fields.old fields.new result }
 {
-    let xid = parts::xid(fields)?;
-    let how = parts::decision(fields)?;
+    let xid = fields.take_xid()?;
+    let how = decision(fields)?;
     Ok(SessionRecord::Decided { xid, how })
 }
 
@@ -66,7 +79,7 @@ fn decided(fields: &mut Fields) -> Result<SessionRecord, FieldError>
 fn retrying(fields: &mut Fields) -> Result<SessionRecord, FieldError>
     ensures { Reads retrying_at fields.old fields.new result }
 {
-    let xid = parts::xid(fields)?;
+    let xid = fields.take_xid()?;
     Ok(SessionRecord::Retrying { xid })
 }
 
@@ -74,8 +87,8 @@ fn retrying(fields: &mut Fields) -> Result<SessionRecord, FieldError>
 fn ended(fields: &mut Fields) -> Result<SessionRecord, FieldError>
     ensures { Reads ended_at fields.old fields.new result }
 {
-    let xid = parts::xid(fields)?;
-    let branch = parts::branch(fields)?;
+    let xid = fields.take_xid()?;
+    let branch = fields.take_branch()?;
     Ok(SessionRecord::Ended { xid, branch })
 }
 
@@ -83,8 +96,8 @@ fn ended(fields: &mut Fields) -> Result<SessionRecord, FieldError>
 fn failed(fields: &mut Fields) -> Result<SessionRecord, FieldError>
     ensures { Reads failed_at fields.old fields.new result }
 {
-    let xid = parts::xid(fields)?;
-    let branch = parts::branch(fields)?;
+    let xid = fields.take_xid()?;
+    let branch = fields.take_branch()?;
     let stmt = fields.take_u16()?;
     Ok(SessionRecord::Failed { xid, branch, stmt })
 }
@@ -93,7 +106,7 @@ fn failed(fields: &mut Fields) -> Result<SessionRecord, FieldError>
 fn finished(fields: &mut Fields) -> Result<SessionRecord, FieldError>
     ensures { Reads finished_at fields.old fields.new result }
 {
-    let xid = parts::xid(fields)?;
+    let xid = fields.take_xid()?;
     Ok(SessionRecord::Finished { xid })
 }
 
@@ -101,11 +114,11 @@ fn finished(fields: &mut Fields) -> Result<SessionRecord, FieldError>
 fn forgot(fields: &mut Fields) -> Result<SessionRecord, FieldError>
     ensures { Reads forgot_at fields.old fields.new result }
 {
-    let xid = parts::xid(fields)?;
+    let xid = fields.take_xid()?;
     Ok(SessionRecord::Forgot { xid })
 }
 
-#[tactic(auto, unfolding(crate::specs::Records::record_at, frame_codec::specs::Tags::tagged))]
+#[tactic(auto, unfolding(crate::specs::Records::record_at, byte_fields::specs::Tags::tagged))]
 fn record(alloc: Global, fields: &mut Fields) -> Result<SessionRecord, FieldError>
     ensures { Reads record_at fields.old fields.new result }
 {

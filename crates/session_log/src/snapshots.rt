@@ -1,33 +1,32 @@
 //! Snapshots, read.
 ghost use Rattle.std.specs.Prelude.{◌≡◌};
-ghost use Rattle.frame_codec.specs.Taking.{Reads};
-ghost use Rattle.session_log.specs.Entire.{IsOfLayouts};
+ghost use Rattle.byte_fields.specs.Taking.{Reads};
+ghost use Rattle.byte_fields.specs.Entire.{IsOfLayouts};
 ghost use Rattle.session_log.specs.Snapshots.{branch_in, branch_follows, some_failure_at, failure_at, entry_in, entry_follows, forgotten_at, forgotten_follows, all_forgotten_in, snapshot_in, snapshot_at, snapshot_in_bytes, snapshot_bytes_in, FitsSnapshotIn};
 ghost use Rattle.session_log.specs.Soundness.{IsFaultOfSnapshot, FindsSnapshot, ReadsSnapshot};
 
+use crate::checks;
 use crate::errors::SnapshotError;
-use crate::items::{self, Listed};
 use crate::layouts::SnapshotLayout;
 use crate::sessions::{Branch, Forgotten, RegisterPlace, Session, SessionEntry, Snapshot};
-use crate::{checks, parts};
-use byte_fields::{FieldError, Fields, KeyLayout};
+use byte_fields::{FieldError, Fields, Item, KeyLayout, take_list, take_long_list};
 use seata_types::{BranchId, List};
 use std::alloc::Global;
 
-impl Listed for Branch {
+impl Item for Branch {
     ghost item = { branch_in };
 
     ghost follows = { branch_follows };
 
     #[tactic(auto, unfolding(crate::specs::Snapshots::branch_in))]
     fn take(alloc: Global, keys: KeyLayout, fields: &mut Fields) -> Result<Self, FieldError> {
-        let id = parts::branch(fields)?;
+        let id = fields.take_branch()?;
         let resource = fields.take_u16()?;
         let call = fields.take_u16()?;
         let ticket = fields.take_ticket()?;
-        let kind = parts::kind(fields)?;
-        let hold = parts::keys(alloc, keys, fields)?;
-        let ended = parts::truth(fields)?;
+        let kind = fields.take_kind()?;
+        let hold = fields.take_keys_in(alloc, keys)?;
+        let ended = fields.take_truth()?;
         let place = RegisterPlace {
             resource,
             call,
@@ -51,12 +50,12 @@ impl Listed for Branch {
 fn some_failure(fields: &mut Fields) -> Result<Option<(BranchId, u16)>, FieldError>
     ensures { Reads some_failure_at fields.old fields.new result }
 {
-    let branch = parts::branch(fields)?;
+    let branch = fields.take_branch()?;
     let stmt = fields.take_u16()?;
     Ok(Some((branch, stmt)))
 }
 
-#[tactic(auto, unfolding(crate::specs::Snapshots::failure_at, frame_codec::specs::Tags::tagged))]
+#[tactic(auto, unfolding(crate::specs::Snapshots::failure_at, byte_fields::specs::Tags::tagged))]
 fn failure(fields: &mut Fields) -> Result<Option<(BranchId, u16)>, FieldError>
     ensures { Reads failure_at fields.old fields.new result }
 {
@@ -68,20 +67,20 @@ fn failure(fields: &mut Fields) -> Result<Option<(BranchId, u16)>, FieldError>
     }
 }
 
-impl Listed for SessionEntry {
+impl Item for SessionEntry {
     ghost item = { entry_in };
 
     ghost follows = { entry_follows };
 
     #[tactic(auto, unfolding(crate::specs::Snapshots::entry_in))]
     fn take(alloc: Global, keys: KeyLayout, fields: &mut Fields) -> Result<Self, FieldError> {
-        let xid = parts::xid(fields)?;
+        let xid = fields.take_xid()?;
         let manager = fields.take_u16()?;
         let begun = fields.take_u64()?;
         let timeout = fields.take_u64()?;
-        let status = parts::status(fields)?;
+        let status = fields.take_status()?;
         let failed = failure(fields)?;
-        let branches = items::list::<Branch>(alloc, keys, fields)?;
+        let branches = take_list::<Branch>(alloc, keys, fields)?;
         let session = Session {
             manager,
             begun,
@@ -98,14 +97,14 @@ impl Listed for SessionEntry {
     }
 }
 
-impl Listed for Forgotten {
+impl Item for Forgotten {
     ghost item = { λ keys. forgotten_at };
 
     ghost follows = { forgotten_follows };
 
     #[tactic(auto, unfolding(crate::specs::Snapshots::forgotten_at))]
     fn take(_alloc: Global, _keys: KeyLayout, fields: &mut Fields) -> Result<Self, FieldError> {
-        let xid = parts::xid(fields)?;
+        let xid = fields.take_xid()?;
         let manager = fields.take_u16()?;
         Ok(Forgotten { xid, manager })
     }
@@ -126,7 +125,7 @@ fn forgotten(
     match layout {
         SnapshotLayout::SingleKeys => Ok(List::of(Vec::new(alloc))),
         SnapshotLayout::CountedKeys => Ok(List::of(Vec::new(alloc))),
-        SnapshotLayout::WithForgotten => items::long_list::<Forgotten>(
+        SnapshotLayout::WithForgotten => take_long_list::<Forgotten>(
             alloc,
             KeyLayout::Counted,
             fields,
@@ -145,7 +144,7 @@ fn behind_layout(
     let acts = fields.take_u32()?;
     let begun = fields.take_u64()?;
     let granted = fields.take_u64()?;
-    let sessions = items::long_list::<SessionEntry>(alloc, layout.keys(), fields)?;
+    let sessions = take_long_list::<SessionEntry>(alloc, layout.keys(), fields)?;
     let forgotten = forgotten(alloc, layout, fields)?;
     Ok(Snapshot {
         acts,
@@ -156,7 +155,7 @@ fn behind_layout(
     })
 }
 
-#[tactic(auto, unfolding(crate::specs::Snapshots::snapshot_at, frame_codec::specs::Tags::tagged))]
+#[tactic(auto, unfolding(crate::specs::Snapshots::snapshot_at, byte_fields::specs::Tags::tagged))]
 fn snapshot(alloc: Global, fields: &mut Fields) -> Result<Snapshot, FieldError>
     ensures { Reads snapshot_at fields.old fields.new result }
 {

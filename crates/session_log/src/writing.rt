@@ -5,28 +5,17 @@ ghost use Rattle.std.specs.Int.{w16, w32, w64, to_be_bytes};
 ghost use Rattle.byte_fields.specs.declared.layouts.KeyLayout.TheVariants as key_layout;
 ghost use Rattle.session_log.specs.declared.layouts.SnapshotLayout.TheVariants as layout;
 ghost use Rattle.byte_fields.specs.Layout.{FitsKeys, keys_bytes, ticket_bytes, list_bytes};
-ghost use Rattle.frame_codec.specs.Messages.{joined};
-ghost use Rattle.frame_codec.specs.Parts.{xid_bytes, branch_bytes, kind_code, truth_code};
+ghost use Rattle.byte_fields.specs.Parts.{joined, xid_bytes, branch_bytes, kind_code, truth_code};
 ghost use Rattle.session_log.specs.Records.{decision_code, FitsRecord, record_tag, record_bytes, fields_bytes};
-ghost use Rattle.session_log.specs.Lists.{long_list_bytes};
+ghost use Rattle.byte_fields.specs.LongLists.{long_list_bytes};
 ghost use Rattle.session_log.specs.Snapshots.{FitsBranchIn, branch_fields, failure_bytes, FitsEntryIn, entry_fields, FitsForgotten, forgotten_fields, all_forgotten_bytes, FitsSnapshot, snapshot_bytes, snapshot_fields};
 
 use crate::sessions::{Branch, Forgotten, RegisterPlace, SessionEntry, Snapshot};
 use crate::tags::*;
-use byte_fields::{put_keys, put_ticket, put_u8, put_u16, put_u32, put_u64};
+use byte_fields::{put_keys, put_kind, put_leg, put_ticket, put_u8, put_u16, put_u32, put_u64};
 use durable_records::SessionRecord;
-use seata_types::{BranchId, BranchKind, Decision, NoMemory, RowKey, Ticket, Xid};
+use seata_types::{BranchId, BranchKind, Decision, Leg, NoMemory, RowKey, Ticket, Xid};
 use std::alloc::Global;
-
-fn put_kind(out: &mut Vec<u8>, kind: BranchKind) -> Result<(), NoMemory>
-    ensures { OnOk result (out.new.items ≡ out.old.items ++ kind_code kind ∷ []) }
-{
-    let code = match kind {
-        BranchKind::At => 0,
-        BranchKind::Tcc => 1,
-    };
-    put_u8(out, code)
-}
 
 fn put_decision(out: &mut Vec<u8>, how: Decision) -> Result<(), NoMemory>
     ensures { OnOk result (out.new.items ≡ out.old.items ++ decision_code how ∷ []) }
@@ -55,11 +44,10 @@ fn put_begun(
     put_u64(out, timeout)
 }
 
-fn put_leg(out: &mut Vec<u8>, xid: Xid, branch: BranchId) -> Result<(), NoMemory>
-    ensures { OnOk result (out.new.items ≡ out.old.items ++ (xid_bytes xid ++ branch_bytes branch)) }
+fn leg(xid: Xid, branch: BranchId) -> Leg
+    ensures { result ≡ record { xid = xid; branch = branch } }
 {
-    put_u64(out, xid.0)?;
-    put_u64(out, branch.0)
+    Leg { xid, branch }
 }
 
 fn put_place(
@@ -117,7 +105,7 @@ fn put_fields(out: &mut Vec<u8>, item: &SessionRecord) -> Result<(), NoMemory>
             kind,
             hold,
         } => {
-            put_leg(out, *xid, *branch)?;
+            put_leg(out, leg(*xid, *branch))?;
             put_place(out, *resource, *call, *ticket, *kind, hold.as_slice())
         }
         SessionRecord::Decided { xid, how } => {
@@ -125,9 +113,9 @@ fn put_fields(out: &mut Vec<u8>, item: &SessionRecord) -> Result<(), NoMemory>
             put_decision(out, *how)
         }
         SessionRecord::Retrying { xid } => put_u64(out, xid.0),
-        SessionRecord::Ended { xid, branch } => put_leg(out, *xid, *branch),
+        SessionRecord::Ended { xid, branch } => put_leg(out, leg(*xid, *branch)),
         SessionRecord::Failed { xid, branch, stmt } => {
-            put_leg(out, *xid, *branch)?;
+            put_leg(out, leg(*xid, *branch))?;
             put_u16(out, *stmt)
         }
         SessionRecord::Finished { xid } => put_u64(out, xid.0),

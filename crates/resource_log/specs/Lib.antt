@@ -1,0 +1,4 @@
+pub mod Records
+pub mod Snapshots
+pub mod Soundness
+pub mod SnapshotOf
