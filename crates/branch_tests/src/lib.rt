@@ -1,11 +1,7 @@
-//! Tests of what a resource keeps of its branches, and of what its disks keep, over public calls.
+//! Tests of what a resource keeps of its branches, over public calls.
 #![tactic(auto)]
 
 #[cfg(test)]
 mod fences;
-#[cfg(test)]
-mod kept_records;
-#[cfg(test)]
-mod kept_snapshots;
 #[cfg(test)]
 mod undo_logs;

@@ -28,6 +28,7 @@ use Rattle.durable_records.specs.Transactions.{Session, session, session_for, de
 use Rattle.durable_records.specs.Branches.{Grant, branches, granted, next_branch, unended, unended_branch, all_at}
 use Rattle.durable_records.specs.Progress.{IsDone, Goes, status_by, status_of, may_decide, is_going, may_retry}
 use Rattle.durable_records.specs.Locks.{first_held}
+pub use Rattle.local_txn.specs.OpenTickets.{last_of}
 use Rattle.history_rules.specs.Own.{Own, still, sends}
 use Rattle.history_rules.specs.CoordinatorMemory.{Times, is_past, late_one, due_one, old_one}
 
@@ -151,11 +152,6 @@ module _ (rs : List SessionRecord) (now : ℕ) (q : Request) where
 abbrev pub first_of : {A : Type 0} → List A → Option A
 first_of [] = None
 first_of (x ∷ xs) = Some x
-
-abbrev pub last_of : {A : Type 0} → List A → Option A
-last_of [] = None
-last_of (x ∷ []) = Some x
-last_of (x ∷ y ∷ ys) = last_of (y ∷ ys)
 
 abbrev pub manager_of : Option Session → ℕ
 manager_of None = 0

@@ -30,6 +30,7 @@ use Rattle.durable_records.specs.Locks.{has_key}
 use Rattle.durable_records.specs.UndoRecords.{boots}
 use Rattle.durable_records.specs.RowsKept.{tables}
 use Rattle.durable_records.specs.ResourceOrder.{image_keys, read_keys}
+pub use Rattle.local_txn.specs.OpenTickets.{Owner, OfCall, OfLocal, Open, open_at, without, with_first, sent_again, counting, has_row, no_effect, opening_of}
 use Rattle.history_rules.specs.Own.{Event, Given, Own, Left, asked_act, kept_records, leaves}
 
 -- what a resource is: its number, its tables and their opening rows, how often a call tries for the global lock, the
@@ -61,21 +62,7 @@ local_in k ((number, stmts) ∷ rest) = if number == k then Some stmts else loca
 abbrev pub local_of : Setup → ℕ → Option (List Stmt)
 local_of s k = local_in k s.locals
 
--- ---- open tickets
-
--- what a ticket was opened for
-pub data Owner : Type 0 where
-  OfCall : (manager xid call : ℕ) → Work → Owner
-  OfLocal : (number : ℕ) → Owner
-
--- a local transaction that is open: its ticket, its effect on the tables at its opening (none of a TCC call), and how
--- often it met a conflict
-pub record Open : Type 0 where
-  pub ticket : Ticket
-  pub owner : Owner
-  pub images : List Image
-  pub reads : List ReadRow
-  pub conflicts : ℕ
+-- ---- what the entries leave
 
 -- what a resource's entries leave: its records with the one in flight; its open tickets, the one that was sent last first;
 -- and how many it opened since its boot
@@ -88,27 +75,7 @@ pub record Memory : Type 0 where
 abbrev pub next_ticket : Memory → Ticket
 next_ticket m = record { boot = boots m.left.records; seq = m.opened + 1 }
 
-abbrev pub open_at : List Open → Ticket → Option Open
-open_at opens t = find (λ o. same_ticket o.ticket t) opens
-
-abbrev pub without : List Open → Ticket → List Open
-without opens t = filter (λ o. not (same_ticket o.ticket t)) opens
-
-abbrev pub with_first : Option Open → List Open → List Open
-with_first None rest = rest
-with_first (Some o) rest = o ∷ rest
-
-abbrev pub counting : Ticket → ℕ → Open → Open
-counting t n o = if same_ticket o.ticket t then record o { conflicts = n } else o
-
--- whether an open ticket has a row: it touched or read it
-abbrev pub has_row : RowKey → Open → Bool
-has_row r o = has_key (image_keys o.images) r || has_key (read_keys o.reads) r
-
 -- ---- effects
-
-abbrev pub no_effect : Effect
-no_effect = record { images = []; reads = []; touched = [] }
 
 abbrev pub or_none : Result Effect (ℕ × StmtError) → Effect
 or_none (Ok e) = e
@@ -178,9 +145,6 @@ resource_record s rs opens event _ = None
 
 -- ---- after an entry
 
-abbrev pub opening_of : Ticket → Owner → Effect → Open
-opening_of t owner e = record { ticket = t; owner = owner; images = e.images; reads = e.reads; conflicts = 0 }
-
 -- the ticket that an event opens
 abbrev pub opened_for : Setup → Database → Ticket → Event → Option Open
 opened_for s db t (Given (input.Message from (message.Call xid manager resource call (work.At stmts)))) =
@@ -195,7 +159,7 @@ opened_for s db t _ = None
 abbrev pub opens_after : Setup → Database → Event → Act → List Open → List Open
 opens_after s db event (act.Opened xid call t) opens = with_first (opened_for s db t event) opens
 opens_after s db event (act.OpenedLocal k t) opens = with_first (opened_for s db t event) opens
-opens_after s db event (act.Resent t) opens = with_first (open_at opens t) (without opens t)
+opens_after s db event (act.Resent t) opens = sent_again t opens
 opens_after s db event (act.Conflicted t n) opens = map (counting t n) opens
 opens_after s db event (act.Dropped xid call t cause) opens = without opens t
 opens_after s db event (act.DroppedLocal k t key holder) opens = without opens t

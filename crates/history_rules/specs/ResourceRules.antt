@@ -43,33 +43,12 @@ use Rattle.durable_records.specs.UndoRecords.{Undo, undo_of, undos_of_call, is_m
 use Rattle.durable_records.specs.RowsKept.{tables}
 use Rattle.durable_records.specs.Fences.{FenceAnswer, Runs, WasDone, Suspends, Refuses, fence, tried_of_call, on_try, on_confirm, on_cancel}
 use Rattle.durable_records.specs.ResourceOrder.{image_keys, read_keys, only_read}
+pub use Rattle.local_txn.specs.OpenTickets.{ticket_with, with_ticket, busy_in, lesser_row, busy_row, is_for_call, is_for_local}
 use Rattle.history_rules.specs.Own.{still, sends}
 use Rattle.history_rules.specs.CoordinatorRules.{xid_of, branch_of, last_of}
 use Rattle.history_rules.specs.ResourceMemory.{Setup, Owner, OfCall, OfLocal, Open, Memory, opening_tables, action_of, local_of, next_ticket, open_at, opening_of, has_row, no_effect}
 
 -- ---- rows
-
--- the open ticket that has a row
-abbrev pub ticket_with : List Open → RowKey → Option Open
-ticket_with opens r = find (has_row r) opens
-
-abbrev pub with_ticket : RowKey → Option Open → Option (RowKey × Ticket) → Option (RowKey × Ticket)
-with_ticket k None rest = rest
-with_ticket k (Some o) rest = Some (k, o.ticket)
-
--- the first of these rows that an open ticket has, and that ticket
-abbrev pub busy_in : List Open → List RowKey → Option (RowKey × Ticket)
-busy_in opens [] = None
-busy_in opens (k ∷ ks) = with_ticket k (ticket_with opens k) (busy_in opens ks)
-
-abbrev pub lesser_row : Option (RowKey × Ticket) → Option (RowKey × Ticket) → Option (RowKey × Ticket)
-lesser_row None q = q
-lesser_row (Some p) None = Some p
-lesser_row (Some p) (Some q) = if is_lt (key_cmp q.0 p.0) then Some q else Some p
-
--- the least row of an effect that an open ticket has, and that ticket; images and reads stand in rising order
-abbrev pub busy_row : List Open → Effect → Option (RowKey × Ticket)
-busy_row opens e = lesser_row (busy_in opens (image_keys e.images)) (busy_in opens (read_keys e.reads))
 
 abbrev pub same_value : Value → Value → Bool
 same_value a b = is_at (value_cmp a) b
@@ -99,14 +78,6 @@ abbrev pub untouched : ℕ → List ℕ → Option ℕ
 untouched index [] = None
 untouched index (zero ∷ ns) = Some index
 untouched index (suc n ∷ ns) = untouched (index + 1) ns
-
-abbrev pub is_for_call : ℕ → ℕ → Owner → Bool
-is_for_call x c (OfCall m y d w) = (y == x) && (d == c)
-is_for_call x c (OfLocal k) = false
-
-abbrev pub is_for_local : ℕ → Owner → Bool
-is_for_local k (OfLocal j) = j == k
-is_for_local k (OfCall m y d w) = false
 
 -- ---- what a ticket asks the coordinator
 

@@ -1,1 +1,2 @@
 mod MapLaws
+pub mod RecordLaws

@@ -3,6 +3,7 @@
 #![tactic(auto)]
 
 mod fences;
+pub mod laws;
 pub mod statuses;
 
 pub use fences::Fence;

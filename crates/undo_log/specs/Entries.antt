@@ -1,9 +1,11 @@
 -- The undo log as one finite map from branches to entries.
-use Rattle.std.specs.Prelude.{◌≡◌, ℕ, ◌==◌, ◌&&◌, Bool, false, List, [], ◌∷◌, Option, Some, None, true, if◌then◌else◌, is_some, Result, Ok, Err}
+use Rattle.std.specs.Prelude.{◌≡◌, ℕ, ◌+◌, ◌==◌, ◌&&◌, Bool, false, List, [], ◌∷◌, Option, Some, None, true, if◌then◌else◌, is_some, Result, Ok, Err}
 use Rattle.std.specs.BTreeMap.{insert_entry, is_at}
 use Rattle.std.specs.Map.{lookup, remove_entry, keys_of}
 use Rattle.std.specs.List.Sorted.{IsStrictlySortedBy}
 use Rattle.std.specs.declared.cmp.Ordering.{Ordering}
+use Rattle.std.specs.declared.ops.Bound.{Bound}
+use Rattle.std.specs.declared.ops.Bound.TheVariants.{Included, Excluded, Unbounded}
 use Rattle.seata_types.specs.declared.ids.Leg.{Leg}
 use Rattle.durable_records.specs.Fences.{leg_cmp}
 use Rattle.undo_log.specs.declared.records.UndoEntry.{UndoEntry}
@@ -71,3 +73,14 @@ record_in entry.Finished = None
 abbrev pub record_of_call : (x c : ℕ) → Log → Option UndoRecord
 record_of_call x c [] = None
 record_of_call x c (e ∷ es) = if is_of_call x c e.0 e.1 then record_in e.1 else record_of_call x c es
+
+-- ---- the branches of one transaction
+
+abbrev pub leg_at : (x b : ℕ) → Leg
+leg_at x b = record { xid = record { 0 = x }; branch = record { 0 = b } }
+
+-- a bound past all branches of x: before the first of the next transaction, or none
+abbrev pub IsPast : ℕ → Bound Leg → Type 0
+IsPast x (Excluded leg) = leg ≡ leg_at (x + 1) 0
+IsPast x Unbounded = Unit {0}
+IsPast x (Included leg) = ⊥

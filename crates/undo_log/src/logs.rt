@@ -1,14 +1,15 @@
 //! The undo log.
 ghost use Rattle.std.specs.Prelude.{◌≡◌, ◌++◌, List as Items, None, if◌then◌else◌, OnOk};
 ghost use Rattle.std.specs.Option.{option_copied};
-ghost use Rattle.undo_log.specs.Entries.{is_of_call, record_in, with_record};
+ghost use Rattle.undo_log.specs.Entries.{is_of_call, record_in, with_record, leg_at, IsPast};
 ghost use Rattle.undo_log.specs.declared.records.UndoRecord.{UndoRecord as Record};
 
 use crate::records::{UndoEntry, UndoError, UndoRecord};
-use seata_types::{Duplicate, Leg, List, NoMemory, Xid};
+use seata_types::{BranchId, Duplicate, Leg, List, NoMemory, Xid};
 use std::alloc::Global;
 use std::collections::BTreeMap;
 use std::marker::Model;
+use std::ops::Bound;
 
 /// The undo log of one resource, after Seata's `undo_log`, whose key is transaction and branch. Contracts see its entries
 /// in this order.
@@ -67,7 +68,8 @@ impl UndoLog {
         ensures found { option_copied result ≡ record_of_call xid.0 call self.now }
         ensures in_order { IsInOrder self.now }
     {
-        for (leg, entry) in &self.entries {
+        let first = Bound::Included(first_leg(xid.0));
+        for (leg, entry) in self.entries.range((first, past(xid))) {
             if let Some(record) = of_call(*leg, entry, xid, call) {
                 return Some(record);
             }
@@ -93,6 +95,26 @@ impl UndoLog {
             add_record(alloc, &mut all, entry)?;
         }
         Ok(List::of(all))
+    }
+}
+
+/// Where the branches of a transaction begin.
+fn first_leg(xid: u64) -> Leg
+    ensures { result ≡ leg_at xid 0 }
+{
+    Leg {
+        xid: Xid(xid),
+        branch: BranchId(0),
+    }
+}
+
+/// Where the branches of a transaction end.
+fn past(xid: Xid) -> Bound<Leg>
+    ensures { IsPast xid.0 result }
+{
+    match xid.0.checked_add(1) {
+        Some(next) => Bound::Excluded(first_leg(next)),
+        None => Bound::Unbounded,
     }
 }
 

@@ -1,0 +1,124 @@
+-- What the code's open transactions are in the words of the rules, and what its calls answer.
+use Rattle.std.specs.Prelude.{◌≡◌, ℕ, zero, suc, ◌+◌, ◌-◌, ◌^◌, min, Bool, List, [], ◌∷◌, map, find, Option, Some, None, option_map, Result, Ok, Err}
+use Rattle.seata_types.specs.declared.copies.NoMemory.{NoMemory}
+use Rattle.seata_types.specs.declared.errors.StmtError.{StmtError}
+use Rattle.seata_types.specs.declared.ids.Ticket.{Ticket}
+use Rattle.seata_types.specs.declared.ids.Xid.{Xid}
+use Rattle.seata_types.specs.declared.rows.RowKey.{RowKey}
+use Rattle.seata_types.specs.declared.statements.Work.{Work}
+use Rattle.local_tables.specs.declared.schemas.Effect.{Effect}
+use Rattle.local_tables.specs.declared.schemas.EffectError.{EffectError}
+use Rattle.local_tables.specs.declared.schemas.EffectError.TheVariants as fault
+use Rattle.local_txn.specs.OpenTickets.{Owner, OfCall, OfLocal, Open, open_at, without, sent_again, counting, is_for_call, is_for_local, no_effect, opening_of, busy_row}
+use Rattle.local_txn.specs.declared.transactions.ExecError.{ExecError}
+use Rattle.local_txn.specs.declared.transactions.ExecError.TheVariants as error
+use Rattle.local_txn.specs.declared.transactions.OpenTxn.{OpenTxn}
+
+-- ---- the code's values
+
+-- a local transaction of no global one is a guarded one, and its call is its number
+abbrev pub owner_by : (xid manager call : ℕ) → Work → Owner
+owner_by zero m c w = OfLocal c
+owner_by (suc x) m c w = OfCall m (suc x) c w
+
+abbrev pub open_of : OpenTxn → Open
+open_of txn = record {
+  ticket = txn.ticket;
+  owner = owner_by txn.xid.0 txn.manager txn.call txn.work;
+  images = txn.images;
+  reads = txn.reads;
+  conflicts = txn.conflicts;
+}
+
+-- whether a ticket was opened for call c of x, or for local transaction c where x is 0
+abbrev pub is_for : (x c : ℕ) → Open → Bool
+is_for zero c o = is_for_local c o.owner
+is_for (suc x) c o = is_for_call (suc x) c o.owner
+
+abbrev pub ticket_of : Open → Ticket
+ticket_of o = o.ticket
+
+-- ---- all of them
+
+-- a resource's boot, how many tickets were opened since, and those that are open
+pub record Tickets : Type 0 where
+  pub boot : ℕ
+  pub opened : ℕ
+  pub opens : List Open
+
+abbrev pub no_tickets : ℕ → Tickets
+no_tickets boot = record { boot = boot; opened = 0; opens = [] }
+
+-- the ticket that is opened next
+abbrev pub new_ticket : Tickets → Ticket
+new_ticket ts = record { boot = ts.boot; seq = ts.opened + 1 }
+
+-- the ticket that was opened last
+abbrev pub last_ticket : Tickets → Ticket
+last_ticket ts = record { boot = ts.boot; seq = ts.opened }
+
+-- one more is open
+abbrev pub with_open : Tickets → Open → Tickets
+with_open ts o = record { boot = ts.boot; opened = ts.opened + 1; opens = o ∷ ts.opens }
+
+-- others are open than before
+abbrev pub with_opens : Tickets → List Open → Tickets
+with_opens ts opens = record { boot = ts.boot; opened = ts.opened; opens = opens }
+
+-- the ticket that was opened last isn't counted any more, nor is it open
+abbrev pub taken_back : Tickets → Ticket → Tickets
+taken_back ts t = record { boot = ts.boot; opened = ts.opened - 1; opens = without ts.opens t }
+
+-- ---- conflicts
+
+-- the count with one conflict more; it stands still at its type's end
+abbrev pub raised : Open → ℕ
+raised o = min (o.conflicts + 1) (2 ^ 32 - 1)
+
+abbrev pub counted : Option Open → Ticket → List Open → List Open
+counted None t opens = opens
+counted (Some o) t opens = map (counting t (raised o)) opens
+
+-- ---- openings
+
+-- a ticket is open for statements that have an effect, of rows that no open ticket has
+pub record Executed (old : Tickets) (owner : Owner) (meaning : Result Effect (ℕ × StmtError)) (t : Ticket) (new : Tickets) : Type 0 where
+  pub effect : Effect
+  pub means : meaning ≡ Ok effect
+  pub free : busy_row old.opens effect ≡ None
+  pub ticket : t ≡ new_ticket old
+  pub opens : new ≡ with_open old (opening_of t owner effect)
+
+-- another open ticket has a row of the effect, this one the least such row
+pub record IsBusy (opens : List Open) (meaning : Result Effect (ℕ × StmtError)) (key : RowKey) (by : Ticket) : Type 0 where
+  pub effect : Effect
+  pub means : meaning ≡ Ok effect
+  pub busy : busy_row opens effect ≡ Some (key, by)
+
+-- statements whose meaning on the tables is this open a ticket, or tell why there is none, and then all is as before; want
+-- of memory alone is free
+abbrev pub Executes : Tickets → Owner → Result Effect (ℕ × StmtError) → Result Ticket ExecError → Tickets → Type 0
+Executes old owner meaning (Ok t) new = Executed old owner meaning t new
+Executes old owner meaning (Err (error.Stmt index why)) new = (meaning ≡ Err (index, why)) × (new ≡ old)
+Executes old owner meaning (Err (error.Busy key by)) new = IsBusy old.opens meaning key by × (new ≡ old)
+Executes old owner meaning (Err error.NoMemory) new = new ≡ old
+
+-- the answer where statements have no effect
+abbrev pub refusal : EffectError → ExecError
+refusal (fault.At index why) = error.Stmt index why
+refusal fault.NoMemory = error.NoMemory
+
+-- the answer where a row is open, unless memory was refused
+abbrev pub TellsBusy : RowKey → Ticket → ExecError → Type 0
+TellsBusy r t (error.Stmt index why) = ⊥
+TellsBusy r t (error.Busy key by) = (key ≡ r) × (by ≡ t)
+TellsBusy r t error.NoMemory = Unit {0}
+
+-- a ticket is open that has no rows yet; without memory all is as before
+abbrev pub Prepares : Tickets → Owner → Result Ticket NoMemory → Tickets → Type 0
+Prepares old owner (Ok t) new = (t ≡ new_ticket old) × (new ≡ with_open old (opening_of t owner no_effect))
+Prepares old owner (Err e) new = new ≡ old
+
+-- where a ticket was opened last and nothing happened since, all is as before its opening
+abbrev pub TakesBack : Tickets → Ticket → Tickets → Type 0
+TakesBack old t new = (before : Tickets) (o : Open) → o.ticket ≡ t → old ≡ with_open before o → new ≡ before

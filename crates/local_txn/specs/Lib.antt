@@ -1,0 +1,3 @@
+pub mod OpenTickets
+pub mod Answers
+pub mod RowIndex
