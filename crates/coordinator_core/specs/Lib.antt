@@ -1,3 +1,4 @@
+pub mod Statuses
 pub mod Tracks
 pub mod Standing
 pub mod Answers

@@ -21,11 +21,10 @@ pub struct Coordinator {
 
 impl Coordinator {
     ghost use Rattle.std.specs.Prelude.{◌≡◌, [], List, ℕ, Option, Some, None, IsSome, ◌↔◌, ◌<◌, ◌≤◌};
-    ghost use Rattle.history_text.specs.Own.{Own};
-    ghost use Rattle.history_text.specs.CoordinatorRules.{begun};
+    ghost use Rattle.history_rules.specs.Own.{Own};
     ghost use Rattle.coordinator_core.specs.declared.nodes.TheConstants.{NODE_STEPS};
     ghost use Rattle.coordinator_core.specs.Standing.{StandsFor, retry_of, steps_of};
-    ghost use Rattle.coordinator_core.specs.Tracks.{session_of};
+    ghost use Rattle.coordinator_core.specs.Tracks.{begun, records, session_of};
 
     /// A coordinator that asks again after so many ticks; takes no memory.
     #[tactic(auto, unfolding(crate::specs::Standing::StandsFor))]
@@ -51,7 +50,7 @@ impl Coordinator {
     /// How many transactions began: they are numbered from 1 to this.
     #[tactic(auto, unfolding(crate::specs::Standing::StandsFor))]
     pub fn begun(&self) -> usize
-        ensures { (owns : List Own) → StandsFor self.now owns → result ≡ begun owns }
+        ensures { (owns : List Own) → StandsFor self.now owns → result ≡ begun (records owns) }
     {
         self.table.len()
     }
@@ -59,10 +58,9 @@ impl Coordinator {
 
 impl Node for Coordinator {
     ghost use Rattle.std.specs.Prelude.{false};
-    ghost use Rattle.history_text.specs.Rules.{Coordinator as CoordinatorRole};
-    ghost use Rattle.coordinator_core.specs.Standing.{StandsFor, retry_of, steps_of};
+    ghost use Rattle.coordinator_core.specs.Standing.{StandsFor, retry_of, role_of, steps_of};
 
-    ghost role = { λ c. CoordinatorRole (retry_of c) };
+    ghost role = { λ c. role_of (retry_of c) };
 
     ghost stands_for = { StandsFor };
 

@@ -1,6 +1,7 @@
 //! Global sessions.
 ghost use Rattle.std.specs.Prelude.{◌≡◌, ◌+◌, ◌&&◌, nat_lt, nat_le, if◌then◌else◌, Some, None};
-ghost use Rattle.history_text.specs.CoordinatorRules as rules;
+ghost use Rattle.history_rules.specs.CoordinatorMemory.{or_this as or_this_one, sooner as sooner_one};
+ghost use Rattle.coordinator_core.specs.Statuses as statuses;
 
 use seata_types::{Decision, GlobalStatus};
 
@@ -16,14 +17,14 @@ pub struct Session {
 
 /// Whether a session may be decided.
 pub fn is_begin(status: GlobalStatus) -> bool
-    ensures { result ≡ rules.is_begin status }
+    ensures { result ≡ statuses.is_begin status }
 {
     matches!(status, GlobalStatus::Begin)
 }
 
 /// Whether a session is decided, and neither finished nor failed.
 pub fn is_decided(status: GlobalStatus) -> bool
-    ensures { result ≡ rules.is_decided status }
+    ensures { result ≡ statuses.is_decided status }
 {
     matches!(
         status,
@@ -40,14 +41,14 @@ pub fn is_decided(status: GlobalStatus) -> bool
 impl Session {
     /// Whether it may be decided and is past its timeout.
     pub fn is_late(&self, now: u64) -> bool
-        ensures { result ≡ (rules.is_begin self.now.status && nat_lt (self.now.begun + self.now.timeout) now) }
+        ensures { result ≡ (statuses.is_begin self.now.status && nat_lt (self.now.begun + self.now.timeout) now) }
     {
         is_begin(self.status) && now.saturating_sub(self.begun) > self.timeout
     }
 
     /// The moment from which it is due, where it is by now.
     pub fn due_by(&self, now: u64) -> Option<u64>
-        ensures { result ≡ (if rules.is_decided self.now.status && nat_le self.now.due now then Some self.now.due else None) }
+        ensures { result ≡ (if statuses.is_decided self.now.status && nat_le self.now.due now then Some self.now.due else None) }
     {
         if is_decided(self.status) && self.due <= now {
             return Some(self.due);
@@ -58,7 +59,7 @@ impl Session {
 
 /// The status that a decision gives.
 pub fn decided_status(how: Decision) -> GlobalStatus
-    ensures { result ≡ rules.decided_status how }
+    ensures { result ≡ statuses.decided_status how }
 {
     match how {
         Decision::Commit => GlobalStatus::AsyncCommitting,
@@ -69,7 +70,7 @@ pub fn decided_status(how: Decision) -> GlobalStatus
 
 /// The status that ends a decided session.
 pub fn finished_status(status: GlobalStatus) -> GlobalStatus
-    ensures { result ≡ rules.finished_status status }
+    ensures { result ≡ statuses.finished_status status }
 {
     match status {
         GlobalStatus::Committing | GlobalStatus::CommitRetrying | GlobalStatus::AsyncCommitting => {
@@ -85,7 +86,7 @@ pub fn finished_status(status: GlobalStatus) -> GlobalStatus
 
 /// The first of two, where there is one: the one found, or this one where it passes.
 pub fn or_this(found: Option<u64>, passes: bool, x: u64) -> Option<u64>
-    ensures { result ≡ rules.or_this found passes x }
+    ensures { result ≡ or_this_one found passes x }
 {
     match found {
         Some(first) => Some(first),
@@ -95,7 +96,7 @@ pub fn or_this(found: Option<u64>, passes: bool, x: u64) -> Option<u64>
 
 /// The one with the lesser moment, the first where they tie.
 pub fn sooner(found: Option<(u64, u64)>, x: u64, moment: Option<u64>) -> Option<(u64, u64)>
-    ensures { result ≡ rules.sooner found x moment }
+    ensures { result ≡ sooner_one found x moment }
 {
     match (found, moment) {
         (first, None) => first,

@@ -27,12 +27,14 @@ impl Table {
     ghost use Rattle.seata_types.specs.declared.acts.Durable.TheVariants as durable;
     ghost use Rattle.seata_types.specs.declared.messages.Input.TheVariants as input;
     ghost use Rattle.seata_types.specs.declared.messages.Message.TheVariants as message;
-    ghost use Rattle.history_text.specs.Own.{Own};
-    ghost use Rattle.history_text.specs.Own as own;
-    ghost use Rattle.history_text.specs.CoordinatorRules as rules;
-    ghost use Rattle.history_text.specs.CoordinatorRules.{begun, status_of, is_late, due_by, least, soonest, transaction_of};
+    ghost use Rattle.durable_records.specs.Progress.{status_of};
+    ghost use Rattle.history_rules.specs.Own.{Own};
+    ghost use Rattle.history_rules.specs.Own as own;
+    ghost use Rattle.history_rules.specs.CoordinatorMemory.{is_late, least, soonest, due_moment};
     ghost use Rattle.history_text.specs.Framing.{SendsFramable};
-    ghost use Rattle.coordinator_core.specs.Tracks.{Tracks, Sets, Adds, IsSame, session_of, numbered};
+    ghost use Rattle.coordinator_core.specs.Standing.{times_of};
+    ghost use Rattle.coordinator_core.specs.Statuses.{decided_status as status_decided, finished_status as status_finished};
+    ghost use Rattle.coordinator_core.specs.Tracks.{Tracks, Sets, Adds, IsSame, begun, records, session_of, numbered};
     ghost use Rattle.coordinator_core.specs.Answers.{IsAnswered, Answers};
 
     /// An empty table; takes no memory.
@@ -57,14 +59,14 @@ impl Table {
 
     /// How many transactions began.
     pub fn len(&self) -> usize
-        ensures { (owns : List Own) → Tracks self.now owns → result ≡ begun owns }
+        ensures { (owns : List Own) → Tracks self.now owns → result ≡ begun (records owns) }
     {
         self.sessions.len()
     }
 
     /// The status of a transaction.
     fn status(&self, xid: Xid) -> GlobalStatus
-        ensures { (owns : List Own) → Tracks self.now owns → result ≡ status_of owns xid.0 }
+        ensures { (owns : List Own) → Tracks self.now owns → result ≡ status_of (records owns) xid.0 }
     {
         match self.sessions.get(&xid.0) {
             Some(session) => session.status,
@@ -74,7 +76,7 @@ impl Table {
 
     /// Whether a transaction may be decided and is past its timeout.
     fn is_late(&self, xid: Xid, now: u64) -> bool
-        ensures { (owns : List Own) → Tracks self.now owns → result ≡ is_late owns now xid.0 }
+        ensures { (owns : List Own) → Tracks self.now owns → result ≡ is_late (records owns) now xid.0 }
     {
         match self.sessions.get(&xid.0) {
             Some(session) => session.is_late(now),
@@ -84,7 +86,7 @@ impl Table {
 
     /// The session at a place, with its number: the places are in the order of the beginnings.
     fn session_at(&self, k: usize) -> Option<(u64, Session)>
-        ensures found { (owns : List Own) → Tracks self.now owns → k < begun owns
+        ensures found { (owns : List Own) → Tracks self.now owns → k < begun (records owns)
             → result ≡ option_map (numbered (k + 1)) (session_of self.now.retry owns (k + 1)) }
         ensures within { IsSome result ↔ (k < index_map_len self.now.sessions) }
     {
@@ -96,7 +98,7 @@ impl Table {
 
     /// The least transaction that is late.
     fn least_late(&self, now: u64) -> Option<u64>
-        ensures { (owns : List Own) → Tracks self.now owns → result ≡ least (is_late owns now) (begun owns) }
+        ensures { (owns : List Own) → Tracks self.now owns → result ≡ least (is_late (records owns) now) (begun (records owns)) }
     {
         let mut found = None;
         for k in 0..self.sessions.len() {
@@ -109,7 +111,7 @@ impl Table {
 
     /// The transaction that is due first by now, with its moment.
     fn first_due(&self, now: u64) -> Option<(u64, u64)>
-        ensures { (owns : List Own) → Tracks self.now owns → result ≡ soonest (due_by self.now.retry owns now) (begun owns) }
+        ensures { (owns : List Own) → Tracks self.now owns → result ≡ soonest (due_moment (times_of self.now.retry) [] owns (records owns) now) (begun (records owns)) }
     {
         let mut found = None;
         for k in 0..self.sessions.len() {
@@ -183,7 +185,7 @@ impl Table {
             begun: now,
             timeout,
             status: GlobalStatus::Begin,
-            due: now,
+            due: 0,
         };
         self.add(manager, x, session)?;
         let xid = Xid(x);
@@ -193,7 +195,7 @@ impl Table {
 
     /// Decides a transaction that may be decided.
     fn decide(&mut self, xid: Xid, how: Decision, now: u64)
-        ensures { Sets self.old self.new xid.0 (rules.decided_status how) now }
+        ensures { Sets self.old self.new xid.0 (status_decided how) now }
     {
         self.set(xid.0, decided_status(how), now);
     }
@@ -269,9 +271,9 @@ impl Table {
 
     /// Finishes a decided transaction, whose due moment stays.
     fn finish(&mut self, xid: Xid, due: u64) -> Step
-        ensures sets { (owns : List Own) → Tracks self.old owns → Sets self.old self.new xid.0 (rules.finished_status (status_of owns xid.0)) due }
+        ensures sets { (owns : List Own) → Tracks self.old owns → Sets self.old self.new xid.0 (status_finished (status_of (records owns) xid.0)) due }
         ensures framable { SendsFramable result }
-        ensures act { (owns : List Own) → Tracks self.old owns → result ≡ own.still (act.Durable (durable.Finished xid (rules.finished_status (status_of owns xid.0)))) }
+        ensures act { (owns : List Own) → Tracks self.old owns → result ≡ own.still (act.Durable (durable.Finished xid (status_finished (status_of (records owns) xid.0)))) }
         ensures same { self.new.retry ≡ self.old.retry }
         ensures same_count { index_map_len self.new.sessions ≡ index_map_len self.old.sessions }
     {

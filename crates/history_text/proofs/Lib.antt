@@ -1,4 +1,3 @@
-mod Decided
-mod Runs
+pub mod Served
 mod Texts
-pub mod Turns
+pub mod Worlds

@@ -1,10 +1,7 @@
 pub mod Notes
-pub mod Own
-pub mod CoordinatorRules
-pub mod ManagerRules
-pub mod Rules
+pub mod Promises
 pub mod Framing
+pub mod Worlds
 pub mod History
 pub mod Lines
 pub mod Report
-pub mod Safety

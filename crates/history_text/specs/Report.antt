@@ -1,23 +1,34 @@
--- The report of a history: its entries, and what they say of the sessions, the locks and the rows.
-use Rattle.std.specs.Prelude.{ℕ, zero, suc, List, [], ◌∷◌, ◌++◌, map, Option, Some, None, codes}
+-- The report of a history: its entries, and what they say of the sessions, the locks, the rows and the fences.
+use Rattle.std.specs.Prelude.{ℕ, List, [], ◌∷◌, ◌++◌, map, Option, Some, None, codes}
 use Rattle.std.specs.Fmt.{decimal}
 use Rattle.seata_types.specs.Statuses.{code_of}
 use Rattle.seata_types.specs.declared.ids.Place.TheVariants as place
+use Rattle.seata_types.specs.declared.rows.Row.{Row}
+use Rattle.seata_types.specs.declared.rows.RowKey.{RowKey}
 use Rattle.seata_types.specs.declared.statuses.GlobalStatus.{GlobalStatus}
 use Rattle.seata_types.specs.declared.statuses.GlobalStatus.TheVariants as status
+use Rattle.durable_records.specs.Fences.{Fence, IsTried, IsCommitted, IsRollbacked, IsSuspended}
 use Rattle.scenario_reader.specs.declared.scenarios.ManagerDef.{ManagerDef}
 use Rattle.scenario_reader.specs.declared.scenarios.ResourceDef.{ResourceDef}
 use Rattle.scenario_reader.specs.declared.scenarios.Scenario.{Scenario}
+use Rattle.history_rules.specs.CoordinatorRules.{xid_of, branch_of}
+use Rattle.history_rules.specs.Nodes.{no_past}
+use Rattle.history_rules.specs.Histories.{Moment}
+use Rattle.history_rules.specs.Reports.{Report, SessionLine, ReadLine}
+use Rattle.history_rules.specs.Reports.{report as report_of}
 use Rattle.history_text.specs.declared.entries.Entry.{Entry}
 use Rattle.history_text.specs.declared.entries.Names.{Names}
-use Rattle.history_text.specs.Own.{Own}
-use Rattle.history_text.specs.CoordinatorRules.{begun, beginning, manager_of, status_of, xid_of}
-use Rattle.history_text.specs.History.{Moment, entries, own}
-use Rattle.history_text.specs.Lines.{entry_text, place_text, xid_text}
+use Rattle.history_text.specs.History.{entries}
+use Rattle.history_text.specs.Lines.{entry_text, place_text, name_text, xid_text, branch_text, leg_text, lock_text, row_text}
+use Rattle.history_text.specs.Worlds.{world_of}
 
--- a text with its line feed
+-- a text with its line feed, and a line for each of a list
 abbrev pub line : List ℕ → List ℕ
 line text = text ++ 10 ∷ []
+
+abbrev pub lines : {A : Type 0} → (A → List ℕ) → List A → List ℕ
+lines text [] = []
+lines text (a ∷ rest) = line (text a) ++ lines text rest
 
 -- the names of a scenario's nodes
 abbrev pub manager_name : ManagerDef → List ℕ
@@ -29,10 +40,7 @@ resource_name def = def.name
 abbrev pub names_of : Scenario → Names
 names_of s = record { resources = map resource_name s.resources; managers = map manager_name s.managers }
 
--- the lines of the entries
-abbrev pub entry_lines : Names → List Entry → List ℕ
-entry_lines names [] = []
-entry_lines names (e ∷ es) = line (entry_text names e) ++ entry_lines names es
+-- ---- sessions
 
 -- Seata's name of a session's status
 abbrev pub status_name : GlobalStatus → List ℕ
@@ -53,27 +61,57 @@ status_name status.TimeoutRollbacked = codes "TimeoutRollbacked"
 status_name status.TimeoutRollbackFailed = codes "TimeoutRollbackFailed"
 status_name status.Finished = codes "Finished"
 
--- a transaction, its manager, and its status with the name
-abbrev pub session_text : Names → ℕ → ℕ → GlobalStatus → List ℕ
-session_text names x manager now_status =
-    xid_text (xid_of x) ++ (codes " " ++ (place_text names (place.Man manager) ++ (codes " " ++ (decimal (code_of now_status) ++
-    (codes " " ++ (status_name now_status ++ 10 ∷ []))))))
+-- the branch and the statement at which a session failed
+abbrev pub failed_text : Option (ℕ × ℕ) → List ℕ
+failed_text None = []
+failed_text (Some (b, stmt)) = codes " " ++ (branch_text (branch_of b) ++ (codes " stmt " ++ decimal stmt))
 
-abbrev pub session_line_of : Names → ℕ → GlobalStatus → Option Own → List ℕ
-session_line_of names x now_status None = []
-session_line_of names x now_status (Some o) = session_text names x (manager_of o.event) now_status
+-- a transaction, its manager, its status with the name, and where it failed
+abbrev pub session_text : Names → SessionLine → List ℕ
+session_text names l =
+    xid_text (xid_of l.xid) ++ (codes " " ++ (place_text names (place.Man l.manager) ++ (codes " " ++ (decimal (code_of l.status) ++
+    (codes " " ++ (status_name l.status ++ failed_text l.failed))))))
 
--- the lines of the transactions 1 to n
-abbrev pub session_lines : Names → List Own → ℕ → List ℕ
-session_lines names os zero = []
-session_lines names os (suc n) = session_lines names os n ++ session_line_of names (suc n) (status_of os (suc n)) (beginning os (suc n))
+-- ---- rows and fences
 
--- the text of a report: the entries in order, the sessions in order of their numbers, and the headings of what has no rows
-unfoldable pub report_text : Names → List Entry → List Own → List ℕ
-report_text names es os =
-    line (codes "entries") ++ (entry_lines names es ++ (line (codes "sessions") ++ (session_lines names os (begun os) ++
-    (line (codes "locks") ++ (line (codes "tables") ++ (line (codes "fences") ++ line (codes "reads")))))))
+-- a row that is held, and its holder
+abbrev pub holder_text : Names → RowKey × ℕ → List ℕ
+holder_text names (key, x) = lock_text names key (xid_of x)
 
--- the report of a history
+-- a row, as `A.acc (1, 900)`
+abbrev pub table_row_text : Names → RowKey × Row → List ℕ
+table_row_text names (key, row) =
+    name_text (codes "r") names.resources key.resource ++ (codes "." ++ (key.table ++ (codes " " ++ row_text row)))
+
+-- a fence's status, as in Seata's `tcc_fence_log`
+abbrev pub fence_name : Fence → List ℕ
+fence_name IsTried = codes "tried"
+fence_name IsCommitted = codes "committed"
+fence_name IsRollbacked = codes "rollbacked"
+fence_name IsSuspended = codes "suspended"
+
+-- a resource, a branch that has a fence there, and the fence's status
+abbrev pub fence_text : Names → ℕ × ((ℕ × ℕ) × Fence) → List ℕ
+fence_text names (n, ((x, b), fence)) =
+    name_text (codes "r") names.resources n ++ (codes " " ++ (leg_text (xid_of x) (branch_of b) ++ (codes " " ++ fence_name fence)))
+
+-- a branch, and a row that its local commit read
+abbrev pub read_text : Names → ReadLine → List ℕ
+read_text names l = leg_text (xid_of l.xid) (branch_of l.branch) ++ (codes " " ++ table_row_text names (l.key, l.row))
+
+-- ---- the report
+
+-- the sections after the entries
+abbrev pub sections_text : Names → Report → List ℕ
+sections_text names r =
+    line (codes "sessions") ++ (lines (session_text names) r.sessions ++ (line (codes "locks") ++ (lines (holder_text names) r.locks ++
+    (line (codes "tables") ++ (lines (table_row_text names) r.tables ++ (line (codes "fences") ++ (lines (fence_text names) r.fences ++
+    (line (codes "reads") ++ lines (read_text names) r.reads))))))))
+
+-- the text of a report, with these entries
+unfoldable pub report_text : Names → List Entry → Report → List ℕ
+report_text names es r = line (codes "entries") ++ (lines (entry_text names) es ++ sections_text names r)
+
+-- the report of a history of a scenario
 unfoldable pub report : Scenario → List Moment → List ℕ
-report s ms = report_text (names_of s) (entries ms) (own place.Tc ms)
+report s ms = report_text (names_of s) (entries ms) (report_of (world_of s) no_past ms)

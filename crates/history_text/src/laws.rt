@@ -1,12 +1,8 @@
-//! What holds of every legal history.
-ghost use Rattle.history_text.specs.Safety.{DecidesOnce, StatusesFollow};
+//! What holds of the nodes of every scenario.
+ghost use Rattle.scenario_reader.specs.declared.scenarios.Scenario.{Scenario};
+ghost use Rattle.history_text.specs.Worlds.{AreNumbered, world_of};
 
-/// Each transaction is decided at most once, and finished only after its decision.
-pub fn transactions_are_decided_once()
-    ensures { DecidesOnce }
-{}
-
-/// The status of a transaction only ever changes along the table of `GlobalStatus::may_follow`, from its beginning on.
-pub fn statuses_follow_the_table()
-    ensures { StatusesFollow }
+/// Each resource of a scenario stands at its number, counted from 1.
+pub fn resources_stand_at_their_numbers()
+    ensures { (s : Scenario) → AreNumbered (world_of s) }
 {}

@@ -1,6 +1,5 @@
-//! Histories: the entries that are printed, the trait of the nodes that make them, and in `specs/`
-//! the rules that say which histories are legal. Everything that the program promises is said in
-//! the words of `specs/`.
+//! The histories of a scenario: its nodes and its schedule in the words of the rules of all nodes, the
+//! entries and the report that are printed of a history, and the trait of the nodes that make one.
 #![tactic(auto)]
 
 mod acts;

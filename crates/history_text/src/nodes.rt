@@ -8,9 +8,10 @@ pub trait Node {
     ghost use Rattle.std.specs.Prelude.{◌≡◌, ◌+◌, ◌^◌, ◌<◌, ◌≤◌, ℕ, Bool, false, List, IfOk, IfErr};
     ghost use Rattle.disk_model.specs.Disk.{Rose};
     ghost use Rattle.seata_types.specs.declared.errors.Full.{Full};
-    ghost use Rattle.history_text.specs.Own.{Own};
+    ghost use Rattle.history_rules.specs.Own.{Own};
+    ghost use Rattle.history_rules.specs.Nodes.{Role};
     ghost use Rattle.history_text.specs.Framing.{ComesFramable, SendsFramable};
-    ghost use Rattle.history_text.specs.Rules.{Role, place_of, TakesStep, AfterError, HasCause, steps_of, goes_down};
+    ghost use Rattle.history_text.specs.Promises.{place_of, TakesStep, AfterError, HasCause, steps_of, goes_down};
 
     // what it is, with its settings
     ghost role: { Self → Role };
@@ -34,8 +35,9 @@ pub trait Node {
     fn place(&self) -> Place
         ensures { result ≡ place_of (role self.now) };
 
-    /// Takes a turn or a message, at this moment in ticks: the one answer of the rules. After want
-    /// of memory and `Full` the node is as before; after `Failed` it is down with the act in flight.
+    /// Takes a turn or a message, at this moment in ticks: what happens by the rules of all nodes, where
+    /// the input is one that is served. After want of memory and `Full` the node is as before; after
+    /// `Failed` it is down with the act in flight.
     fn step(&mut self, alloc: Global, input: Input, now: u64) -> Result<Step, NodeError>
         requires up { down self.old ≡ false }
         requires able { 0 < left self.old }

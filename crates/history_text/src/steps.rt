@@ -2,7 +2,7 @@
 ghost use Rattle.std.specs.Prelude.{◌≡◌};
 ghost use Rattle.frame_codec.specs.Limits.{IsFramable};
 ghost use Rattle.history_text.specs.Framing.{SendsFramable};
-ghost use Rattle.history_text.specs.Own as own;
+ghost use Rattle.history_rules.specs.Own as own;
 
 use seata_types::{Act, Message, Outgoing, Place, Step};
 

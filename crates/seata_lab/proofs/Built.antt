@@ -1,29 +1,62 @@
 -- What holds of a scenario all of which can be run, and that no other scenario has the same bytes.
-use Rattle.std.proofs.Common.{◌≡◌, ◌≤◌, ◌<◌, ℕ, Bool, false, List, [], ◌∷◌, length, slice_get, get_or, All, position, Option, Some, None, option_map, Result, Ok, Err, refl, ap, sym, subst, ◌∙◌, arith}
+use Rattle.std.proofs.Common.{◌≡◌, ◌≤◌, ◌<◌, ◌+◌, ℕ, zero, suc, Bool, true, false, List, [], ◌∷◌, ◌++◌, length, slice_get, get_or, map, All, position, Option, Some, None, option_map, Result, Ok, Err, refl, ap, sym, subst, ◌∙◌, arith}
 use Rattle.std.proofs.lemmas.Grind.{common_steps}
 use Rattle.std.proofs.lemmas.List.Sums.{fails_before_first}
 use Rattle.std.proofs.lemmas.Option.{same_Some, slice_get_within, get_or_from_slice_get}
 use Rattle.std.specs.List.{position_or_len}
 use Rattle.std.specs.Option.{option_or}
 use Rattle.seata_types.specs.declared.statements.Stmt.{Stmt}
+use Rattle.seata_types.specs.declared.statements.Work.{Work}
+use Rattle.scenario_reader.specs.Contents.{IsCall, resource_numbered}
+use Rattle.scenario_reader.specs.declared.scenarios.ManagerDef.{ManagerDef}
+use Rattle.scenario_reader.specs.declared.scenarios.ScheduleItem.TheVariants as item
 use Rattle.scenario_reader.specs.Form.{scenario_of}
 use Rattle.scenario_reader.specs.Reading.{IsScenario, IsScenarioOf, IsJson, with_base}
 use Rattle.scenario_reader.specs.declared.errors.ScenarioError.{ScenarioError}
 use Rattle.scenario_reader.specs.declared.scenarios.ResourceDef.{ResourceDef}
 use Rattle.scenario_reader.specs.declared.scenarios.Scenario.{Scenario}
 use Rattle.scenario_reader.specs.declared.scenarios.ScheduleItem.{ScheduleItem}
-use Rattle.scenario_reader.specs.Runnable.{FitsNodes, IsRunnable}
+use Rattle.scenario_reader.specs.Runnable.{FitsNodes, IsManager, IsRunnable}
+use Rattle.history_rules.specs.Schedules.{Item, singles, singles_of}
+use Rattle.history_text.proofs.Worlds.{resources_of-none}
+use Rattle.history_text.specs.Worlds.{item_of, items_of}
 use Rattle.seata_lab.specs.declared.unbuilt.Unbuilt.{Unbuilt}
 use Rattle.seata_lab.specs.declared.unbuilt.Unbuilt.TheVariants as part
 use Rattle.seata_lab.specs.declared.runner.Run.{Run}
-use Rattle.seata_lab.specs.Unbuilt.{first_unbuilt, forget_part, resource_part, managers_part, local_part, step_part, is_unbuilt, IsBuilt}
-use Rattle.seata_lab.specs.Runs.{Fits}
+use Rattle.seata_lab.specs.Unbuilt.{first_unbuilt, forget_part, resource_part, manager_part, managers_part, call_part, poll_part, local_part, step_part, is_unbuilt, IsBuilt}
+use Rattle.seata_lab.specs.Runs.{CanRun, Fits}
 
 -- ---- a scenario all of which can be run
 
 neither : (a b : Option Unbuilt) → option_or a b ≡ None → (a ≡ None) × (b ≡ None)
 neither None b e = (refl, e)
 neither (Some p) b e = absurd (let no : Some p ≡ None = e in cc)
+
+no_forgetting : (ticks : ℕ) → forget_part ticks ≡ None → ticks ≡ 0
+no_forgetting zero e = refl
+no_forgetting (suc ticks) e = absurd (let no : Some part.Forget ≡ None = e in cc)
+
+no_poll : (k : ℕ) (poll : Bool) → poll_part k poll ≡ None → poll ≡ false
+no_poll k false e = refl
+no_poll k true e = absurd (let no : Some (part.Poll k) ≡ None = e in cc)
+
+-- the same of each manager
+no_polls : (n : ℕ) (defs : List ManagerDef) → managers_part n defs ≡ None → (k : ℕ) (def : ManagerDef) → slice_get defs k ≡ Some def → def.poll ≡ false
+no_polls n [] e k def at = absurd (let no : None ≡ Some def = at in cc)
+no_polls n (first ∷ defs) e zero def at =
+    let same = same_Some first def at in
+    let here = neither (manager_part n first) (managers_part (n + 1) defs) e in
+    ap (λ (d : ManagerDef). d.poll) (sym same) ∙ no_poll n first.poll (neither (call_part n first.calls) (poll_part n first.poll) here.0).1
+no_polls n (first ∷ defs) e (suc k) def at = no_polls (n + 1) defs (neither (manager_part n first) (managers_part (n + 1) defs) e).1 k def at
+
+-- where there are no resources, there are no calls
+no_calls : (calls : List (ℕ × Work)) → All (IsCall []) calls → calls ≡ []
+no_calls [] each = refl
+no_calls (call ∷ calls) each = let (def, there, is) = each 0 call (omega arith) in absurd (none_there call.0 def there)
+  where
+    none_there : (n : ℕ) (def : ResourceDef) → resource_numbered [] n ≡ Some def → ⊥
+    none_there zero def e = let no : None ≡ Some def = e in cc
+    none_there (suc n) def e = let no : None ≡ Some def = e in cc
 
 no_resources : (defs : List ResourceDef) → resource_part defs ≡ None → length defs ≡ 0
 no_resources [] e = refl
@@ -49,7 +82,9 @@ all_built items e = position-None is_unbuilt items (none_found (position is_unbu
 
 -- its parts
 record HasParts (s : Scenario) : Type 0 where
+  pub forget : s.forget ≡ 0
   pub resources : length s.resources ≡ 0
+  pub polls : (k : ℕ) (def : ManagerDef) → slice_get s.managers k ≡ Some def → def.poll ≡ false
   pub locals : length s.locals ≡ 0
   pub steps : All (λ item. is_unbuilt item ≡ false) s.schedule
 
@@ -61,8 +96,58 @@ has_parts s built =
     let from_managers = option_or (managers_part 0 s.managers) from_locals in
     let some = neither (forget_part s.forget) (option_or (resource_part s.resources) from_managers) built in
     let more = neither (resource_part s.resources) from_managers some.1 in
-    let rest = neither (local_part s.locals) steps (neither (managers_part 0 s.managers) from_locals more.1).1 in
-    record { resources = no_resources s.resources more.0; locals = no_locals s.locals rest.0; steps = all_built s.schedule rest.1 }
+    let users = neither (managers_part 0 s.managers) from_locals more.1 in
+    let rest = neither (local_part s.locals) steps users.1 in
+    record {
+      forget = no_forgetting s.forget some.0;
+      resources = no_resources s.resources more.0;
+      polls = no_polls 0 s.managers users.0;
+      locals = no_locals s.locals rest.0;
+      steps = all_built s.schedule rest.1;
+    }
+
+-- a list without members
+none_of : {A : Type 0} (xs : List A) → length xs ≡ 0 → xs ≡ []
+none_of [] e = refl
+none_of (x ∷ xs) e = absurd (omega (arith, e))
+
+-- a step that is built is one step
+single_item : (i : ScheduleItem) → is_unbuilt i ≡ false → singles_of (item_of i) ≡ item_of i ∷ []
+single_item (item.Turn place) e = refl
+single_item (item.Deliver stamp) e = refl
+single_item (item.Wait ticks) e = refl
+single_item (item.Stop place calls) e = refl
+single_item (item.Crash place) e = refl
+single_item (item.Restart place pick calls) e = refl
+single_item (item.Local number) e = refl
+single_item (item.Outside number) e = refl
+single_item (item.Auto steps) e = absurd (let no : true ≡ false = e in cc)
+
+single_items : (items : List ScheduleItem) → All (λ i. is_unbuilt i ≡ false) items → singles (map item_of items) ≡ map item_of items
+single_items [] built = refl
+single_items (i ∷ items) built =
+    let first : is_unbuilt i ≡ false = built 0 i (omega arith) in
+    let rest : All (λ j. is_unbuilt j ≡ false) items = λ k d below. built (suc k) d (omega (arith, below)) in
+    rw (single_item i first, single_items items rest) refl
+
+-- the nodes of today can run it
+pub can_run : (s : Scenario) → IsRunnable s → IsBuilt s → CanRun s
+can_run s runnable built =
+    let has = has_parts s built in
+    let none : s.resources ≡ [] = none_of s.resources has.resources in
+    record {
+      keeps = has.forget;
+      alone = resources_of-none s none;
+      quiet = λ k def at. (calls none k def at, has.polls k def at);
+      single = single_items s.schedule has.steps;
+    }
+  where
+    calls : s.resources ≡ [] → (k : ℕ) (def : ManagerDef) → slice_get s.managers k ≡ Some def → def.calls ≡ []
+    calls none k def at =
+        let below = slice_get_within s.managers k def at in
+        let is : get_or s.managers k def ≡ def = get_or_from_slice_get s.managers k def def at in
+        let manager : IsManager s.resources def = subst (λ d. IsManager s.resources d) is (runnable.managers k def below) in
+        no_calls def.calls (subst (λ rs. All (IsCall rs) def.calls) none manager.calls)
 
 -- a run of as many managers can make each of its steps
 pub step_fits : (s : Scenario) (r : Run) → IsRunnable s → IsBuilt s → length r.managers.items ≡ length s.managers → (k : ℕ) (item : ScheduleItem)

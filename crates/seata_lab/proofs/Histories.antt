@@ -4,10 +4,10 @@ use Rattle.std.proofs.lemmas.Bool.Decides.{nat_tests}
 use Rattle.seata_types.specs.declared.ids.Place.{Place}
 use Rattle.seata_types.specs.declared.ids.Place.TheVariants as place
 use Rattle.seata_types.specs.declared.messages.Outgoing.{Outgoing}
-use Rattle.scenario_reader.specs.declared.scenarios.Scenario.{Scenario}
-use Rattle.scenario_reader.specs.declared.scenarios.ScheduleItem.{ScheduleItem}
-use Rattle.history_text.specs.Own.{Event}
-use Rattle.history_text.specs.History.{Moment, own, own_if, same_place, sent_by, sent_at, sent_from, first_sent, Rises, clock, owned_clock, Follows, IsStep}
+use Rattle.history_rules.specs.Own.{Event, Own}
+use Rattle.history_rules.specs.Nodes.{World, no_past}
+use Rattle.history_rules.specs.Histories.{Moment, own, own_if, same_place, sent_by, sent_at, sent_from, sent_if, Rises, last_now}
+use Rattle.history_rules.specs.Schedules.{Item, Follows, IsStep, clock}
 use Rattle.seata_lab.specs.declared.runner.Letter.{Letter}
 use Rattle.seata_lab.specs.Runs.{letters, letter_of, letter_at, the_letter, letter_from}
 
@@ -40,27 +40,38 @@ pub length-letters : (ms : List Moment) → length (letters ms) ≡ length ms
 length-letters [] = refl
 length-letters (m ∷ ms) = let rest = length-letters ms in omega (arith, length-append (letters ms) (letter_of m ∷ []), rest)
 
+-- ---- letters
+
+-- a letter's message, with the place that sent it
+abbrev pub sent_of : Letter → Option (Place × Outgoing)
+sent_of l = Some (l.from, record { to = l.to; message = l.packet.message })
+
+-- what the letters say of a stamp
+abbrev pub Found : ℕ → List Moment → Option Letter → Type 0
+Found k ms None = sent_at k ms ≡ None
+Found k ms (Some l) = (sent_at k ms ≡ sent_of l) × (sent_from k l.from ms ≡ sent_of l)
+
 -- ---- stamps and clocks
 
-step_stamp : (o : Option ScheduleItem) (ms : List Moment) (m : Moment) → IsStep o ms m → m.stamp ≡ length ms + 1
-step_stamp None ms m h = absurd h
-step_stamp (Some step) ms m h = h.0
+module _ (w : World) (schedule : List Item) where
+  step_stamp : (o : Option Item) (ms : List Moment) (m : Moment) → IsStep w no_past ms m o → m.stamp ≡ length ms + 1
+  step_stamp None ms m h = absurd h
+  step_stamp (Some step) ms m h = h.0
 
-step_clock : (o : Option ScheduleItem) (ms : List Moment) (m : Moment) → IsStep o ms m → clock ms ≤ m.now
-step_clock None ms m h = absurd h
-step_clock (Some step) ms m h = let e = h.1 in omega (arith, e)
+  step_clock : (o : Option Item) (ms : List Moment) (m : Moment) → IsStep w no_past ms m o → clock no_past ms ≤ m.now
+  step_clock None ms m h = absurd h
+  step_clock (Some step) ms m h = let e = h.1 in omega (arith, e)
 
-module _ (s : Scenario) where
   -- a moment whose stamp is its position stands after the newest one
-  pub rises_after : (ms : List Moment) (m : Moment) → Follows s ms → m.stamp ≡ length ms + 1 → Rises ms m
+  pub rises_after : (ms : List Moment) (m : Moment) → Follows w no_past schedule ms → m.stamp ≡ length ms + 1 → Rises ms m
   rises_after [] m f here = tt
   rises_after (last ∷ ms) m f here = let e = step_stamp _ ms last f.1 in inl (omega (arith, e, here))
 
-  pub owned_clock-le : (p : Place) (ms : List Moment) → Follows s ms → owned_clock (own p ms) ≤ clock ms
-  owned_clock-le p [] f = omega arith
-  owned_clock-le p (m ∷ ms) f = by (same_place p m.place) m.event (owned_clock-le p ms f.0) (step_clock _ ms m f.1)
+  pub last_now-le : (p : Place) (ms : List Moment) → Follows w no_past schedule ms → last_now (own p ms) ≤ clock no_past ms
+  last_now-le p [] f = omega arith
+  last_now-le p (m ∷ ms) f = by (same_place p m.place) m.event (last_now-le p ms f.0) (step_clock _ ms m f.1)
     where
-      by : (b : Bool) (e : Option Event) → owned_clock (own p ms) ≤ clock ms → clock ms ≤ m.now → owned_clock (own_if b e m (own p ms)) ≤ m.now
+      by : (b : Bool) (e : Option Event) → last_now (own p ms) ≤ clock no_past ms → clock no_past ms ≤ m.now → last_now (own_if b e m (own p ms)) ≤ m.now
       by true (Some event) before rises = omega arith
       by true None before rises = omega arith
       by false e before rises = omega arith
@@ -68,28 +79,23 @@ module _ (s : Scenario) where
   -- ---- messages
 
   -- no entry has a stamp that is still to come
-  none_later : (kind : Moment → Bool) (k : ℕ) → ((m : Moment) → kind m ≡ true → m.stamp ≡ k) → (ms : List Moment) → Follows s ms → length ms < k
+  none_later : (kind : Moment → Bool) (k : ℕ) → ((m : Moment) → kind m ≡ true → m.stamp ≡ k) → (ms : List Moment) → Follows w no_past schedule ms → length ms < k
       → sent_by kind ms ≡ None
   none_later kind k only [] f later = refl
   none_later kind k only (m ∷ ms) f later = by (kind m) refl (none_later kind k only ms f.0 (omega arith)) (step_stamp _ ms m f.1)
     where
-      by : (b : Bool) → kind m ≡ b → sent_by kind ms ≡ None → m.stamp ≡ length ms + 1 → first_sent b m.step.sent (sent_by kind ms) ≡ None
+      by : (b : Bool) → kind m ≡ b → sent_by kind ms ≡ None → m.stamp ≡ length ms + 1 → sent_if b m m.step.sent (sent_by kind ms) ≡ None
       by true e before at = let stamp = only m e in absurd (omega (arith, stamp, at, later))
       by false e before at = before
 
   -- no entry has the stamp 0
-  none_first : (kind : Moment → Bool) → ((m : Moment) → kind m ≡ true → m.stamp ≡ 0) → (ms : List Moment) → Follows s ms → sent_by kind ms ≡ None
+  none_first : (kind : Moment → Bool) → ((m : Moment) → kind m ≡ true → m.stamp ≡ 0) → (ms : List Moment) → Follows w no_past schedule ms → sent_by kind ms ≡ None
   none_first kind only [] f = refl
   none_first kind only (m ∷ ms) f = by (kind m) refl (none_first kind only ms f.0) (step_stamp _ ms m f.1)
     where
-      by : (b : Bool) → kind m ≡ b → sent_by kind ms ≡ None → m.stamp ≡ length ms + 1 → first_sent b m.step.sent (sent_by kind ms) ≡ None
+      by : (b : Bool) → kind m ≡ b → sent_by kind ms ≡ None → m.stamp ≡ length ms + 1 → sent_if b m m.step.sent (sent_by kind ms) ≡ None
       by true e before at = let stamp = only m e in absurd (omega (arith, stamp, at))
       by false e before at = before
-
-  -- what the letters say of a stamp
-  abbrev pub Found : ℕ → List Moment → Option Letter → Type 0
-  Found k ms None = sent_at k ms ≡ None
-  Found k ms (Some l) = sent_from l.from k ms ≡ Some (record { to = l.to; message = l.packet.message })
 
   abbrev stamped : ℕ → Moment → Bool
   stamped k m = m.stamp == k
@@ -100,7 +106,7 @@ module _ (s : Scenario) where
   -- an entry of another stamp changes nothing
   found_before : (k : ℕ) (m : Moment) (ms : List Moment) (r : Option Letter) → (m.stamp == k) ≡ false → Found k ms r → Found k (m ∷ ms) r
   found_before k m ms None other h = rw other h
-  found_before k m ms (Some l) other h = rw other h
+  found_before k m ms (Some l) other h = (rw other h.0, rw other h.1)
 
   -- the entry of the stamp itself
   found_here : (k : ℕ) (m : Moment) (ms : List Moment) → (m.stamp == k) ≡ true → sent_at k ms ≡ None → Found k (m ∷ ms) (letter_of m)
@@ -108,10 +114,10 @@ module _ (s : Scenario) where
     where
       by : (o : Option Outgoing) → m.step.sent ≡ o → Found k (m ∷ ms) (option_map (letter_from m.place m.stamp) o)
       by None e = rw (here, e) none
-      by (Some out) e = rw (here, same_place-refl m.place, e) refl
+      by (Some out) e = (rw (here, e) refl, rw (here, same_place-refl m.place, e) refl)
 
   -- the letters say of each stamp what its entry sent
-  pub letters_from : (ms : List Moment) → Follows s ms → (j : ℕ) → Found (suc j) ms (the_letter (slice_get (letters ms) j))
+  pub letters_from : (ms : List Moment) → Follows w no_past schedule ms → (j : ℕ) → Found (suc j) ms (the_letter (slice_get (letters ms) j))
   letters_from [] f j = refl
   letters_from (m ∷ ms) f j = by (nat_lt j (length ms)) refl (nat_eq j (length ms)) refl (letters_from ms f.0 j)
     where
@@ -158,6 +164,6 @@ module _ (s : Scenario) where
       by false above = absurd (none_some (sym (ap the_letter (past (letters ms) j (grind (arith, nat_tests, length-letters ms)))) ∙ e))
 
   -- the same of any number
-  pub letters_at : (ms : List Moment) → Follows s ms → (k : ℕ) → Found k ms (letter_at k (letters ms))
+  pub letters_at : (ms : List Moment) → Follows w no_past schedule ms → (k : ℕ) → Found k ms (letter_at k (letters ms))
   letters_at ms f zero = none_first (stamped 0) (stamped-is 0) ms f
   letters_at ms f (suc j) = letters_from ms f j

@@ -6,7 +6,10 @@ mod Flow
 mod FrameLaws
 mod FramesListed
 mod Histories
+mod Modes
 mod Played
 mod Replayed
+mod Reported
+mod Safe
 mod Spoken
 mod Stepped

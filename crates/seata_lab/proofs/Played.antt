@@ -1,8 +1,8 @@
 -- What a run keeps after each kind of step.
 use Rattle.seata_types.specs.declared.limits.TheConstants.{STEPS, TICKS}
-use Rattle.std.proofs.Common.{◌≡◌, ◌+◌, ◌*◌, ◌<◌, ◌≤◌, ℕ, zero, suc, nat_eq, nat_lt, Bool, true, false, List, [], ◌∷◌, ◌++◌, length, slice_get, Option, Some, None, option_map, refl, ap, sym, subst, ◌∙◌, arith, length-append}
+use Rattle.std.proofs.Common.{◌≡◌, ◌+◌, ◌*◌, ◌<◌, ◌≤◌, ℕ, zero, suc, nat_eq, nat_lt, Bool, true, false, List, [], ◌∷◌, ◌++◌, length, slice_get, map, Option, Some, None, option_map, refl, ap, sym, subst, ◌∙◌, arith, length-append}
 use Rattle.std.proofs.lemmas.Bool.Decides.{nat_tests}
-use Rattle.std.proofs.lemmas.Option.{same_Some}
+use Rattle.std.proofs.lemmas.Option.{same_Some, slice_get-map}
 use Rattle.seata_types.specs.declared.acts.Act.TheVariants as act
 use Rattle.seata_types.specs.declared.ids.Place.{Place}
 use Rattle.seata_types.specs.declared.ids.Place.TheVariants as place
@@ -14,17 +14,21 @@ use Rattle.scenario_reader.specs.Runnable.{IsPlaceAmong}
 use Rattle.scenario_reader.specs.declared.scenarios.Scenario.{Scenario}
 use Rattle.scenario_reader.specs.declared.scenarios.ScheduleItem.{ScheduleItem}
 use Rattle.scenario_reader.specs.declared.scenarios.ScheduleItem.TheVariants as item
+use Rattle.history_rules.specs.Own.{Event, Given, still}
+use Rattle.history_rules.specs.Nodes.{no_past}
+use Rattle.history_rules.specs.Nodes.{Coordinator as CoordinatorRole, Manager as ManagerRole}
+use Rattle.history_rules.specs.Histories.{Moment, Turn, Deliver, Missing, Wait, ReceivesLater, IsDone, Stands, ComesToNone, own, brings, delivered, sent_at, sent_from}
+use Rattle.history_rules.specs.Histories.{Cause as Reason}
+use Rattle.history_rules.specs.Schedules.{Item, TurnOf, DeliverOf, WaitFor, IsStep, named, delivery, singles, ticks_of, clock}
 use Rattle.history_text.specs.declared.entries.Cause.{Cause}
-use Rattle.history_text.specs.declared.entries.Cause.TheVariants as cause
-use Rattle.history_text.specs.Own.{Event, Given, still}
-use Rattle.history_text.specs.Rules.{Coordinator as CoordinatorRole, Manager as ManagerRole}
-use Rattle.history_text.specs.History.{Moment, IsAbove, ticks_of, IsAnswer, IsDone, Stands, IsStep, IsNamed, ComesToNone, entries, entry_of, own, role_at, settings_of, brings, sent_from}
+use Rattle.history_text.specs.History.{cause_of, entries, entry_of}
+use Rattle.history_text.specs.Worlds.{item_of, items_of, settings_of, times_of, world_of}
 use Rattle.seata_lab.specs.declared.runner.Delivery.{Delivery}
 use Rattle.seata_lab.specs.declared.runner.Letter.{Letter}
 use Rattle.seata_lab.specs.declared.runner.Run.{Run}
-use Rattle.seata_lab.specs.Runs.{CanStep, Plays, Nodes, AllPost, IsPost, IsNode, IsGiven, Gives, IsRecorded, letters, letter_of, letter_at, letter_from, the_letter, delivery_of, next, printed_entry}
-use Rattle.seata_lab.proofs.Histories.{rises_after, letter_below, owned_clock-le, letters_at, Found, same_place-refl, snoc_below, snoc_end, snoc_past}
-use Rattle.seata_lab.proofs.Stepped.{nodes_net, StepsAt}
+use Rattle.seata_lab.specs.Runs.{CanRun, CanStep, HasHappened, Plays, Nodes, AllPost, IsPost, IsNode, IsGiven, Gives, IsRecorded, letters, letter_of, letter_at, letter_from, the_letter, delivery_of, next, printed_entry}
+use Rattle.seata_lab.proofs.Histories.{rises_after, letter_below, last_now-le, letters_at, Found, same_place-refl, snoc_below, snoc_end, snoc_past}
+use Rattle.seata_lab.proofs.Stepped.{nodes_net, role_of_manager, StepsAt}
 
 length-entries : (ms : List Moment) → length (entries ms) ≡ length ms
 length-entries [] = refl
@@ -40,12 +44,13 @@ item_at (x ∷ xs) (suc k) below = item_at xs k (omega arith)
 -- a place among the nodes is one
 pub node_at : (s : Scenario) (p : Place) → IsPlaceAmong 0 (length s.managers) p → IsNode s p
 node_at s place.Net among = absurd among
-node_at s place.Tc among = (CoordinatorRole s.retry, refl)
+node_at s place.Tc among = (CoordinatorRole (times_of s) [], refl)
 node_at s (place.Res n) among = absurd (let low = among.0 in let high = among.1 in omega (arith, low, high))
 node_at s (place.Man zero) among = absurd (let low = among.0 in omega (arith, low))
 node_at s (place.Man (suc k)) among =
     let found = item_at s.managers k (let high = among.1 in omega (arith, high)) in
-    (ManagerRole (settings_of (suc k) found.0), rw found.1 refl)
+    let next_number : k + 1 ≡ suc k = omega arith in
+    subst (λ n. IsNode s (place.Man n)) next_number (ManagerRole (settings_of s.lock_tries (k + 1) found.0), role_of_manager s k found.0 found.1)
 
 -- what is delivered was kept
 pub delivered_from : (o : Option Letter) (d : Delivery) → option_map delivery_of o ≡ Some d → (l : Letter) × (o ≡ Some l) × (delivery_of l ≡ d)
@@ -94,9 +99,13 @@ pub record Made (s : Scenario) (old new : Run) (ms : List Moment) (m : Moment) (
   pub printed : new.entries.items ≡ old.entries.items ++ entry_of m ∷ []
   pub clocked : new.clock ≡ m.now
   pub slow : m.now ≤ (length ms + 1) * TICKS
-  pub stands : Stands s ms m
-  pub is_step : IsStep (Some step) ms m
+  pub stands : Stands (world_of s) no_past ms m
+  pub is_step : IsStep (world_of s) no_past ms m (Some (item_of step))
   pub posts : (out : Outgoing) → m.step.sent ≡ Some out → IsPost s m.place out.to out.message
+
+-- the single step at a place of the schedule
+single_at : (s : Scenario) → CanRun s → (k : ℕ) (step : ScheduleItem) → slice_get s.schedule k ≡ Some step → slice_get (singles (items_of s)) k ≡ Some (item_of step)
+single_at s can k step at = ap (λ is. slice_get is k) can.single ∙ slice_get-map item_of s.schedule k ∙ ap (option_map item_of) at
 
 plays_more : (s : Scenario) (old new : Run) (ms : List Moment) (m : Moment) (step : ScheduleItem) → Plays s old ms
     → slice_get s.schedule (length ms) ≡ Some step → Made s old new ms m step → Plays s new (m ∷ ms)
@@ -107,7 +116,7 @@ plays_more s old new ms m step t at made = record {
   clocked = made.clocked;
   slow = let now = made.clocked in let slow = made.slow in omega (arith, now, slow);
   legal = (t.legal, made.stands);
-  follows = (t.follows, subst (λ o. IsStep o ms m) (sym at) made.is_step);
+  follows = (t.follows, subst (λ o. IsStep (world_of s) no_past ms m o) (sym (single_at s t.nodes.can (length ms) step at)) made.is_step);
   post = (t.post, made.posts);
 }
 
@@ -120,43 +129,44 @@ module _ (s : Scenario) (old : Run) (ms : List Moment) (t : Plays s old ms) wher
   pub few_moments : length old.entries.items < STEPS → length ms < STEPS
   few_moments short = let e = size in omega (arith, e)
 
-  rising : (p : Place) (now : ℕ) (why : Cause) (event : Option Event) (step : Step) → old.clock ≤ now
-      → IsAbove why (length ms + 1) → event ≡ brings ms p why → IsDone s ms (next ms p now why event step) event → Stands s ms (next ms p now why event step)
+  rising : (p : Place) (now : ℕ) (why : Reason) (event : Option Event) (step : Step) → old.clock ≤ now
+      → ReceivesLater why (length ms + 1) → event ≡ brings ms p why → IsDone (world_of s) no_past ms (next ms p now why event step) event
+      → Stands (world_of s) no_past ms (next ms p now why event step)
   rising p now why event step later above brought done = record {
-    rises = rises_after s ms (next ms p now why event step) t.follows refl;
-    above = above;
-    clock_rises = λ at. let le = owned_clock-le s place.Tc ms t.follows in let now_is = t.clocked in omega (arith, le, now_is);
+    rises = rises_after (world_of s) (items_of s) ms (next ms p now why event step) t.follows refl;
+    receives_later = above;
+    clock_rises = λ at. let le = last_now-le (world_of s) (items_of s) place.Tc ms t.follows in let now_is = t.clocked in omega (arith, le, now_is);
     brought = brought;
     done = done;
   }
 
   -- a node took a step
-  given_made : (new : Run) (p : Place) (why : Cause) (given : Input) (step : ScheduleItem) → Gives old new p why given → IsNode s p → IsGiven s given
-      → IsAbove why (length ms + 1) → Some (Given given) ≡ brings ms p why → ((m : Moment) → m.place ≡ p → m.cause ≡ why → IsNamed step m.place m.cause) → ticks_of step ≡ 0
+  given_made : (new : Run) (p : Place) (why : Reason) (given : Input) (step : ScheduleItem) → Gives old new p (cause_of why) given → IsNode s p → IsGiven s given
+      → ReceivesLater why (length ms + 1) → Some (Given given) ≡ brings ms p why → (p, why) ≡ named (world_of s) ms (item_of step) → ticks_of (item_of step) ≡ 0
       → (m : Moment) × Made s old new ms m step
-  given_made new p why given step gives node is_given above brought named still_time =
-      let g = gives s ms t.nodes node in
+  given_made new p why given step gives node is_given above brought names still_time =
+      let g = gives s ms why t.nodes node is_given in
       let m : Moment = next ms p old.clock why (Some (Given given)) g.0 in (
         m,
         record {
           nodes = g.2;
           kept = g.4 ∙ ap (λ n. old.letters.items ++ option_map (letter_from p (n + 1)) g.0.sent ∷ []) size;
-          printed = g.5 ∙ ap (λ n. old.entries.items ++ printed_entry n p old.clock why g.0 ∷ []) size;
+          printed = g.5 ∙ ap (λ n. old.entries.items ++ printed_entry n p old.clock (cause_of why) g.0 ∷ []) size;
           clocked = g.6;
           slow = let slow = t.slow in omega (arith, slow);
           stands = rising p old.clock why (Some (Given given)) g.0 (omega arith) above brought g.1;
-          is_step = (refl, (let now_is = t.clocked in omega (arith, now_is, still_time)), named m refl refl);
-          posts = g.3 is_given t.post;
+          is_step = (refl, (let now_is = t.clocked in omega (arith, now_is, still_time)), names);
+          posts = g.3 t.post;
         },
       )
 
   -- the network did nothing
-  passed_made : (mid new : Run) (why : Cause) (step : ScheduleItem) → IsRecorded mid new place.Net why (still act.Nothing)
+  passed_made : (mid new : Run) (why : Reason) (step : ScheduleItem) → IsRecorded mid new place.Net (cause_of why) (still act.Nothing)
       → mid.coordinator ≡ old.coordinator → mid.managers ≡ old.managers → mid.letters ≡ old.letters → mid.entries ≡ old.entries
-      → mid.clock ≡ old.clock + ticks_of step → ticks_of step ≤ TICKS
-      → IsAbove why (length ms + 1) → None ≡ brings ms place.Net why → ComesToNone ms place.Net why → IsNamed step place.Net why
+      → mid.clock ≡ old.clock + ticks_of (item_of step) → ticks_of (item_of step) ≤ TICKS
+      → ReceivesLater why (length ms + 1) → None ≡ brings ms place.Net why → ComesToNone ms place.Net why → (place.Net, why) ≡ named (world_of s) ms (item_of step)
       → (m : Moment) × Made s old new ms m step
-  passed_made mid new why step rec same_coordinator same_managers same_letters same_entries time short above brought comes named =
+  passed_made mid new why step rec same_coordinator same_managers same_letters same_entries time short above brought comes names =
       let m : Moment = next ms place.Net mid.clock why None (still act.Nothing) in (
         m,
         record {
@@ -164,12 +174,12 @@ module _ (s : Scenario) (old : Run) (ms : List Moment) (t : Plays s old ms) wher
               (subst (λ l. Nodes s old.coordinator l (m ∷ ms)) (sym (ap (λ v. v.items) (rec.same_managers ∙ same_managers)))
               (nodes_net s old.coordinator old.managers.items ms mid.clock why (still act.Nothing) t.nodes));
           kept = rec.kept ∙ ap (λ v. v.items ++ None ∷ []) same_letters;
-          printed = rec.printed ∙ ap (λ v. v.items ++ printed_entry (length v.items) place.Net mid.clock why (still act.Nothing) ∷ []) same_entries
-              ∙ ap (λ n. old.entries.items ++ printed_entry n place.Net mid.clock why (still act.Nothing) ∷ []) size;
+          printed = rec.printed ∙ ap (λ v. v.items ++ printed_entry (length v.items) place.Net mid.clock (cause_of why) (still act.Nothing) ∷ []) same_entries
+              ∙ ap (λ n. old.entries.items ++ printed_entry n place.Net mid.clock (cause_of why) (still act.Nothing) ∷ []) size;
           clocked = rec.same_clock;
           slow = let slow = t.slow in omega (arith, slow, time, short);
           stands = rising place.Net mid.clock why None (still act.Nothing) (omega (arith, time)) above brought (comes, refl);
-          is_step = (refl, (let now_is = t.clocked in omega (arith, now_is, time)), named);
+          is_step = (refl, (let now_is = t.clocked in omega (arith, now_is, time)), names);
           posts = λ out e. absurd (let no : None ≡ Some out = e in cc);
         },
       )
@@ -181,29 +191,30 @@ module _ (s : Scenario) (old : Run) (ms : List Moment) (t : Plays s old ms) wher
       → (m : Moment) × Plays s new (m ∷ ms)
   more new step at (m, made) = (m, plays_more s old new ms m step t at made)
 
-  pub turn_plays : (new : Run) (p : Place) → Gives old new p cause.Turn input.Turn → IsNode s p
+  pub turn_plays : (new : Run) (p : Place) → Gives old new p (cause_of Turn) input.Turn → IsNode s p
       → slice_get s.schedule (length ms) ≡ Some (item.Turn p) → (m : Moment) × Plays s new (m ∷ ms)
   turn_plays new p gives node at =
-      more new (item.Turn p) at (given_made s old ms t new p cause.Turn input.Turn (item.Turn p) gives node tt tt refl (λ m here why. (here, why)) refl)
+      more new (item.Turn p) at (given_made s old ms t new p Turn input.Turn (item.Turn p) gives node tt tt refl refl refl)
 
-  pub wait_plays : (mid new : Run) (ticks : ℕ) → IsRecorded mid new place.Net (cause.Wait ticks) (still act.Nothing)
+  pub wait_plays : (mid new : Run) (ticks : ℕ) → IsRecorded mid new place.Net (cause_of (Wait ticks)) (still act.Nothing)
       → mid.coordinator ≡ old.coordinator → mid.managers ≡ old.managers → mid.letters ≡ old.letters → mid.entries ≡ old.entries
       → mid.clock ≡ old.clock + ticks → ticks ≤ TICKS
       → slice_get s.schedule (length ms) ≡ Some (item.Wait ticks) → (m : Moment) × Plays s new (m ∷ ms)
   wait_plays mid new ticks rec a b c d time short at =
-      more new (item.Wait ticks) at (passed_made s old ms t mid new (cause.Wait ticks) (item.Wait ticks) rec a b c d time short tt refl tt (refl, refl))
+      more new (item.Wait ticks) at (passed_made s old ms t mid new (Wait ticks) (item.Wait ticks) rec a b c d time short tt refl tt refl)
 
   -- what the letters say of a stamp
-  found : (stamp : ℕ) (r : Option Letter) → letter_at stamp old.letters.items ≡ r → Found s stamp ms r
-  found stamp r e = subst (λ o. Found s stamp ms o) (ap (letter_at stamp) (sym t.sent) ∙ e) (letters_at s ms t.follows stamp)
+  found : (stamp : ℕ) (r : Option Letter) → letter_at stamp old.letters.items ≡ r → Found stamp ms r
+  found stamp r e = subst (λ o. Found stamp ms o) (ap (letter_at stamp) (sym t.sent) ∙ e) (letters_at (world_of s) (items_of s) ms t.follows stamp)
 
-  pub missing_plays : (new : Run) (stamp : ℕ) → IsRecorded old new place.Net (cause.Missing stamp) (still act.Nothing)
+  pub missing_plays : (new : Run) (stamp : ℕ) → IsRecorded old new place.Net (cause_of (Missing stamp)) (still act.Nothing)
       → option_map delivery_of (letter_at stamp old.letters.items) ≡ None
       → slice_get s.schedule (length ms) ≡ Some (item.Deliver stamp) → (m : Moment) × Plays s new (m ∷ ms)
   missing_plays new stamp rec missing at =
       let none = none_kept (letter_at stamp old.letters.items) missing in
+      let nothing : sent_at stamp ms ≡ None = found stamp None none in
       more new (item.Deliver stamp) at
-      (passed_made s old ms t old new (cause.Missing stamp) (item.Deliver stamp) rec refl refl refl refl (omega arith) (omega arith) tt refl (found stamp None none) refl)
+      (passed_made s old ms t old new (Missing stamp) (item.Deliver stamp) rec refl refl refl refl (omega arith) (omega arith) tt refl nothing (sym (ap (delivery stamp) nothing)))
 
   letter_node : (stamp : ℕ) (l : Letter) → letter_at stamp old.letters.items ≡ Some l → IsPost s l.from l.to l.packet.message
   letter_node stamp l e = letter_posts s ms t.post stamp l (ap (letter_at stamp) (sym t.sent) ∙ e)
@@ -214,24 +225,22 @@ module _ (s : Scenario) (old : Run) (ms : List Moment) (t : Plays s old ms) wher
       subst (λ (k : Delivery). IsNode s k.to) same (letter_node stamp l kept).receiver
 
   kept_plays : (new : Run) (stamp : ℕ) (l : Letter) → letter_at stamp old.letters.items ≡ Some l
-      → Gives old new l.to (cause.Deliver stamp l.from) (input.Message l.from l.packet.message)
+      → Gives old new l.to (cause_of (Deliver stamp l.from)) (input.Message l.from l.packet.message)
       → slice_get s.schedule (length ms) ≡ Some (item.Deliver stamp) → (m : Moment) × Plays s new (m ∷ ms)
   kept_plays new stamp l e gives at =
       let post = letter_node stamp l e in
-      let sent : sent_from l.from stamp ms ≡ Some (record { to = l.to; message = l.packet.message }) = found stamp (Some l) e in
+      let sent = found stamp (Some l) e in
       more new (item.Deliver stamp) at
-      (given_made s old ms t new l.to (cause.Deliver stamp l.from) (input.Message l.from l.packet.message) (item.Deliver stamp) gives post.receiver
-      (post.sender, post.named) (letter_below s ms stamp l (ap (letter_at stamp) (sym t.sent) ∙ e)) (rw (sent, same_place-refl l.to) refl) (λ m here why. named_by m why) refl)
-    where
-      named_by : (m : Moment) → m.cause ≡ cause.Deliver stamp l.from → IsNamed (item.Deliver stamp) m.place m.cause
-      named_by m why = subst (λ w. IsNamed (item.Deliver stamp) m.place w) (sym why) refl
+      (given_made s old ms t new l.to (Deliver stamp l.from) (input.Message l.from l.packet.message) (item.Deliver stamp) gives post.receiver
+      (post.sender, post.named) (letter_below (world_of s) (items_of s) ms stamp l (ap (letter_at stamp) (sym t.sent) ∙ e))
+      (rw (sent.1, same_place-refl l.to) refl) (sym (ap (delivery stamp) sent.0)) refl)
 
   pub deliver_plays : (new : Run) (stamp : ℕ) (d : Delivery) → option_map delivery_of (letter_at stamp old.letters.items) ≡ Some d
-      → Gives old new d.to (cause.Deliver stamp d.from) (input.Message d.from d.message)
+      → Gives old new d.to (cause_of (Deliver stamp d.from)) (input.Message d.from d.message)
       → slice_get s.schedule (length ms) ≡ Some (item.Deliver stamp) → (m : Moment) × Plays s new (m ∷ ms)
   deliver_plays new stamp d e gives at =
       let (l, kept, same) = delivered_from (letter_at stamp old.letters.items) d e in
-      kept_plays new stamp l kept (subst (λ (k : Delivery). Gives old new k.to (cause.Deliver stamp k.from) (input.Message k.from k.message)) (sym same) gives) at
+      kept_plays new stamp l kept (subst (λ (k : Delivery). Gives old new k.to (cause_of (Deliver stamp k.from)) (input.Message k.from k.message)) (sym same) gives) at
 
   -- the clock of a short run
   pub slow_clock : length old.entries.items < STEPS → old.clock ≤ STEPS * TICKS
@@ -248,20 +257,20 @@ module _ (s : Scenario) (old : Run) (ms : List Moment) (t : Plays s old ms) wher
   run_node p among = node_at s p (subst (λ n. IsPlaceAmong 0 n p) t.nodes.count among)
 
 -- a step was taken and its entry added
-pub gives_by : (s : Scenario) (ms : List Moment) (old mid new : Run) (p : Place) (why : Cause) (given : Input) (step : Step)
-    → StepsAt s mid.coordinator mid.managers.items ms p given old.clock why step → mid.letters ≡ old.letters → mid.entries ≡ old.entries → mid.clock ≡ old.clock
+pub gives_by : (s : Scenario) (ms : List Moment) (old mid new : Run) (p : Place) (why : Cause) (reason : Reason) (given : Input) (step : Step)
+    → StepsAt s mid.coordinator mid.managers.items ms p given old.clock reason step → mid.letters ≡ old.letters → mid.entries ≡ old.entries → mid.clock ≡ old.clock
     → IsRecorded mid new p why step
-    → (step : Step) × IsAnswer (role_at s p) (own p ms) (Given given) old.clock step
-    × Nodes s new.coordinator new.managers.items (next ms p old.clock why (Some (Given given)) step ∷ ms)
-    × (IsGiven s given → AllPost s ms → (out : Outgoing) → step.sent ≡ Some out → IsPost s p out.to out.message)
+    → (step : Step) × HasHappened s ms p given old.clock step
+    × Nodes s new.coordinator new.managers.items (next ms p old.clock reason (Some (Given given)) step ∷ ms)
+    × (AllPost s ms → (out : Outgoing) → step.sent ≡ Some out → IsPost s p out.to out.message)
     × (new.letters.items ≡ old.letters.items ++ option_map (letter_from p (length old.entries.items + 1)) step.sent ∷ [])
     × (new.entries.items ≡ old.entries.items ++ printed_entry (length old.entries.items) p old.clock why step ∷ [])
     × (new.clock ≡ old.clock)
-gives_by s ms old mid new p why given step st letters_same entries_same clock_same rec = (
+gives_by s ms old mid new p why reason given step st letters_same entries_same clock_same rec = (
   step,
   st.0,
-  subst (λ c. Nodes s c new.managers.items (next ms p old.clock why (Some (Given given)) step ∷ ms)) (sym rec.same_coordinator)
-      (subst (λ l. Nodes s mid.coordinator l (next ms p old.clock why (Some (Given given)) step ∷ ms)) (sym (ap (λ v. v.items) rec.same_managers)) st.1),
+  subst (λ c. Nodes s c new.managers.items (next ms p old.clock reason (Some (Given given)) step ∷ ms)) (sym rec.same_coordinator)
+      (subst (λ l. Nodes s mid.coordinator l (next ms p old.clock reason (Some (Given given)) step ∷ ms)) (sym (ap (λ v. v.items) rec.same_managers)) st.1),
   st.2,
   rec.kept ∙ ap (λ v. v.items ++ option_map (letter_from p (length mid.entries.items + 1)) step.sent ∷ []) letters_same
       ∙ ap (λ v. old.letters.items ++ option_map (letter_from p (length v.items + 1)) step.sent ∷ []) entries_same,

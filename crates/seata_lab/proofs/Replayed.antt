@@ -18,8 +18,8 @@ status_is bytes text n (inr (st, f)) = inr st
 
 pub answer_of_whole : (input bytes text : List ℕ) (left : Option (List ℕ)) (n : ℕ) → HasRead input bytes left → IsAnswerTo bytes text n → IsAnswerTo input text n
 unfolding IsAnswerTo IsReportOf IsFaultOf IsUnbuiltOf
-answer_of_whole input bytes text left n t (inl (st, (s, is, built, ms, run, printed))) =
-    inl (st, (s, subst (λ b. IsScenario b s) (sym (all_read t (scenario_is_short bytes s is))) is, built, ms, run, printed))
+answer_of_whole input bytes text left n t (inl (st, (s, is, built, ms, run, safe, printed))) =
+    inl (st, (s, subst (λ b. IsScenario b s) (sym (all_read t (scenario_is_short bytes s is))) is, built, ms, run, safe, printed))
 answer_of_whole input bytes text left n t (inr (st, inl (e, f, printed))) =
     inr (st, inl (e, fault_of_whole bytes input (longer t) (λ short. all_read t short) e f, printed))
 answer_of_whole input bytes text left n t (inr (st, inr (s, is, part, found, printed))) =
@@ -34,13 +34,14 @@ module _ (result : ℕ) (old new : Devices) (t : Concludes IsAnswerTo result old
       w = t.written (inl zero) input told
 
       by : ((result ≡ 0) × IsReportOf input w.text) ⊎ ((result ≡ 3) × IsRefusalOf input w.text) → Replays input old new
-      by (inl (st, (s, is, built, ms, run, printed))) = record {
+      by (inl (st, (s, is, built, ms, run, safe, printed))) = record {
         read_to_end = none_unread input w.read (scenario_is_short input s is);
         scenario = s;
         is_scenario = is;
         is_built = built;
         history = ms;
         is_run = run;
+        is_safe = safe;
         printed = subst (λ x. Appends old.written new.written x) printed w.printed;
       }
       by (inr (st, f)) = absurd (omega (arith, zero, st))

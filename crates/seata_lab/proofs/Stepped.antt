@@ -1,7 +1,9 @@
 -- What the nodes keep when one of them took a step, and to whom a step sends.
-use Rattle.std.proofs.Common.{◌≡◌, ◌≢◌, ◌+◌, ◌-◌, ℕ, zero, suc, nat_eq, Bool, true, false, if◌then◌else◌, List, [], ◌∷◌, set, length-set, slice_get, Option, Some, None, refl, ap, sym, subst, ◌∙◌, arith, add-one}
+use Rattle.std.proofs.Common.{◌≡◌, ◌≢◌, ◌==◌, ◌+◌, ◌-◌, ◌<◌, length, ℕ, zero, suc, nat_eq, Bool, true, false, if◌then◌else◌, List, [], ◌∷◌, set, length-set, slice_get, Option, Some, None, option_map, refl, ap, sym, subst, ◌∙◌, arith, add-one}
 use Rattle.std.proofs.lemmas.Bool.Decides.{nat_tests}
-use Rattle.std.proofs.lemmas.Option.{same_Some}
+use Rattle.std.proofs.lemmas.Option.{same_Some, slice_get_within}
+use Rattle.std.specs.Prelude.{IfSome}
+use Rattle.seata_types.specs.declared.limits.TheConstants.{STEPS}
 use Rattle.seata_types.specs.declared.acts.Act.{Act}
 use Rattle.seata_types.specs.declared.acts.Act.TheVariants as act
 use Rattle.seata_types.specs.declared.ids.Place.{Place}
@@ -20,22 +22,37 @@ use Rattle.seata_types.specs.declared.statuses.GlobalStatus.{GlobalStatus}
 use Rattle.seata_types.specs.declared.statuses.GlobalStatus.TheVariants as status
 use Rattle.scenario_reader.specs.declared.scenarios.ManagerDef.{ManagerDef}
 use Rattle.scenario_reader.specs.declared.scenarios.Scenario.{Scenario}
-use Rattle.history_text.specs.declared.entries.Cause.{Cause}
-use Rattle.history_text.specs.Own.{Event, Given, Own, still, sends}
-use Rattle.history_text.specs.CoordinatorRules.{is_begin, decided_status, xid_of, least, is_late, begun, soonest, due_by, turn_answer, due_answer, begin_answer, commit_answer, rollback_answer, transaction_of, status_of, coordinator_answer, heard_answer}
-use Rattle.history_text.specs.ManagerRules.{Settings, Awaited, BeginAnswer, answer_to, is_silent, speaks, is_commit_of, is_rollback_of, ending_message, manager_turn, on_begun, hears, manager_hears, manager_answer, sent_count, is_closed, last_sent, sent_last}
-use Rattle.history_text.specs.History.{Moment, IsAnswer, own, own_if, same_place, role_at, manager_role, settings_of}
-use Rattle.history_text.specs.Rules.{Role, Coordinator as CoordinatorRole, Manager as ManagerRole, TakesStep}
-use Rattle.coordinator_core.specs.Standing.{StandsFor, retry_of, steps_of}
+use Rattle.durable_records.specs.declared.coordinators.SessionRecord.{SessionRecord}
+use Rattle.durable_records.specs.Transactions.{Session, session, session_for, decided, is_commit, next_xid}
+use Rattle.durable_records.specs.Branches.{Grant}
+use Rattle.durable_records.specs.Progress.{may_decide, status_of}
+use Rattle.history_rules.specs.Own.{Event, Given, Own, still, sends}
+use Rattle.history_rules.specs.Devices.{is_down, calls_left}
+use Rattle.history_rules.specs.CoordinatorMemory.{is_past, late_one, due_one, old_one}
+use Rattle.history_rules.specs.CoordinatorRules.{xid_of, turn_answer, due_answer, old_answer, begin_answer, commit_answer, rollback_answer, message_answer, coordinator_answer, decided_status, next_asked}
+use Rattle.history_rules.specs.ManagerRules.{Settings, is_silent, speaks, end_message, receiver, turn_answer as manager_turn, waiting_answer, message_answer as manager_hears, closed_answer, ended_by, goes_on, if_same, manager_answer, sent_count, busy_count, is_closed, last_sent, sent_after}
+use Rattle.history_rules.specs.Nodes.{Role, Happens, no_past, role_at, happens}
+use Rattle.history_rules.specs.Nodes.{Coordinator as CoordinatorRole, Manager as ManagerRole}
+use Rattle.history_rules.specs.Histories.{Moment, HappensAt, own, own_if, same_place}
+use Rattle.history_rules.specs.Histories.{Cause as Reason}
+use Rattle.history_text.proofs.Worlds.{slice_get-managers}
+use Rattle.history_text.specs.Promises.{TakesStep, IsServed, IsAboutNoBranch, TellsNoStatus}
+use Rattle.history_text.specs.Worlds.{settings_of, times_of, world_of}
+use Rattle.history_text.proofs.Served.{happens_plain}
+use Rattle.coordinator_core.proofs.Facts.{IsPlain, stands_plain, none_asked}
+use Rattle.coordinator_core.specs.Tracks.{AreSimple, records}
+use Rattle.coordinator_core.specs.Standing.{StandsFor, retry_of, role_of, steps_of}
 use Rattle.coordinator_core.specs.declared.nodes.Coordinator.{Coordinator}
 use Rattle.seata_lab.specs.ManagerStanding.{StandsFor as ManagerStandsFor, settings, steps_of as manager_steps_of}
 use Rattle.seata_lab.specs.declared.managers.Manager.{Manager}
-use Rattle.seata_lab.specs.Runs.{AllPost, StepsManager, IsGiven, IsNode, NamesNode, IsPost, IsManagerOf, Nodes, next}
+use Rattle.seata_lab.proofs.Spoken.{manager_plain}
+use Rattle.seata_lab.specs.Runs.{AllPost, CanRun, HasHappened, StepsManager, IsGiven, IsNode, NamesNode, IsPost, IsManagerOf, Nodes, next}
 
 module _ (s : Scenario) (c : Coordinator) (managers : List Manager) (ms : List Moment) where
   -- nothing happened at a node
-  pub nodes_net : (now : ℕ) (why : Cause) (step : Step) → Nodes s c managers ms → Nodes s c managers (next ms place.Net now why None step ∷ ms)
+  pub nodes_net : (now : ℕ) (why : Reason) (step : Step) → Nodes s c managers ms → Nodes s c managers (next ms place.Net now why None step ∷ ms)
   nodes_net now why step t = record {
+    can = t.can;
     coordinated = t.coordinated;
     retry = t.retry;
     able = let able = t.able in omega (arith, able);
@@ -48,11 +65,12 @@ module _ (s : Scenario) (c : Coordinator) (managers : List Manager) (ms : List M
       later k def (m, at, is) = (m, at, record { stands = is.stands; same = is.same; able = let able = is.able in omega (arith, able) })
 
   -- the coordinator took a step
-  pub nodes_coordinator : (c' : Coordinator) (given : Input) (now : ℕ) (why : Cause) (step : Step) → Nodes s c managers ms
-      → TakesStep StandsFor (CoordinatorRole (retry_of c)) c c' given now step → retry_of c' ≡ retry_of c → steps_of c' + 1 ≡ steps_of c
+  pub nodes_coordinator : (c' : Coordinator) (given : Input) (now : ℕ) (why : Reason) (step : Step) → Nodes s c managers ms
+      → TakesStep StandsFor (role_of (retry_of c)) c c' given now step → IsServed (role_of (retry_of c)) given → retry_of c' ≡ retry_of c → steps_of c' + 1 ≡ steps_of c
       → Nodes s c' managers (next ms place.Tc now why (Some (Given given)) step ∷ ms)
-  nodes_coordinator c' given now why step t takes same left = record {
-    coordinated = (takes (own place.Tc ms) t.coordinated).1;
+  nodes_coordinator c' given now why step t takes served same left = record {
+    can = t.can;
+    coordinated = (takes (own place.Tc ms) t.coordinated served).1;
     retry = same ∙ t.retry;
     able = let able = t.able in omega (arith, able, left);
     count = t.count;
@@ -78,11 +96,12 @@ slice_get-set_other (z ∷ xs) (suc k) (suc j) x other = slice_get-set_other xs 
 
 module _ (s : Scenario) (c : Coordinator) (managers : List Manager) (ms : List Moment) where
   -- a manager took a step
-  pub nodes_manager : (k : ℕ) (def : ManagerDef) (m m' : Manager) (given : Input) (now : ℕ) (why : Cause) (step : Step) → Nodes s c managers ms
+  pub nodes_manager : (k : ℕ) (def : ManagerDef) (m m' : Manager) (given : Input) (now : ℕ) (why : Reason) (step : Step) → Nodes s c managers ms
       → slice_get s.managers k ≡ Some def → slice_get managers k ≡ Some m → IsManagerOf s ms (k + 1) def m
-      → TakesStep ManagerStandsFor (ManagerRole (settings m)) m m' given now step → settings m' ≡ settings m → manager_steps_of m' + 1 ≡ manager_steps_of m
+      → TakesStep ManagerStandsFor (ManagerRole (settings m)) m m' given now step → IsServed (ManagerRole (settings m)) given → settings m' ≡ settings m → manager_steps_of m' + 1 ≡ manager_steps_of m
       → Nodes s c (set managers k m') (next ms (place.Man (k + 1)) now why (Some (Given given)) step ∷ ms)
-  nodes_manager k def m m' given now why step t here at is takes same left = record {
+  nodes_manager k def m m' given now why step t here at is takes served same left = record {
+    can = t.can;
     coordinated = t.coordinated;
     retry = t.retry;
     able = let able = t.able in omega (arith, able);
@@ -97,7 +116,7 @@ module _ (s : Scenario) (c : Coordinator) (managers : List Manager) (ms : List M
       mine = grind (arith, nat_tests)
 
       here_now : ManagerStandsFor m' (own (place.Man (k + 1)) whole)
-      here_now = rw mine ((takes (own (place.Man (k + 1)) ms) is.stands).1)
+      here_now = rw mine ((takes (own (place.Man (k + 1)) ms) is.stands served).1)
 
       this : (j : ℕ) (other : ManagerDef) → slice_get s.managers j ≡ Some other → j ≡ k
           → (n : Manager) × (slice_get (set managers k m') j ≡ Some n) × IsManagerOf s whole (j + 1) other n
@@ -108,7 +127,7 @@ module _ (s : Scenario) (c : Coordinator) (managers : List Manager) (ms : List M
             slice_get-set_same managers k m' m at,
             record {
               stands = here_now;
-              same = same ∙ is.same ∙ ap (settings_of (k + 1)) (sym defs);
+              same = same ∙ is.same ∙ ap (settings_of s.lock_tries (k + 1)) (sym defs);
               able = let able = is.able in omega (arith, able, left);
             },
           )
@@ -146,98 +165,159 @@ module _ (s : Scenario) where
   some_posts from to msg post out e = subst (λ o. IsPost s from o.to o.message) (same_Some (outgoing to msg) out e) post
 
   coordinator_node : IsNode s place.Tc
-  coordinator_node = (CoordinatorRole s.retry, refl)
+  coordinator_node = (CoordinatorRole (times_of s) [], refl)
 
-  module _ (os : List Own) (now retry : ℕ) where
-    due_posts : (r : Option (ℕ × ℕ)) → SendsPost place.Tc (due_answer os r)
-    due_posts None = none_posts place.Tc
-    due_posts (Some (x, moment)) = none_posts place.Tc
+  -- a message of the coordinator to a node
+  tells : (to : Place) (msg : Message) → IsNode s to → NamesNode s msg → (out : Outgoing) → Some (outgoing to msg) ≡ Some out → IsPost s place.Tc out.to out.message
+  tells to msg node named = some_posts place.Tc to msg (record { sender = coordinator_node; receiver = node; named = named })
 
-    turn_posts : (r : Option ℕ) → SendsPost place.Tc (turn_answer retry os now r)
-    turn_posts (Some x) = none_posts place.Tc
-    turn_posts None = due_posts (soonest (due_by retry os now) (begun os))
+  module _ (rs : List SessionRecord) where
+    old_posts : (old : Option ℕ) → SendsPost place.Tc (old_answer rs old)
+    old_posts (Some x) = none_posts place.Tc
+    old_posts None = none_posts place.Tc
 
-  begin_posts : (known : Option ℕ) (number m : ℕ) → IsNode s (place.Man m) → SendsPost place.Tc (begin_answer known number m)
-  begin_posts (Some x) number m node = some_posts place.Tc (place.Man m) (message.Begun (xid_of x)) (record { sender = coordinator_node; receiver = node; named = tt })
-  begin_posts None number m node = some_posts place.Tc (place.Man m) (message.Begun (xid_of number)) (record { sender = coordinator_node; receiver = node; named = tt })
+    due_posts : (x : ℕ) (asked : Option Grant) → asked ≡ None → SendsPost place.Tc (due_answer rs x asked)
+    due_posts x None none = none_posts place.Tc
+    due_posts x (Some g) none = absurd (let no : Some g ≡ None = none in cc)
 
-  commit_posts : (b late : Bool) (now_status : GlobalStatus) (xid : Xid) (from : Place) → is_begin now_status ≡ b → IsNode s from
-      → SendsPost place.Tc (commit_answer now_status late xid from)
-  commit_posts true late now_status xid from e node =
-      rw e (some_posts place.Tc from (message.CommitStatus xid (decided_status (if late then how.Timeout else how.Commit))) (record { sender = coordinator_node; receiver = node; named = tt }))
-  commit_posts false late now_status xid from e node =
-      rw e (some_posts place.Tc from (message.CommitStatus xid now_status) (record { sender = coordinator_node; receiver = node; named = tt }))
+    turn_posts : AreSimple rs → (late : Option ℕ) (due : Option (ℕ × ℕ)) (old : Option ℕ) → SendsPost place.Tc (turn_answer rs late due old)
+    turn_posts simple (Some x) due old = none_posts place.Tc
+    turn_posts simple None (Some (x, moment)) old = due_posts x (next_asked rs x (is_commit (decided rs x))) (none_asked rs simple x (is_commit (decided rs x)))
+    turn_posts simple None None old = old_posts old
 
-  rollback_posts : (b : Bool) (now_status : GlobalStatus) (xid : Xid) (from : Place) → is_begin now_status ≡ b → IsNode s from
-      → SendsPost place.Tc (rollback_answer now_status xid from)
-  rollback_posts true now_status xid from e node =
-      rw e (some_posts place.Tc from (message.RollbackStatus xid status.Rollbacking) (record { sender = coordinator_node; receiver = node; named = tt }))
-  rollback_posts false now_status xid from e node =
-      rw e (some_posts place.Tc from (message.RollbackStatus xid now_status) (record { sender = coordinator_node; receiver = node; named = tt }))
+    begin_posts : (m : ℕ) (known : Option Session) → IsNode s (place.Man m) → SendsPost place.Tc (begin_answer rs m known)
+    begin_posts m (Some x) node = tells (place.Man m) (message.Begun (xid_of x.xid)) node tt
+    begin_posts m None node = tells (place.Man m) (message.Begun (xid_of (next_xid rs))) node tt
 
-  heard_posts : (os : List Own) (now : ℕ) (from : Place) (heard : Message) → IsGiven s (input.Message from heard) → SendsPost place.Tc (heard_answer os now from heard)
-  heard_posts os now from (message.Begin m timeout) g = begin_posts (transaction_of os m) (begun os + 1) m g.1
-  heard_posts os now from (message.GlobalCommit xid) g = commit_posts (is_begin (status_of os xid.0)) (is_late os now xid.0) (status_of os xid.0) xid from refl g.0
-  heard_posts os now from (message.GlobalRollback xid) g = rollback_posts (is_begin (status_of os xid.0)) (status_of os xid.0) xid from refl g.0
-  heard_posts os now from (message.GlobalStatus xid) g =
-      some_posts place.Tc from (message.StatusAnswer xid (status_of os xid.0)) (record { sender = coordinator_node; receiver = g.0; named = tt })
-  heard_posts os now from _ g = none_posts place.Tc
+    commit_posts : (from : Place) (xid : Xid) (may late : Bool) → IsNode s from → SendsPost place.Tc (commit_answer rs from xid may late)
+    commit_posts from xid false late node = tells from (message.CommitStatus xid (status_of rs xid.0)) node tt
+    commit_posts from xid true false node = tells from (message.CommitStatus xid (decided_status rs xid.0 how.Commit)) node tt
+    commit_posts from xid true true node = tells from (message.CommitStatus xid (decided_status rs xid.0 how.Timeout)) node tt
+
+    rollback_posts : (from : Place) (xid : Xid) (may : Bool) → IsNode s from → SendsPost place.Tc (rollback_answer rs from xid may)
+    rollback_posts from xid false node = tells from (message.RollbackStatus xid (status_of rs xid.0)) node tt
+    rollback_posts from xid true node = tells from (message.RollbackStatus xid (decided_status rs xid.0 how.Rollback)) node tt
+
+    heard_posts : (now : ℕ) (from : Place) (heard : Message) → IsNode s from → NamesNode s heard → SendsPost place.Tc (message_answer rs now from heard)
+    heard_posts now from (message.Begin m timeout) node named = begin_posts m (session_for rs m) named
+    heard_posts now from (message.Begun xid) node named = none_posts place.Tc
+    heard_posts now from (message.GlobalCommit xid) node named = commit_posts from xid (may_decide rs xid.0) (is_past (session rs xid.0) now) node
+    heard_posts now from (message.CommitStatus xid st) node named = none_posts place.Tc
+    heard_posts now from (message.GlobalRollback xid) node named = rollback_posts from xid (may_decide rs xid.0) node
+    heard_posts now from (message.RollbackStatus xid st) node named = none_posts place.Tc
+    heard_posts now from _ node named = absurd named
 
   -- what the coordinator sends goes to nodes
-  pub coordinator_posts : (retry : ℕ) (os : List Own) (given : Input) (now : ℕ) → IsGiven s given → SendsPost place.Tc (coordinator_answer retry os given now)
-  coordinator_posts retry os input.Turn now g = turn_posts os now retry (least (is_late os now) (begun os))
-  coordinator_posts retry os (input.Message from heard) now g = heard_posts os now from heard g
-  coordinator_posts retry os (input.Local number) now g = none_posts place.Tc
-  coordinator_posts retry os (input.Outside number) now g = none_posts place.Tc
+  pub coordinator_posts : (os : List Own) (now : ℕ) (given : Input) → AreSimple (records os) → IsGiven s given
+      → SendsPost place.Tc (coordinator_answer (times_of s) [] os (records os) now given)
+  coordinator_posts os now input.Turn simple g =
+      turn_posts (records os) simple (late_one (times_of s) [] os (records os) now) (due_one (times_of s) [] os (records os) now) (old_one (times_of s) [] os (records os) now)
+  coordinator_posts os now (input.Message from heard) simple g = heard_posts (records os) now from heard g.0 g.1
+  coordinator_posts os now (input.Local number) simple g = none_posts place.Tc
+  coordinator_posts os now (input.Outside number) simple g = none_posts place.Tc
 
-  module _ (m : Settings) (node : IsNode s (place.Man m.number)) (sent : ℕ) where
-    speaks_posts : (done : Act) (msg : Message) → NamesNode s msg → SendsPost (place.Man m.number) (speaks m sent done msg)
-    speaks_posts done msg named = by (is_silent m.silent sent)
+  -- what is given is served
+  coordinator_served : (retry : ℕ) (given : Input) → IsGiven s given → IsServed (role_of retry) given
+  coordinator_served retry input.Turn g = tt
+  coordinator_served retry (input.Message from heard) g = by heard g.1
+    where
+      by : (heard : Message) → NamesNode s heard → IsAboutNoBranch heard
+      by (message.Begin m timeout) named = tt
+      by (message.Begun xid) named = tt
+      by (message.GlobalCommit xid) named = tt
+      by (message.CommitStatus xid st) named = tt
+      by (message.GlobalRollback xid) named = tt
+      by (message.RollbackStatus xid st) named = tt
+      by _ named = absurd named
+  coordinator_served retry (input.Local number) g = tt
+  coordinator_served retry (input.Outside number) g = tt
+
+  manager_served : (m : Settings) (given : Input) → m.calls ≡ [] → m.poll ≡ false → IsGiven s given → IsServed (ManagerRole m) given
+  manager_served m input.Turn calls poll g = (calls, poll, tt)
+  manager_served m (input.Message from heard) calls poll g = (calls, poll, by heard g.1)
+    where
+      by : (heard : Message) → NamesNode s heard → TellsNoStatus heard
+      by (message.Begin m timeout) named = tt
+      by (message.Begun xid) named = tt
+      by (message.GlobalCommit xid) named = tt
+      by (message.CommitStatus xid st) named = tt
+      by (message.GlobalRollback xid) named = tt
+      by (message.RollbackStatus xid st) named = tt
+      by _ named = absurd named
+  manager_served m (input.Local number) calls poll g = (calls, poll, tt)
+  manager_served m (input.Outside number) calls poll g = (calls, poll, tt)
+
+  -- a manager without calls and questions
+  module _ (m : Settings) (node : IsNode s (place.Man m.number)) (count busy : ℕ) where
+    speaks_posts : (done : Act) (msg : Message) → NamesNode s msg → receiver msg ≡ place.Tc → SendsPost (place.Man m.number) (speaks m count busy done msg)
+    speaks_posts done msg named to = by (is_silent m.silent count)
       where
-        by : (b : Bool) → SendsPost (place.Man m.number) (if b then still act.Silent else sends done place.Tc msg)
+        by : (b : Bool) → SendsPost (place.Man m.number) (if b then still act.Silent else sends done (receiver msg) msg)
         by true = none_posts (place.Man m.number)
-        by false = some_posts (place.Man m.number) place.Tc msg (record { sender = node; receiver = coordinator_node; named = named })
+        by false = some_posts (place.Man m.number) (receiver msg) msg (record { sender = node; receiver = subst (λ p. IsNode s p) (sym to) coordinator_node; named = named })
 
-    turns_post : (closed : Bool) (last : Option Message) → ((msg : Message) → last ≡ Some msg → NamesNode s msg)
-        → SendsPost (place.Man m.number) (manager_turn m sent closed last)
-    turns_post true last named = none_posts (place.Man m.number)
-    turns_post false None named = speaks_posts act.Starts (message.Begin m.number m.timeout) node
-    turns_post false (Some msg) named = speaks_posts act.Repeats msg (named msg refl)
+    -- a message that names a node goes to the coordinator
+    goes_to : (msg : Message) → NamesNode s msg → receiver msg ≡ place.Tc
+    goes_to (message.Begin number timeout) named = refl
+    goes_to (message.Begun xid) named = refl
+    goes_to (message.GlobalCommit xid) named = refl
+    goes_to (message.CommitStatus xid st) named = refl
+    goes_to (message.GlobalRollback xid) named = refl
+    goes_to (message.RollbackStatus xid st) named = refl
+    goes_to _ named = absurd named
 
-    ending_named : (ends : Ending) (xid : Xid) → NamesNode s (ending_message ends xid)
+    ending_named : (ends : Ending) (xid : Xid) → NamesNode s (end_message ends xid)
     ending_named ending.Commit xid = tt
     ending_named ending.Rollback xid = tt
 
-    begun_posts : (awaited : Awaited) (xid : Xid) → SendsPost (place.Man m.number) (on_begun m sent awaited xid)
-    begun_posts BeginAnswer xid = speaks_posts act.GoesOn (ending_message m.ending xid) (ending_named m.ending xid)
-    begun_posts _ xid = none_posts (place.Man m.number)
+    turns_post : (closed : Bool) (last : Option Message) → m.poll ≡ false → ((msg : Message) → last ≡ Some msg → NamesNode s msg)
+        → SendsPost (place.Man m.number) (manager_turn m count busy closed last)
+    turns_post true last poll named = rw poll (none_posts (place.Man m.number))
+    turns_post false None poll named = speaks_posts act.Starts (message.Begin m.number m.timeout) node refl
+    turns_post false (Some msg) poll named = speaks_posts act.Repeats msg (named msg refl) (goes_to msg (named msg refl))
 
-    closes_post : (b : Bool) (now_status : GlobalStatus) → SendsPost (place.Man m.number) (if b then still (act.Closes now_status) else still act.Ignored)
-    closes_post true now_status = none_posts (place.Man m.number)
-    closes_post false now_status = none_posts (place.Man m.number)
+    begun_posts : (xid : Xid) → m.calls ≡ [] → SendsPost (place.Man m.number) (goes_on m count busy xid 0)
+    begun_posts xid calls = rw calls (speaks_posts act.GoesOn (end_message m.ending xid) (ending_named m.ending xid) (goes_to (end_message m.ending xid) (ending_named m.ending xid)))
 
-    hears_post : (awaited : Awaited) (heard : Message) → SendsPost (place.Man m.number) (hears m sent awaited heard)
-    hears_post awaited (message.Begun xid) = begun_posts awaited xid
-    hears_post awaited (message.CommitStatus xid now_status) = closes_post (is_commit_of awaited xid) now_status
-    hears_post awaited (message.RollbackStatus xid now_status) = closes_post (is_rollback_of awaited xid) now_status
-    hears_post awaited _ = none_posts (place.Man m.number)
+    same_posts : (b : Bool) (now_status : GlobalStatus) → SendsPost (place.Man m.number) (if_same m count busy b (still (act.Closes now_status)))
+    same_posts true now_status = none_posts (place.Man m.number)
+    same_posts false now_status = none_posts (place.Man m.number)
 
-    heards_post : (closed : Bool) (awaited : Awaited) (heard : Message) → SendsPost (place.Man m.number) (manager_hears m sent closed awaited heard)
-    heards_post true awaited heard = none_posts (place.Man m.number)
-    heards_post false awaited heard = hears_post awaited heard
+    learned_posts : (asked : Option Xid) (heard : Message) → NamesNode s heard → SendsPost (place.Man m.number) (closed_answer m count busy asked heard)
+    learned_posts None heard named = none_posts (place.Man m.number)
+    learned_posts (Some asked) (message.StatusAnswer xid st) named = absurd named
+    learned_posts (Some asked) _ named = none_posts (place.Man m.number)
+
+    waiting_posts : (last : Option Message) (heard : Message) → m.calls ≡ [] → ((msg : Message) → last ≡ Some msg → NamesNode s msg)
+        → SendsPost (place.Man m.number) (waiting_answer m count busy last heard)
+    waiting_posts None heard calls named = none_posts (place.Man m.number)
+    waiting_posts (Some (message.Begin number timeout)) (message.Begun xid) calls named = begun_posts xid calls
+    waiting_posts (Some (message.Begin number timeout)) _ calls named = none_posts (place.Man m.number)
+    waiting_posts (Some (message.GlobalCommit asked)) (message.CommitStatus xid st) calls named = same_posts (asked.0 == xid.0) st
+    waiting_posts (Some (message.GlobalCommit asked)) _ calls named = none_posts (place.Man m.number)
+    waiting_posts (Some (message.GlobalRollback asked)) (message.RollbackStatus xid st) calls named = same_posts (asked.0 == xid.0) st
+    waiting_posts (Some (message.GlobalRollback asked)) _ calls named = none_posts (place.Man m.number)
+    waiting_posts (Some (message.Call xid number resource c w)) heard calls named = absurd (named (message.Call xid number resource c w) refl)
+    waiting_posts (Some _) heard calls named = none_posts (place.Man m.number)
+
+    heards_post : (closed : Bool) (last : Option Message) (heard : Message) → m.calls ≡ [] → NamesNode s heard
+        → ((msg : Message) → last ≡ Some msg → NamesNode s msg) → SendsPost (place.Man m.number) (manager_hears m count busy closed last heard)
+    heards_post true last heard calls is named = learned_posts (ended_by last) heard is
+    heards_post false last heard calls is named = waiting_posts last heard calls named
 
   -- what a manager sends goes to the coordinator
-  pub manager_posts : (m : Settings) → IsNode s (place.Man m.number) → (os : List Own) (given : Input)
+  pub manager_posts : (m : Settings) → IsNode s (place.Man m.number) → m.calls ≡ [] → m.poll ≡ false → (os : List Own) (given : Input) → IsGiven s given
       → ((msg : Message) → last_sent os ≡ Some msg → NamesNode s msg) → SendsPost (place.Man m.number) (manager_answer m os given)
-  manager_posts m node os input.Turn named = turns_post m node (sent_count os) (is_closed os) (last_sent os) named
-  manager_posts m node os (input.Message from heard) named = heards_post m node (sent_count os) (is_closed os) (answer_to (last_sent os)) heard
-  manager_posts m node os (input.Local number) named = none_posts (place.Man m.number)
-  manager_posts m node os (input.Outside number) named = none_posts (place.Man m.number)
+  manager_posts m node calls poll os input.Turn g named = turns_post m node (sent_count os) (busy_count os) (is_closed os) (last_sent os) poll named
+  manager_posts m node calls poll os (input.Message from heard) g named =
+      heards_post m node (sent_count os) (busy_count os) (is_closed os) (last_sent os) heard calls g.1 named
+  manager_posts m node calls poll os (input.Local number) g named = none_posts (place.Man m.number)
+  manager_posts m node calls poll os (input.Outside number) g named = none_posts (place.Man m.number)
 
 -- two managers of one role have the same settings
 abbrev role_settings : Settings → Role → Settings
-role_settings default (CoordinatorRole retry) = default
 role_settings default (ManagerRole m) = m
+role_settings default _ = default
 
 pub manager_role-injective : (m n : Settings) → ManagerRole m ≡ ManagerRole n → m ≡ n
 manager_role-injective m n e = ap (role_settings m) e
@@ -250,7 +330,7 @@ module _ (s : Scenario) where
   last_named [] post p msg e = absurd (let no : None ≡ Some msg = e in cc)
   last_named (m ∷ ms) post p msg e = by (same_place p m.place) m.event (last_named ms post.0 p msg) e
     where
-      sent : (o : Option Outgoing) → m.step.sent ≡ o → (last_sent (own p ms) ≡ Some msg → NamesNode s msg) → sent_last o (last_sent (own p ms)) ≡ Some msg → NamesNode s msg
+      sent : (o : Option Outgoing) → m.step.sent ≡ o → (last_sent (own p ms) ≡ Some msg → NamesNode s msg) → sent_after o (last_sent (own p ms)) ≡ Some msg → NamesNode s msg
       sent None is before h = before h
       sent (Some out) is before h = subst (λ k. NamesNode s k) (same_Some out.message msg h) (post.1 out is).named
 
@@ -263,33 +343,73 @@ module _ (s : Scenario) where
   -- where a manager stands, the scenario has one
   man_node : (n : ℕ) → IsNode s (place.Man n) → (k : ℕ) × (def : ManagerDef) × (n ≡ k + 1) × (slice_get s.managers k ≡ Some def)
   man_node zero (role, e) = absurd (let no : None ≡ Some role = e in cc)
-  man_node (suc k) (role, e) = by (slice_get s.managers k) refl e
+  man_node (suc k) (role, e) = by (slice_get s.managers k) refl (sym (ap (option_map (λ m. ManagerRole m)) (slice_get-managers s.lock_tries 1 s.managers k)) ∙ e)
     where
-      by : (o : Option ManagerDef) → slice_get s.managers k ≡ o → manager_role (suc k) o ≡ Some role
+      by : (o : Option ManagerDef) → slice_get s.managers k ≡ o → option_map (λ m. ManagerRole m) (option_map (settings_of s.lock_tries (1 + k)) o) ≡ Some role
           → (j : ℕ) × (def : ManagerDef) × (suc k ≡ j + 1) × (slice_get s.managers j ≡ Some def)
       by None is h = absurd (let no : None ≡ Some role = h in cc)
       by (Some def) is h = (k, def, omega arith, is)
 
-  role_of_manager : (k : ℕ) (def : ManagerDef) → slice_get s.managers k ≡ Some def → role_at s (place.Man (k + 1)) ≡ Some (ManagerRole (settings_of (k + 1) def))
-  role_of_manager k def e = rw (add-one k, e) refl
+  pub role_of_manager : (k : ℕ) (def : ManagerDef) → slice_get s.managers k ≡ Some def
+      → role_at (world_of s) no_past (place.Man (k + 1)) ≡ Some (ManagerRole (settings_of s.lock_tries (k + 1) def))
+  role_of_manager k def e =
+      ap (λ n. role_at (world_of s) no_past (place.Man n)) (add-one k)
+      ∙ ap (option_map (λ m. ManagerRole m)) (slice_get-managers s.lock_tries 1 s.managers k ∙ ap (option_map (settings_of s.lock_tries (1 + k))) e)
+      ∙ ap (λ n. Some (ManagerRole (settings_of s.lock_tries n def))) (omega arith)
+
+-- a manager of the scenario is one of the run, and can take a step
+module _ (s : Scenario) (c : Coordinator) (managers : List Manager) (ms : List Moment) (t : Nodes s c managers ms) (n : ℕ) (node : IsNode s (place.Man n)) where
+  pub man_within : n - 1 < length managers
+  man_within =
+      let (k, def, number, here) = man_node s n node in
+      let (m, there, is) = t.managed k def here in
+      let below = slice_get_within managers k m there in
+      omega (arith, number, below)
+
+  pub man_able : length ms < STEPS → IfSome (slice_get managers (n - 1)) (λ m. 0 < manager_steps_of m)
+  man_able short =
+      let (k, def, number, here) = man_node s n node in
+      let (m, there, is) = t.managed k def here in
+      let index : n - 1 ≡ k = omega (arith, number) in
+      let able = is.able in
+      let some : 0 < manager_steps_of m = omega (arith, able, short) in
+      subst (λ o. IfSome o (λ m. 0 < manager_steps_of m)) (sym (ap (slice_get managers) index ∙ there)) some
 
 -- what a step of a run says at a place
-abbrev pub StepsAt : Scenario → Coordinator → List Manager → List Moment → Place → Input → ℕ → Cause → Step → Type 0
+abbrev pub StepsAt : Scenario → Coordinator → List Manager → List Moment → Place → Input → ℕ → Reason → Step → Type 0
 StepsAt s c managers ms at given now why step =
-    IsAnswer (role_at s at) (own at ms) (Given given) now step
+    HasHappened s ms at given now step
     × Nodes s c managers (next ms at now why (Some (Given given)) step ∷ ms)
-    × (IsGiven s given → AllPost s ms → (out : Outgoing) → step.sent ≡ Some out → IsPost s at out.to out.message)
+    × (AllPost s ms → (out : Outgoing) → step.sent ≡ Some out → IsPost s at out.to out.message)
 
-module _ (s : Scenario) (c : Coordinator) (managers : List Manager) (ms : List Moment) (given : Input) (now : ℕ) (why : Cause) (step : Step) (t : Nodes s c managers ms) where
-  pub coordinator_steps : (c' : Coordinator) → TakesStep StandsFor (CoordinatorRole (retry_of c)) c c' given now step → retry_of c' ≡ retry_of c
+module _ (s : Scenario) (c : Coordinator) (managers : List Manager) (ms : List Moment) (given : Input) (now : ℕ) (why : Reason) (step : Step) (t : Nodes s c managers ms) (g : IsGiven s given) where
+  pub coordinator_steps : (c' : Coordinator) → TakesStep StandsFor (role_of (retry_of c)) c c' given now step → retry_of c' ≡ retry_of c
       → steps_of c' + 1 ≡ steps_of c → StepsAt s c' managers ms place.Tc given now why step
-  coordinator_steps c' takes same left = (answered, nodes_coordinator s c managers ms c' given now why step t takes same left, posts)
+  coordinator_steps c' takes same left = (
+    record { fault = false; keeps = false; comes = tt; done = answered },
+    nodes_coordinator s c managers ms c' given now why step t takes served same left,
+    posts,
+  )
     where
-      answered : step ≡ coordinator_answer s.retry (own place.Tc ms) given now
-      answered = (takes (own place.Tc ms) t.coordinated).0 ∙ ap (λ r. coordinator_answer r (own place.Tc ms) given now) t.retry
+      owns : List Own
+      owns = own place.Tc ms
 
-      posts : IsGiven s given → AllPost s ms → (out : Outgoing) → step.sent ≡ Some out → IsPost s place.Tc out.to out.message
-      posts g post out e = coordinator_posts s s.retry (own place.Tc ms) given now g out (ap (λ (d : Step). d.sent) (sym answered) ∙ e)
+      served : IsServed (role_of (retry_of c)) given
+      served = coordinator_served s (retry_of c) given g
+
+      same_role : role_of (retry_of c) ≡ CoordinatorRole (times_of s) []
+      same_role = ap (λ r. role_of r) t.retry ∙ ap (λ f. CoordinatorRole (record { retry = s.retry; forget = f }) []) (sym t.can.keeps)
+
+      answered : step ≡ happens (CoordinatorRole (times_of s) []) owns now false false (Given given)
+      answered = (takes owns t.coordinated served).0 ∙ ap (λ r. happens r owns now false false (Given given)) same_role
+
+      plain : IsPlain owns
+      plain = stands_plain c owns t.coordinated
+
+      posts : AllPost s ms → (out : Outgoing) → step.sent ≡ Some out → IsPost s place.Tc out.to out.message
+      posts post out e =
+          coordinator_posts s owns now given plain.simple g out
+          (ap (λ (d : Step). d.sent) (sym (answered ∙ happens_plain (CoordinatorRole (times_of s) []) owns now given plain.up plain.unarmed)) ∙ e)
 
   pub manager_steps : (managers' : List Manager) (n : ℕ) → IsNode s (place.Man n) → StepsManager managers managers' (n - 1) given now step
       → StepsAt s c managers' ms (place.Man n) given now why step
@@ -297,27 +417,46 @@ module _ (s : Scenario) (c : Coordinator) (managers : List Manager) (ms : List M
     where
       at : (k : ℕ) (def : ManagerDef) → slice_get s.managers k ≡ Some def → StepsManager managers managers' k given now step
           → (m : Manager) × (slice_get managers k ≡ Some m) × IsManagerOf s ms (k + 1) def m → StepsAt s c managers' ms (place.Man (k + 1)) given now why step
-      at k def here st (m, there, is) = (subst (λ r. IsAnswer r (own (place.Man (k + 1)) ms) (Given given) now step) (sym (role_of_manager s k def here)) answered, nodes, posts)
+      at k def here st (m, there, is) = (subst (λ r. HappensAt r owns now (Given given) step) (sym (role_of_manager s k def here)) happened, nodes, posts)
         where
+          owns : List Own
+          owns = own (place.Man (k + 1)) ms
+
+          wanted : Settings
+          wanted = settings_of s.lock_tries (k + 1) def
+
           same_manager : st.before ≡ m
           same_manager = same_Some st.before m (sym st.at ∙ there)
 
           takes : TakesStep ManagerStandsFor (ManagerRole (settings m)) m st.after given now step
           takes = subst (λ b. TakesStep ManagerStandsFor (ManagerRole (settings b)) b st.after given now step) same_manager st.takes
 
-          answered : step ≡ manager_answer (settings_of (k + 1) def) (own (place.Man (k + 1)) ms) given
-          answered = (takes (own (place.Man (k + 1)) ms) is.stands).0 ∙ ap (λ m. manager_answer m (own (place.Man (k + 1)) ms) given) is.same
+          quiet : (def.calls ≡ []) × (def.poll ≡ false)
+          quiet = t.can.quiet k def here
+
+          served : IsServed (ManagerRole (settings m)) given
+          served = manager_served s (settings m) given refl refl g
+
+          answered : step ≡ happens (ManagerRole wanted) owns now false false (Given given)
+          answered = (takes owns is.stands served).0 ∙ ap (λ w. happens (ManagerRole w) owns now false false (Given given)) is.same
+
+          happened : Happens (ManagerRole wanted) owns now (Given given) step
+          happened = record { fault = false; keeps = false; comes = tt; done = answered }
 
           nodes : Nodes s c managers' (next ms (place.Man (k + 1)) now why (Some (Given given)) step ∷ ms)
           nodes = subst (λ l. Nodes s c l (next ms (place.Man (k + 1)) now why (Some (Given given)) step ∷ ms)) (sym st.changed)
-              (nodes_manager s c managers ms k def m st.after given now why step t here there is takes (st.same ∙ ap settings same_manager) (st.counted ∙ ap manager_steps_of same_manager))
+              (nodes_manager s c managers ms k def m st.after given now why step t here there is takes served (st.same ∙ ap settings same_manager) (st.counted ∙ ap manager_steps_of same_manager))
 
           self : IsNode s (place.Man (k + 1))
-          self = (ManagerRole (settings_of (k + 1) def), role_of_manager s k def here)
+          self = (ManagerRole wanted, role_of_manager s k def here)
 
-          posts : IsGiven s given → AllPost s ms → (out : Outgoing) → step.sent ≡ Some out → IsPost s (place.Man (k + 1)) out.to out.message
-          posts g post out e = manager_posts s (settings_of (k + 1) def) self (own (place.Man (k + 1)) ms) given
-              (λ msg last. last_named s ms post (place.Man (k + 1)) msg last) out (ap (λ (d : Step). d.sent) (sym answered) ∙ e)
+          plain : (is_down owns ≡ false) × (calls_left false owns ≡ None)
+          plain = manager_plain m owns is.stands
+
+          posts : AllPost s ms → (out : Outgoing) → step.sent ≡ Some out → IsPost s (place.Man (k + 1)) out.to out.message
+          posts post out e = manager_posts s wanted self quiet.0 quiet.1 owns given g
+              (λ msg last. last_named s ms post (place.Man (k + 1)) msg last) out
+              (ap (λ (d : Step). d.sent) (sym (answered ∙ happens_plain (ManagerRole wanted) owns now given plain.0 plain.1)) ∙ e)
 
       by : (n : ℕ) → (k : ℕ) × (def : ManagerDef) × (n ≡ k + 1) × (slice_get s.managers k ≡ Some def) → StepsManager managers managers' (n - 1) given now step
           → StepsAt s c managers' ms (place.Man n) given now why step
@@ -327,17 +466,17 @@ module _ (s : Scenario) (c : Coordinator) (managers : List Manager) (ms : List M
           (at k def here (subst (λ j. StepsManager managers managers' j given now step) index st) (t.managed k def here))
 
 -- the same where the other nodes are said to be the same
-pub coordinator_steps_at : (s : Scenario) (c c' : Coordinator) (managers managers' : List Manager) (ms : List Moment) (p : Place) (given : Input) (now : ℕ) (why : Cause) (step : Step)
-    → Nodes s c managers ms → p ≡ place.Tc → TakesStep StandsFor (CoordinatorRole (retry_of c)) c c' given now step → retry_of c' ≡ retry_of c
+pub coordinator_steps_at : (s : Scenario) (c c' : Coordinator) (managers managers' : List Manager) (ms : List Moment) (p : Place) (given : Input) (now : ℕ) (why : Reason) (step : Step)
+    → Nodes s c managers ms → IsGiven s given → p ≡ place.Tc → TakesStep StandsFor (role_of (retry_of c)) c c' given now step → retry_of c' ≡ retry_of c
     → steps_of c' + 1 ≡ steps_of c → managers' ≡ managers → StepsAt s c' managers' ms p given now why step
-coordinator_steps_at s c c' managers managers' ms p given now why step t at takes same left others =
+coordinator_steps_at s c c' managers managers' ms p given now why step t g at takes same left others =
     subst (λ l. StepsAt s c' l ms p given now why step) (sym others)
-    (subst (λ q. StepsAt s c' managers ms q given now why step) (sym at) (coordinator_steps s c managers ms given now why step t c' takes same left))
+    (subst (λ q. StepsAt s c' managers ms q given now why step) (sym at) (coordinator_steps s c managers ms given now why step t g c' takes same left))
 
-pub manager_steps_at : (s : Scenario) (c c' : Coordinator) (managers managers' : List Manager) (ms : List Moment) (p : Place) (n : ℕ) (given : Input) (now : ℕ) (why : Cause) (step : Step)
-    → Nodes s c managers ms → IsNode s p → p ≡ place.Man n → StepsManager managers managers' (n - 1) given now step → c' ≡ c
+pub manager_steps_at : (s : Scenario) (c c' : Coordinator) (managers managers' : List Manager) (ms : List Moment) (p : Place) (n : ℕ) (given : Input) (now : ℕ) (why : Reason) (step : Step)
+    → Nodes s c managers ms → IsGiven s given → IsNode s p → p ≡ place.Man n → StepsManager managers managers' (n - 1) given now step → c' ≡ c
     → StepsAt s c' managers' ms p given now why step
-manager_steps_at s c c' managers managers' ms p n given now why step t node at stepped same =
+manager_steps_at s c c' managers managers' ms p n given now why step t g node at stepped same =
     subst (λ k. StepsAt s k managers' ms p given now why step) (sym same)
     (subst (λ q. StepsAt s c managers' ms q given now why step) (sym at)
-    (manager_steps s c managers ms given now why step t managers' n (subst (λ q. IsNode s q) at node) stepped))
+    (manager_steps s c managers ms given now why step t g managers' n (subst (λ q. IsNode s q) at node) stepped))

@@ -10,8 +10,12 @@ use Rattle.scenario_reader.specs.declared.scenarios.Scenario.{Scenario}
 use Rattle.scenario_reader.specs.Reading.{IsScenario, IsFault}
 use Rattle.seata_lab.specs.declared.unbuilt.Unbuilt.{Unbuilt}
 use Rattle.seata_lab.specs.Unbuilt.{path_of, first_unbuilt, IsBuilt}
-use Rattle.history_text.specs.History.{Moment, IsRun}
+use Rattle.history_rules.specs.Nodes.{no_past}
+use Rattle.history_rules.specs.Histories.{Moment}
+use Rattle.history_law.specs.Safety.{IsSafeHistory}
+use Rattle.history_text.specs.History.{IsRun}
 use Rattle.history_text.specs.Report.{line, report}
+use Rattle.history_text.specs.Worlds.{world_of}
 use Rattle.seata_lab.specs.FrameLines.{frames_text}
 use Rattle.disk_model.specs.Disk.{Rose}
 use Rattle.seata_lab.specs.Streams.{GainsFront, Devices, IsCalm}
@@ -65,9 +69,10 @@ fault_text fault.NoMemory = []
 abbrev pub unbuilt_text : Unbuilt → List ℕ
 unbuilt_text part = codes "scenario: Unbuilt " ++ path_of part
 
--- the report of a legal history that follows the schedule of the scenario that the bytes are, all of which can be run
+-- the report of a history that is legal by the rules of all nodes, follows the schedule of the scenario that the bytes
+-- are, all of which can be run, and is safe
 unfoldable pub IsReportOf : List ℕ → List ℕ → Type 0
-IsReportOf bytes text = (s : Scenario) × IsScenario bytes s × IsBuilt s × (ms : List Moment) × IsRun s ms × (text ≡ report s ms)
+IsReportOf bytes text = (s : Scenario) × IsScenario bytes s × IsBuilt s × (ms : List Moment) × IsRun s ms × IsSafeHistory (world_of s) no_past ms × (text ≡ report s ms)
 
 -- the line of what keeps the bytes from being a scenario
 unfoldable pub IsFaultOf : List ℕ → List ℕ → Type 0
@@ -86,7 +91,8 @@ unfoldable pub IsAnswerTo : List ℕ → List ℕ → ℕ → Type 0
 IsAnswerTo bytes text status = ((status ≡ 0) × IsReportOf bytes text) ⊎ ((status ≡ 3) × IsRefusalOf bytes text)
 
 -- at status 0: the source was read to its end, its bytes are a scenario, all of which can be run, and the sink got the
--- report of a legal history that follows its schedule
+-- report of a legal history that follows its schedule; and this history is safe, at each of its points: no row has two
+-- holders, what isn't undone is covered, and each finished transaction ended as it was decided
 pub record Replays (input : List ℕ) (old new : Devices) : Type 0 where
   pub read_to_end : new.left ≡ Some []
   pub scenario : Scenario
@@ -94,6 +100,7 @@ pub record Replays (input : List ℕ) (old new : Devices) : Type 0 where
   pub is_built : IsBuilt scenario
   pub history : List Moment
   pub is_run : IsRun scenario history
+  pub is_safe : IsSafeHistory (world_of scenario) no_past history
   pub printed : Appends old.written new.written (report scenario history)
 
 -- at status 3: the source was read as far as inputs are, and the sink got the line of what keeps the input from being

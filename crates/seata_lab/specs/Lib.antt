@@ -3,6 +3,7 @@ pub mod Talks
 pub mod ManagerStanding
 pub mod Streams
 pub mod Runs
+pub mod Sessions
 pub mod FrameLines
 pub mod Listings
 pub mod Answers

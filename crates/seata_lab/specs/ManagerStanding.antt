@@ -1,7 +1,7 @@
 -- What the runner sees of a manager.
 use Rattle.std.specs.Prelude.{ℕ, List}
-use Rattle.history_text.specs.Own.{Own}
-use Rattle.history_text.specs.ManagerRules.{Settings}
+use Rattle.history_rules.specs.Own.{Own}
+use Rattle.history_rules.specs.ManagerRules.{Settings}
 use Rattle.seata_lab.specs.declared.managers.Manager.{Manager}
 use Rattle.seata_lab.specs.Talks.{Tracks, settings_of}
 

@@ -15,12 +15,19 @@ use Rattle.scenario_reader.specs.declared.scenarios.Scenario.{Scenario}
 use Rattle.scenario_reader.specs.declared.scenarios.ScheduleItem.{ScheduleItem}
 use Rattle.scenario_reader.specs.Runnable.{FitsNodes}
 use Rattle.seata_lab.specs.Unbuilt.{is_unbuilt}
+use Rattle.history_rules.specs.Own.{Event, Given}
+use Rattle.history_rules.specs.ManagerRules.{Settings}
+use Rattle.history_rules.specs.Nodes.{Role, no_past, role_at}
+use Rattle.history_rules.specs.Nodes.{Manager as ManagerRole}
+use Rattle.history_rules.specs.Histories.{Moment, own, HappensAt, Legal}
+use Rattle.history_rules.specs.Histories.{Cause as Reason}
+use Rattle.history_rules.specs.Schedules.{Follows, clock, singles}
 use Rattle.history_text.specs.declared.entries.Cause.{Cause}
 use Rattle.history_text.specs.declared.entries.Entry.{Entry}
 use Rattle.history_text.specs.Notes.{sent_of}
-use Rattle.history_text.specs.Own.{Event, Given}
-use Rattle.history_text.specs.History.{Moment, IsAnswer, entries, own, role_at, clock, Legal, Follows, settings_of}
-use Rattle.history_text.specs.Rules.{Role, Manager as ManagerRole, TakesStep}
+use Rattle.history_text.specs.History.{cause_of, entries}
+use Rattle.history_text.specs.Promises.{TakesStep}
+use Rattle.history_text.specs.Worlds.{items_of, resources_of, settings_of, world_of}
 use Rattle.frame_codec.specs.Limits.{IsFramable}
 use Rattle.coordinator_core.specs.Standing.{StandsFor, retry_of, steps_of}
 use Rattle.coordinator_core.specs.declared.nodes.Coordinator.{Coordinator}
@@ -30,14 +37,27 @@ use Rattle.seata_lab.specs.declared.runner.Delivery.{Delivery}
 use Rattle.seata_lab.specs.declared.runner.Letter.{Letter}
 use Rattle.seata_lab.specs.declared.runner.Run.{Run}
 
+-- what the nodes of today can run of a scenario: the coordinator forgets no transaction, there are no resources, no manager
+-- makes calls or asks for the status at its end, and each member of the schedule is one step
+pub record CanRun (s : Scenario) : Type 0 where
+  pub keeps : s.forget ≡ 0
+  pub alone : resources_of s ≡ []
+  pub quiet : (k : ℕ) (def : ManagerDef) → slice_get s.managers k ≡ Some def → (def.calls ≡ []) × (def.poll ≡ false)
+  pub single : singles (items_of s) ≡ items_of s
+
 -- a node stands at this place
 abbrev pub IsNode : Scenario → Place → Type 0
-IsNode s p = (role : Role) × (role_at s p ≡ Some role)
+IsNode s p = (role : Role) × (role_at (world_of s) no_past p ≡ Some role)
 
--- a Begin names a manager of the scenario
+-- a Begin names a manager of the scenario, and no message is about branches, calls or a status that was asked for
 abbrev pub NamesNode : Scenario → Message → Type 0
 NamesNode s (message.Begin manager timeout) = IsNode s (place.Man manager)
-NamesNode s _ = Unit {0}
+NamesNode s (message.Begun xid) = Unit {0}
+NamesNode s (message.GlobalCommit xid) = Unit {0}
+NamesNode s (message.CommitStatus xid status) = Unit {0}
+NamesNode s (message.GlobalRollback xid) = Unit {0}
+NamesNode s (message.RollbackStatus xid status) = Unit {0}
+NamesNode s _ = ⊥
 
 -- a message between nodes of the scenario
 pub record IsPost (s : Scenario) (from to : Place) (sent : Message) : Type 0 where
@@ -81,7 +101,7 @@ AllPost s (m ∷ ms) = AllPost s ms × ((out : Outgoing) → m.step.sent ≡ Som
 -- the manager of this number, counted from 1, is the node of its own entries
 pub record IsManagerOf (s : Scenario) (ms : List Moment) (n : ℕ) (def : ManagerDef) (m : Manager) : Type 0 where
   pub stands : ManagerStandsFor m (own (place.Man n) ms)
-  pub same : settings m ≡ settings_of n def
+  pub same : settings m ≡ settings_of s.lock_tries n def
   pub able : NODE_STEPS ≤ manager_steps_of m + length ms
 
 -- the k-th manager of a list is that of the scenario
@@ -91,6 +111,7 @@ HasManager s ms k managers =
 
 -- the nodes stand for their own entries
 pub record Nodes (s : Scenario) (coordinator : Coordinator) (managers : List Manager) (ms : List Moment) : Type 0 where
+  pub can : CanRun s
   pub coordinated : StandsFor coordinator (own place.Tc ms)
   pub retry : retry_of coordinator ≡ s.retry
   pub able : NODE_STEPS ≤ steps_of coordinator + length ms
@@ -102,14 +123,14 @@ pub record Plays (s : Scenario) (r : Run) (ms : List Moment) : Type 0 where
   pub nodes : Nodes s r.coordinator r.managers.items ms
   pub printed : r.entries.items ≡ entries ms
   pub sent : r.letters.items ≡ letters ms
-  pub clocked : r.clock ≡ clock ms
+  pub clocked : r.clock ≡ clock no_past ms
   pub slow : r.clock ≤ length ms * TICKS
-  pub legal : Legal s ms
-  pub follows : Follows s ms
+  pub legal : Legal (world_of s) no_past ms
+  pub follows : Follows (world_of s) no_past (items_of s) ms
   pub post : AllPost s ms
 
 -- the next moment: its stamp is one more than there are moments
-abbrev pub next : List Moment → Place → ℕ → Cause → Option Event → Step → Moment
+abbrev pub next : List Moment → Place → ℕ → Reason → Option Event → Step → Moment
 next ms at now why event step = record { stamp = length ms + 1; place = at; now = now; cause = why; event = event; step = step }
 
 -- the entry of the next moment, after so many
@@ -150,22 +171,26 @@ pub record StepsManager (old new : List Manager) (k : ℕ) (given : Input) (now 
   pub same : settings after ≡ settings before
   pub counted : manager_steps_of after + 1 ≡ manager_steps_of before
 
--- said of each history that the run's nodes stand for: a node took the step that is its one answer, and the nodes
+-- what happened at a place is this step
+abbrev pub HasHappened : Scenario → List Moment → Place → Input → ℕ → Step → Type 0
+HasHappened s ms at given now step = HappensAt (role_at (world_of s) no_past at) (own at ms) now (Given given) step
+
+-- said of each history that the run's nodes stand for: a node took the step that happens by the rules, and the nodes
 -- then stand for the history with that moment
 abbrev pub IsStepOf : Run → Run → Place → Input → Step → Type 0
 IsStepOf old new at given step =
-    (s : Scenario) (ms : List Moment) (why : Cause) → Nodes s old.coordinator old.managers.items ms → IsNode s at
-    → IsAnswer (role_at s at) (own at ms) (Given given) old.clock step
-    × Nodes s new.coordinator new.managers.items (next ms at old.clock why (Some (Given given)) step ∷ ms)
-    × (IsGiven s given → AllPost s ms → (out : Outgoing) → step.sent ≡ Some out → IsPost s at out.to out.message)
+    (s : Scenario) (ms : List Moment) (reason : Reason) → Nodes s old.coordinator old.managers.items ms → IsNode s at → IsGiven s given
+    → HasHappened s ms at given old.clock step
+    × Nodes s new.coordinator new.managers.items (next ms at old.clock reason (Some (Given given)) step ∷ ms)
+    × (AllPost s ms → (out : Outgoing) → step.sent ≡ Some out → IsPost s at out.to out.message)
 
--- said likewise: a node took the step that is its one answer, and its entry was added
+-- said likewise: a node took the step that happens by the rules, and its entry was added
 abbrev pub Gives : Run → Run → Place → Cause → Input → Type 0
 Gives old new at why given =
-    (s : Scenario) (ms : List Moment) → Nodes s old.coordinator old.managers.items ms → IsNode s at
-    → (step : Step) × IsAnswer (role_at s at) (own at ms) (Given given) old.clock step
-    × Nodes s new.coordinator new.managers.items (next ms at old.clock why (Some (Given given)) step ∷ ms)
-    × (IsGiven s given → AllPost s ms → (out : Outgoing) → step.sent ≡ Some out → IsPost s at out.to out.message)
+    (s : Scenario) (ms : List Moment) (reason : Reason) → Nodes s old.coordinator old.managers.items ms → IsNode s at → IsGiven s given
+    → (step : Step) × HasHappened s ms at given old.clock step
+    × Nodes s new.coordinator new.managers.items (next ms at old.clock reason (Some (Given given)) step ∷ ms)
+    × (AllPost s ms → (out : Outgoing) → step.sent ≡ Some out → IsPost s at out.to out.message)
     × (new.letters.items ≡ old.letters.items ++ option_map (letter_from at (length old.entries.items + 1)) step.sent ∷ [])
     × (new.entries.items ≡ old.entries.items ++ printed_entry (length old.entries.items) at old.clock why step ∷ [])
     × (new.clock ≡ old.clock)
@@ -183,16 +208,21 @@ abbrev pub PlaysOn : Run → Run → ScheduleItem → Type 0
 PlaysOn old new step =
     (s : Scenario) (ms : List Moment) → Plays s old ms → slice_get s.schedule (length ms) ≡ Some step → (m : Moment) × Plays s new (m ∷ ms)
 
--- the manager of this number, before it does anything
-pub record IsNew (n : ℕ) (def : ManagerDef) (m : Manager) : Type 0 where
+-- a manager of this number that makes no calls and doesn't ask for the status at its end
+abbrev pub quiet_settings : (tries number : ℕ) → ManagerDef → Settings
+quiet_settings tries n def =
+    record { number = n; timeout = def.timeout; tries = tries; calls = []; ending = def.ending; silent = def.silent; poll = false }
+
+-- the manager of this number, before it does anything, with these tries for a call
+pub record IsNew (tries n : ℕ) (def : ManagerDef) (m : Manager) : Type 0 where
   pub stands : ManagerStandsFor m []
-  pub same : settings m ≡ settings_of n def
+  pub same : settings m ≡ quiet_settings tries n def
   pub able : manager_steps_of m ≡ NODE_STEPS
 
 -- the managers of these definitions, before they do anything
-pub record AreManagers (defs : List ManagerDef) (managers : List Manager) : Type 0 where
+pub record AreManagers (tries : ℕ) (defs : List ManagerDef) (managers : List Manager) : Type 0 where
   pub count : length managers ≡ length defs
-  pub each : (k : ℕ) (def : ManagerDef) → slice_get defs k ≡ Some def → (m : Manager) × (slice_get managers k ≡ Some m) × IsNew (k + 1) def m
+  pub each : (k : ℕ) (def : ManagerDef) → slice_get defs k ≡ Some def → (m : Manager) × (slice_get managers k ≡ Some m) × IsNew tries (k + 1) def m
 
 -- the run made a history of the whole schedule
 abbrev pub HasPlayed : Scenario → Run → Type 0

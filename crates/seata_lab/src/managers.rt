@@ -18,11 +18,12 @@ pub enum Phase {
     Closed,
 }
 
-/// A manager's settings, how many messages it sent, and what it waits for.
+/// A manager's settings, how many messages it sent, and what it waits for. The tries are those of a call.
 #[derive(Clone, Copy)]
 pub struct Talk {
     pub number: u16,
     pub timeout: u64,
+    pub tries: u32,
     pub ending: Ending,
     pub silent: Option<u32>,
     pub sent: u32,
@@ -37,8 +38,8 @@ impl Talk {
     ghost use Rattle.seata_types.specs.declared.messages.Message.TheVariants as message;
     ghost use Rattle.frame_codec.specs.Limits.{IsFramable};
     ghost use Rattle.history_text.specs.Framing.{SendsFramable};
-    ghost use Rattle.history_text.specs.Own as own;
-    ghost use Rattle.history_text.specs.ManagerRules as rules;
+    ghost use Rattle.history_rules.specs.Own as own;
+    ghost use Rattle.history_rules.specs.ManagerRules as rules;
     ghost use Rattle.coordinator_core.specs.declared.nodes.TheConstants.{NODE_STEPS};
     ghost use Rattle.seata_lab.specs.Talks.{ending_phase, CanTalk, Says, IsAnswered};
     ghost use Rattle.seata_lab.specs.declared.managers.Phase.TheVariants as phase;
@@ -120,7 +121,7 @@ impl Talk {
     /// Ends its transaction as it was told to.
     fn go_on(&mut self, xid: Xid) -> Step
         requires { self.old.sent ≤ NODE_STEPS }
-        ensures { Says self.old self.new (ending_phase self.old.ending xid) (own.sends acts.GoesOn place.Tc (rules.ending_message self.old.ending xid)) result }
+        ensures { Says self.old self.new (ending_phase self.old.ending xid) (own.sends acts.GoesOn place.Tc (rules.end_message self.old.ending xid)) result }
     {
         match self.ending {
             Ending::Commit => self.ask_commit(Act::GoesOn, xid),
@@ -183,25 +184,32 @@ pub struct Manager {
 }
 
 impl Manager {
-    ghost use Rattle.std.specs.Prelude.{◌≡◌, []};
+    ghost use Rattle.std.specs.Prelude.{◌≡◌, [], false};
     ghost use Rattle.frame_codec.specs.Limits.{IsCounted};
     ghost use Rattle.seata_types.specs.declared.limits.TheConstants.{MANAGERS, TICKS};
     ghost use Rattle.coordinator_core.specs.declared.nodes.TheConstants.{NODE_STEPS};
     ghost use Rattle.seata_lab.specs.ManagerStanding.{StandsFor, settings, steps_of};
 
-    /// A manager that stands for no own entries; takes no memory.
+    /// A manager without calls that stands for no own entries; takes no memory.
     #[tactic(auto, unfolding(crate::specs::ManagerStanding::StandsFor))]
-    pub fn new(number: u16, timeout: u64, ending: Ending, silent: Option<u32>) -> Manager
+    pub fn new(
+        number: u16,
+        timeout: u64,
+        tries: u32,
+        ending: Ending,
+        silent: Option<u32>,
+    ) -> Manager
         requires numbered { IsCounted MANAGERS number }
         requires timed { IsCounted TICKS timeout }
         ensures fresh { StandsFor result [] }
-        ensures settings { settings result ≡ record { number = number; timeout = timeout; ending = ending; silent = silent } }
+        ensures settings { settings result ≡ record { number = number; timeout = timeout; tries = tries; calls = []; ending = ending; silent = silent; poll = false } }
         ensures steps { steps_of result ≡ NODE_STEPS }
     {
         Manager {
             talk: Talk {
                 number,
                 timeout,
+                tries,
                 ending,
                 silent,
                 sent: 0,
@@ -214,7 +222,7 @@ impl Manager {
 
 impl Node for Manager {
     ghost use Rattle.std.specs.Prelude.{false};
-    ghost use Rattle.history_text.specs.Rules.{Manager as ManagerRole};
+    ghost use Rattle.history_rules.specs.Nodes.{Manager as ManagerRole};
     ghost use Rattle.seata_lab.specs.ManagerStanding.{StandsFor, settings, steps_of};
 
     ghost role = { λ m. ManagerRole (settings m) };

@@ -12,15 +12,19 @@ use scenario_reader::{ManagerDef, Scenario};
 use seata_types::NoMemory;
 use std::alloc::Global;
 
-/// The managers of a scenario, before they do anything.
-fn new_managers(alloc: Global, managers: &[ManagerDef]) -> Result<Vec<Manager>, NoMemory>
+/// The managers of a scenario, before they do anything, with these tries for a call.
+fn new_managers(
+    alloc: Global,
+    tries: u32,
+    managers: &[ManagerDef],
+) -> Result<Vec<Manager>, NoMemory>
     requires few { length managers.now ≤ MANAGERS }
     requires timed { All IsTimed managers.now }
-    ensures { IfOk result (λ made. AreManagers managers.now made.items) }
+    ensures { IfOk result (λ made. AreManagers tries managers.now made.items) }
 {
     let mut made = Vec::new(alloc);
     for (k, def) in managers.iter().enumerate() {
-        let manager = Manager::new(k as u16 + 1, def.timeout, def.ending, def.silent);
+        let manager = Manager::new(k as u16 + 1, def.timeout, tries, def.ending, def.silent);
         made.push(manager).map_err(|_| NoMemory)?;
     }
     Ok(made)
@@ -28,12 +32,13 @@ fn new_managers(alloc: Global, managers: &[ManagerDef]) -> Result<Vec<Manager>, 
 
 /// A run that made nothing yet.
 fn new_run(alloc: Global, scenario: &Scenario) -> Result<Run, NoMemory>
-    requires { IsRunnable scenario.now }
+    requires runnable { IsRunnable scenario.now }
+    requires built { IsBuilt scenario.now }
     ensures { IfOk result (λ made. Plays scenario.now made []) }
 {
     Ok(Run {
         coordinator: Coordinator::new(alloc, scenario.retry),
-        managers: new_managers(alloc, scenario.managers.as_slice())?,
+        managers: new_managers(alloc, scenario.lock_tries, scenario.managers.as_slice())?,
         letters: Vec::new(alloc),
         entries: Vec::new(alloc),
         clock: 0,

@@ -1,11 +1,13 @@
 //! The report of a run.
 ghost use Rattle.std.specs.Prelude.{◌≡◌, ◌++◌, [], ℕ, List, codes, map, IfOk, OnOk, string_bytes};
-ghost use Rattle.history_text.specs.Own.{Own};
-ghost use Rattle.history_text.specs.CoordinatorRules.{begun};
-ghost use Rattle.history_text.specs.History.{Moment};
+ghost use Rattle.history_rules.specs.Own.{Own};
+ghost use Rattle.history_rules.specs.Histories.{Moment};
 ghost use Rattle.history_text.specs.Report as report;
+ghost use Rattle.history_text.specs.Lines.{entry_text};
 ghost use Rattle.coordinator_core.specs.Standing.{StandsFor};
+ghost use Rattle.coordinator_core.specs.Tracks.{begun, records};
 ghost use Rattle.seata_lab.specs.Runs.{Plays};
+ghost use Rattle.seata_lab.specs.Sessions.{plain_text, lines_to, plain_report};
 
 use crate::runner::Run;
 use coordinator_core::{Coordinator, Session};
@@ -74,7 +76,7 @@ fn node_names(alloc: Global, scenario: &Scenario) -> Result<Names, NoMemory>
 
 /// The lines of the entries.
 fn put_entries(out: &mut String, entries: &[Entry], names: &Names) -> Result<(), AllocError>
-    ensures { OnOk result (string_bytes out.new ≡ string_bytes out.old ++ report.entry_lines names.now entries.now) }
+    ensures { OnOk result (string_bytes out.new ≡ string_bytes out.old ++ report.lines (entry_text names.now) entries.now) }
 {
     for entry in entries {
         put_entry(out, entry, names)?;
@@ -85,7 +87,7 @@ fn put_entries(out: &mut String, entries: &[Entry], names: &Names) -> Result<(),
 
 /// The line of a session.
 fn put_session(out: &mut String, x: u64, session: &Session, names: &Names) -> Result<(), AllocError>
-    ensures { OnOk result (string_bytes out.new ≡ string_bytes out.old ++ report.session_text names.now x session.now.manager session.now.status) }
+    ensures { OnOk result (string_bytes out.new ≡ string_bytes out.old ++ plain_text names.now x session.now.manager session.now.status) }
 {
     write!(out, "tc:{x} ")?;
     put_place(out, Place::Man(session.manager), names)?;
@@ -104,7 +106,7 @@ fn put_sessions(
     names: &Names,
 ) -> Result<(), AllocError>
     ensures { OnOk result ((owns : List Own) → StandsFor coordinator.now owns
-        → string_bytes out.new ≡ string_bytes out.old ++ report.session_lines names.now owns (begun owns)) }
+        → string_bytes out.new ≡ string_bytes out.old ++ lines_to names.now (records owns) (begun (records owns))) }
 {
     for k in 0..coordinator.begun() {
         let x = k as u64 + 1;
@@ -116,10 +118,10 @@ fn put_sessions(
 }
 
 /// The text of the report.
-#[tactic(auto, unfolding(history_text::specs::Report::report_text))]
+#[tactic(auto, unfolding(crate::specs::Sessions::plain_report))]
 fn put_report(out: &mut String, run: &Run, names: &Names) -> Result<(), AllocError>
     ensures { OnOk result ((owns : List Own) → StandsFor run.now.coordinator owns
-        → string_bytes out.new ≡ string_bytes out.old ++ report.report_text names.now run.now.entries.items owns) }
+        → string_bytes out.new ≡ string_bytes out.old ++ plain_report names.now run.now.entries.items (records owns)) }
 {
     out.push_str("entries\n")?;
     put_entries(out, run.entries.as_slice(), names)?;
@@ -130,7 +132,6 @@ fn put_report(out: &mut String, run: &Run, names: &Names) -> Result<(), AllocErr
 }
 
 /// The report of a run.
-#[tactic(auto, unfolding(history_text::specs::Report::report))]
 pub fn write_report(alloc: Global, scenario: &Scenario, run: &Run) -> Result<String, NoMemory>
     ensures { IfOk result (λ text. (ms : List Moment) → Plays scenario.now run.now ms → string_bytes text ≡ report.report scenario.now ms) }
 {

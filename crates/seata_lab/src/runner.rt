@@ -54,17 +54,15 @@ fn open(alloc: Global, letter: &Letter) -> Result<Delivery, NoMemory>
 impl Run {
     ghost use Rattle.seata_types.specs.declared.limits.TheConstants.{STEPS};
     ghost use Rattle.std.specs.Prelude.{◌≡◌, ◌+◌, ◌++◌, ◌∷◌, [], ◌<◌, ◌≤◌, ◌^◌, ℕ, List, length, slice_get, Option, Some, None, IfOk, OnOk, IfSome, option_map};
-    ghost use Rattle.coordinator_core.specs.Standing.{StandsFor, retry_of, steps_of};
+    ghost use Rattle.coordinator_core.specs.Standing.{StandsFor, retry_of, role_of, steps_of};
     ghost use Rattle.seata_lab.specs.ManagerStanding.{steps_of as manager_steps_of};
-    ghost use Rattle.history_text.specs.Rules.{Coordinator as CoordinatorRole, TakesStep};
+    ghost use Rattle.history_text.specs.Promises.{TakesStep};
     ghost use Rattle.seata_types.specs.declared.acts.Act.TheVariants as acts;
     ghost use Rattle.seata_types.specs.declared.ids.Place.TheVariants as places;
     ghost use Rattle.scenario_reader.specs.declared.scenarios.Scenario.{Scenario as TheScenario};
     ghost use Rattle.frame_codec.specs.Limits.{IsFramable};
-    ghost use Rattle.history_text.specs.Own.{Given, still as still_step};
+    ghost use Rattle.history_rules.specs.Own.{still as still_step};
     ghost use Rattle.history_text.specs.Framing.{ComesFramable, SendsFramable, IsFramableTo};
-    ghost use Rattle.history_text.specs.History.{Moment, entry_of, own};
-    ghost use Rattle.history_text.specs.Rules.{answer};
     ghost use Rattle.seata_lab.specs.Runs.{Plays, Nodes, next, letter_at, letter_from, letters, delivery_of, IsFramableDelivery, IsNode, IsPost, IsGiven, CanStep, IsRecorded, printed_entry, StepsManager, IsStepOf, Gives, CanPlay, Fits, PlaysOn};
     ghost use Rattle.scenario_reader.specs.declared.scenarios.ScheduleItem.TheVariants as item;
 
@@ -72,7 +70,7 @@ impl Run {
     fn step_coordinator(&mut self, alloc: Global, input: Input) -> Result<Step, NoMemory>
         requires able { 0 < steps_of self.old.coordinator }
         requires moment { self.old.clock ≤ 2 ^ 63 }
-        ensures takes { IfOk result (TakesStep StandsFor (CoordinatorRole (retry_of self.old.coordinator)) self.old.coordinator self.new.coordinator input self.old.clock) }
+        ensures takes { IfOk result (TakesStep StandsFor (role_of (retry_of self.old.coordinator)) self.old.coordinator self.new.coordinator input self.old.clock) }
         ensures framable { ComesFramable input → IfOk result SendsFramable }
         ensures same { retry_of self.new.coordinator ≡ retry_of self.old.coordinator }
         ensures counted { OnOk result (steps_of self.new.coordinator + 1 ≡ steps_of self.old.coordinator) }

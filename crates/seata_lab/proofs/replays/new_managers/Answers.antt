@@ -7,12 +7,12 @@ use Rattle.seata_lab.proofs.replays.new_managers.Goals as goal
 pub loop-k-preserved : goal.loop-k-preserved
 loop-k-preserved c =
     let pushed : c.push.new.self.items ≡ c.loop-k.made.items ++ c.new-manager.result ∷ [] = grind (arith, common_steps) in
-    subst (λ l. AreFirst c.args.managers.now l (c.loop-k.k + 1)) (sym pushed)
-    (first_more c.args.managers.now c.loop-k.made.items c.loop-k.k c.index-managers-k.result c.new-manager.result c.loop-k.invariant
+    subst (λ l. AreFirst c.args.tries c.args.managers.now l (c.loop-k.k + 1)) (sym pushed)
+    (first_more c.args.tries c.args.managers.now c.loop-k.made.items c.loop-k.k c.index-managers-k.result c.new-manager.result c.loop-k.invariant
     (slice_get_read c.args.managers.now _ c.loop-k.k _ refl c.loop-k-test.true c.index-managers-k.is)
     (record { stands = c.new-manager.ensures.fresh; same = c.new-manager.ensures.settings; able = c.new-manager.ensures.steps }))
 
 pub returns : goal.returns
 returns c =
     let all : c.loop-k.k ≡ length c.args.managers.now = let end = c.loop-k.auto.k-end in omega (arith, end) in
-    first_whole c.args.managers.now c.loop-k.made.items (subst (λ n. AreFirst c.args.managers.now c.loop-k.made.items n) all c.loop-k.invariant)
+    first_whole c.args.tries c.args.managers.now c.loop-k.made.items (subst (λ n. AreFirst c.args.tries c.args.managers.now c.loop-k.made.items n) all c.loop-k.invariant)

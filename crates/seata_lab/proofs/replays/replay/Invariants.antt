@@ -1,5 +1,5 @@
 use Rattle.std.proofs.Common.{◌≡◌, List, length}
-use Rattle.history_text.specs.History.{Moment}
+use Rattle.history_rules.specs.Histories.{Moment}
 use Rattle.seata_lab.specs.Runs.{Plays}
 use Rattle.seata_lab.proofs.replays.replay.Given as goal
 

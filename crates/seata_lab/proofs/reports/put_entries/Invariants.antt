@@ -1,7 +1,8 @@
 use Rattle.std.proofs.Common.{◌≡◌, ◌++◌, drop, string_bytes}
-use Rattle.history_text.specs.Report.{entry_lines}
+use Rattle.history_text.specs.Lines.{entry_text}
+use Rattle.history_text.specs.Report.{lines}
 use Rattle.seata_lab.proofs.reports.put_entries.Given as goal
 
 abbrev pub invariant-loop-entry : goal.invariant-loop-entry
 invariant-loop-entry l =
-    string_bytes l.out ++ entry_lines l.names (drop l.entry-index l.entries) ≡ string_bytes l.initial.out ++ entry_lines l.names l.entries
+    string_bytes l.out ++ lines (entry_text l.names) (drop l.entry-index l.entries) ≡ string_bytes l.initial.out ++ lines (entry_text l.names) l.entries

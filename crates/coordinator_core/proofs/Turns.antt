@@ -1,7 +1,7 @@
 -- Which transaction a turn takes.
 use Rattle.std.proofs.Common.{◌≡◌, ◌&&◌, nat_lt, ℕ, zero, suc, Bool, true, false, if◌then◌else◌, Option, Some, None, refl, ap, sym, ◌∙◌}
 use Rattle.std.specs.Option.{option_map_or}
-use Rattle.history_text.specs.CoordinatorRules.{least, or_this, soonest, sooner}
+use Rattle.history_rules.specs.CoordinatorMemory.{least, or_this, soonest, sooner}
 
 none_some : {A : Type 0} {a : A} → None ≡ Some a → ⊥
 none_some e = cc
@@ -9,6 +9,10 @@ none_some e = cc
 pub both_left : (a b : Bool) → (a && b) ≡ true → a ≡ true
 both_left true b e = refl
 both_left false b e = e
+
+pub both_right : (a b : Bool) → (a && b) ≡ true → b ≡ true
+both_right true b e = e
+both_right false b e = absurd (let no : false ≡ true = e in cc)
 
 -- the least that passes passes
 pub least_passes : (test : ℕ → Bool) (n x : ℕ) → least test n ≡ Some x → test x ≡ true
