@@ -35,10 +35,10 @@ pub(crate) fn add_act(out: &mut String, act: &Act, names: &Names) -> Result<(), 
         Act::Asked { xid, branch } => add_word_leg(out, "asked ", *xid, *branch),
         Act::Retry { xid, branch } => add_word_leg(out, "retry ", *xid, *branch),
         Act::Held { key, holder } => {
-            write!(out, "held")?;
+            out.push_str("held")?;
             add_lock(out, key, *holder, names)
         }
-        Act::Free => write!(out, "free"),
+        Act::Free => out.push_str("free"),
         Act::Opened { xid, call, ticket } => {
             add_word_call(out, "opened ", *xid, *call)?;
             add_after_space(out, *ticket)
@@ -54,15 +54,15 @@ pub(crate) fn add_act(out: &mut String, act: &Act, names: &Names) -> Result<(), 
         }
         Act::Refused { xid, call, why } => {
             add_word_call(out, "refused ", *xid, *call)?;
-            write!(out, " ")?;
+            out.push_str(" ")?;
             add_why(out, why, names)
         }
         Act::Resent { ticket } => {
-            write!(out, "resent")?;
+            out.push_str("resent")?;
             add_after_space(out, *ticket)
         }
         Act::Conflicted { ticket, count } => {
-            write!(out, "conflicted")?;
+            out.push_str("conflicted")?;
             add_after_space(out, *ticket)?;
             write!(out, " {count}")
         }
@@ -74,7 +74,7 @@ pub(crate) fn add_act(out: &mut String, act: &Act, names: &Names) -> Result<(), 
         } => {
             add_word_call(out, "dropped ", *xid, *call)?;
             add_after_space(out, *ticket)?;
-            write!(out, " ")?;
+            out.push_str(" ")?;
             add_why(out, why, names)
         }
         Act::Empty { xid, branch } => add_word_leg(out, "empty ", *xid, *branch),
@@ -113,7 +113,7 @@ pub(crate) fn add_act(out: &mut String, act: &Act, names: &Names) -> Result<(), 
         Act::WaitingLocal { number } => write!(out, "waiting-local {number}"),
         Act::RefusedLocal { number, why } => {
             add_word_number(out, "refused-local ", *number)?;
-            write!(out, " ")?;
+            out.push_str(" ")?;
             add_why(out, why, names)?;
             Ok(())
         }
@@ -136,26 +136,26 @@ pub(crate) fn add_act(out: &mut String, act: &Act, names: &Names) -> Result<(), 
             add_after_space(out, *ticket)?;
             add_lock(out, key, *holder, names)
         }
-        Act::Starts => write!(out, "starts"),
-        Act::Repeats => write!(out, "repeats"),
-        Act::GoesOn => write!(out, "goes on"),
-        Act::GivesUp => write!(out, "gives up"),
+        Act::Starts => out.push_str("starts"),
+        Act::Repeats => out.push_str("repeats"),
+        Act::GoesOn => out.push_str("goes on"),
+        Act::GivesUp => out.push_str("gives up"),
         Act::CallBusy { count } => write!(out, "busy {count}"),
         Act::Closes { status } => write!(out, "closes {}", status.code()),
-        Act::Polls => write!(out, "polls"),
+        Act::Polls => out.push_str("polls"),
         Act::Learns { status } => write!(out, "learns {}", status.code()),
-        Act::Silent => write!(out, "silent"),
-        Act::Nothing => write!(out, "none"),
-        Act::Ignored => write!(out, "ignored"),
-        Act::Lost => write!(out, "lost"),
-        Act::Armed => write!(out, "armed"),
+        Act::Silent => out.push_str("silent"),
+        Act::Nothing => out.push_str("none"),
+        Act::Ignored => out.push_str("ignored"),
+        Act::Lost => out.push_str("lost"),
+        Act::Armed => out.push_str("armed"),
         Act::Down { kept, at } => {
-            write!(out, "down")?;
+            out.push_str("down")?;
             add_with(out, " kept ", *kept)?;
             add_with(out, " at ", *at)
         }
         Act::Restarted { kept } => {
-            write!(out, "restarted")?;
+            out.push_str("restarted")?;
             add_with(out, " kept ", *kept)
         }
     }
@@ -171,10 +171,10 @@ fn add_change(
 ) -> Result<(), AllocError>
     ensures { OnOk result (string_bytes out.new ≡ string_bytes out.old ++ (codes " " ++ lines.change_text names.now key.now after.now now.now)) }
 {
-    write!(out, " ")?;
+    out.push_str(" ")?;
     add_key(out, key, names)?;
-    write!(out, " ")?;
+    out.push_str(" ")?;
     add_option_row(out, after)?;
-    write!(out, " ")?;
+    out.push_str(" ")?;
     add_option_row(out, now)
 }

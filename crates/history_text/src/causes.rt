@@ -11,7 +11,7 @@ pub(crate) fn add_cause(out: &mut String, cause: &Cause, names: &Names) -> Resul
     ensures { OnOk result (string_bytes out.new ≡ string_bytes out.old ++ lines.cause_text names.now cause.now) }
 {
     match cause {
-        Cause::Turn => write!(out, "turn"),
+        Cause::Turn => out.push_str("turn"),
         Cause::Deliver { stamp, from } => {
             write!(out, "deliver {stamp} ")?;
             add_place(out, *from, names)
@@ -19,7 +19,7 @@ pub(crate) fn add_cause(out: &mut String, cause: &Cause, names: &Names) -> Resul
         Cause::Missing { stamp } => write!(out, "deliver {stamp}"),
         Cause::Wait { ticks } => write!(out, "wait {ticks}"),
         Cause::Stop { calls } => write!(out, "stop {calls}"),
-        Cause::Crash => write!(out, "crash"),
+        Cause::Crash => out.push_str("crash"),
         Cause::Restart { pick, calls: None } => write!(out, "restart {pick}"),
         Cause::Restart {
             pick,

@@ -54,7 +54,7 @@ pub(crate) fn add_durable(out: &mut String, done: Durable) -> Result<(), AllocEr
             Ok(())
         }
         Durable::Outside { number } => write!(out, "outside {number}"),
-        Durable::Boot => write!(out, "boot"),
+        Durable::Boot => out.push_str("boot"),
     }
 }
 

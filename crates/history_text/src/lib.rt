@@ -19,6 +19,7 @@ mod words;
 
 pub use entries::{Cause, Entry, Names, Sent};
 pub use lines::{put_entry, put_note, put_place, write_entry};
+pub use messages::add_note;
 pub use nodes::Node;
 pub use notes::{Note, note_of};
 pub use steps::{sends, still};

@@ -22,12 +22,15 @@ pub fn write_entry(alloc: Global, of: &Entry, names: &Names) -> Result<String, N
     }
 }
 
+/// The bytes that a line is given at first: most lines have fewer, so few are copied as they grow.
+const LINE_ROOM: usize = 160;
+
 /// Appends the line of an entry, without its line feed. Nothing is appended where memory ends.
 pub fn put_entry(out: &mut String, of: &Entry, names: &Names) -> Result<(), AllocError>
     ensures appended { OnOk result (string_bytes out.new ≡ string_bytes out.old ++ lines.entry_text names.now of.entry.now) }
     ensures kept { OnErr result (string_bytes out.new ≡ string_bytes out.old) }
 {
-    let mut line = String::new(*out.allocator());
+    let mut line = String::with_capacity(*out.allocator(), LINE_ROOM)?;
     add_entry(&mut line, of, names)?;
     out.push_str(line.as_str())
 }
@@ -37,7 +40,7 @@ pub fn put_note(out: &mut String, note: &Note, names: &Names) -> Result<(), Allo
     ensures appended { OnOk result (string_bytes out.new ≡ string_bytes out.old ++ lines.note_text names.now note.now) }
     ensures kept { OnErr result (string_bytes out.new ≡ string_bytes out.old) }
 {
-    let mut text = String::new(*out.allocator());
+    let mut text = String::with_capacity(*out.allocator(), LINE_ROOM)?;
     add_note(&mut text, note, names)?;
     out.push_str(text.as_str())
 }
@@ -58,9 +61,9 @@ fn add_entry(out: &mut String, of: &Entry, names: &Names) -> Result<(), AllocErr
     ensures { OnOk result (string_bytes out.new ≡ string_bytes out.old ++ lines.entry_text names.now of.entry.now) }
 {
     add_origin(out, of, names)?;
-    write!(out, " | ")?;
+    out.push_str(" | ")?;
     add_act(out, &of.act, names)?;
-    write!(out, " | ")?;
+    out.push_str(" | ")?;
     add_sent(out, &of.sent, names)
 }
 
@@ -82,9 +85,9 @@ fn add_sent(out: &mut String, sent: &Option<Sent>, names: &Names) -> Result<(), 
     match sent {
         Some(sent) => {
             add_note(out, &sent.note, names)?;
-            write!(out, " to ")?;
+            out.push_str(" to ")?;
             add_place(out, sent.to, names)
         }
-        None => write!(out, "-"),
+        None => out.push_str("-"),
     }
 }

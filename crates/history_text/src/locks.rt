@@ -18,7 +18,7 @@ pub(crate) fn add_held(
 ) -> Result<(), AllocError>
     ensures { OnOk result (string_bytes out.new ≡ string_bytes out.old ++ (codes " " ++ lines.held_text names.now key.now holder rolling)) }
 {
-    write!(out, " ")?;
+    out.push_str(" ")?;
     add_key(out, key, names)?;
     write!(out, " tc:{} {}", holder.0, holding_word(rolling))
 }
@@ -32,7 +32,7 @@ pub(crate) fn add_lock(
 ) -> Result<(), AllocError>
     ensures { OnOk result (string_bytes out.new ≡ string_bytes out.old ++ (codes " " ++ lines.lock_text names.now key.now holder)) }
 {
-    write!(out, " ")?;
+    out.push_str(" ")?;
     add_key(out, key, names)?;
     write!(out, " tc:{}", holder.0)
 }
@@ -46,7 +46,7 @@ pub(crate) fn add_opener(
 ) -> Result<(), AllocError>
     ensures { OnOk result (string_bytes out.new ≡ string_bytes out.old ++ (codes " " ++ lines.opener_text names.now key.now by)) }
 {
-    write!(out, " ")?;
+    out.push_str(" ")?;
     add_key(out, key, names)?;
     add_after_space(out, by)
 }

@@ -1,5 +1,5 @@
 //! The text of a message on its line.
-ghost use Rattle.std.specs.Prelude.{◌≡◌, ◌++◌, OnOk, string_bytes};
+ghost use Rattle.std.specs.Prelude.{◌≡◌, ◌++◌, codes, OnOk, string_bytes};
 ghost use Rattle.history_text.specs.Lines as lines;
 
 use crate::entries::Names;
@@ -11,20 +11,20 @@ use crate::words::{add_after_space, add_word_call, add_word_leg, add_word_status
 use seata_types::{BranchKind, CallAnswer, Place, Registered, RowKey, Ticket, Xid};
 use std::alloc::AllocError;
 
-/// A note.
-pub(crate) fn add_note(out: &mut String, note: &Note, names: &Names) -> Result<(), AllocError>
+/// Appends a note; where memory ends a part of it may stand. `put_note` appends all of it or nothing.
+pub fn add_note(out: &mut String, note: &Note, names: &Names) -> Result<(), AllocError>
     ensures { OnOk result (string_bytes out.new ≡ string_bytes out.old ++ lines.note_text names.now note.now) }
 {
     match note {
         Note::Begin { manager, timeout } => {
-            write!(out, "begin ")?;
+            out.push_str("begin ")?;
             add_place(out, Place::Man(*manager), names)?;
             write!(out, " {timeout}")
         }
         Note::Begun { xid } => add_word_xid(out, "begun ", *xid),
         Note::BranchCommit { xid, branch, kind } => {
             add_word_leg(out, "branch-commit ", *xid, *branch)?;
-            write!(out, " {}", kind_word(*kind))
+            out.push_str(kind_word(*kind))
         }
         Note::BranchCommitted {
             xid,
@@ -37,7 +37,7 @@ pub(crate) fn add_note(out: &mut String, note: &Note, names: &Names) -> Result<(
         }
         Note::BranchRollback { xid, branch, kind } => {
             add_word_leg(out, "branch-rollback ", *xid, *branch)?;
-            write!(out, " {}", kind_word(*kind))
+            out.push_str(kind_word(*kind))
         }
         Note::BranchRollbacked {
             xid,
@@ -66,7 +66,7 @@ pub(crate) fn add_note(out: &mut String, note: &Note, names: &Names) -> Result<(
         } => {
             add_word_call(out, "register ", *xid, *call)?;
             add_after_space(out, *ticket)?;
-            write!(out, " {}", kind_word(*kind))?;
+            out.push_str(kind_word(*kind))?;
             add_locks(out, hold.as_slice(), check.as_slice())
         }
         Note::RegisterAnswer {
@@ -77,28 +77,28 @@ pub(crate) fn add_note(out: &mut String, note: &Note, names: &Names) -> Result<(
         Note::GlobalStatus { xid } => add_word_xid(out, "status-ask ", *xid),
         Note::StatusAnswer { xid, status } => add_word_status(out, "status ", *xid, *status),
         Note::LockQuery { ticket, check } => {
-            write!(out, "lock-query")?;
+            out.push_str("lock-query")?;
             add_after_space(out, *ticket)?;
-            write!(out, " check ")?;
+            out.push_str(" check ")?;
             add_keys(out, check.as_slice())
         }
         Note::LockAnswer { ticket, held } => add_lock_answer(out, *ticket, held, names),
         Note::Call { xid, call } => add_word_call(out, "call ", *xid, *call),
         Note::Answer { xid, call, answer } => {
             add_word_call(out, "answer ", *xid, *call)?;
-            write!(out, " ")?;
+            out.push_str(" ")?;
             add_reply(out, answer, names)
         }
     }
 }
 
-/// The mode of a branch.
+/// A space and the mode of a branch.
 fn kind_word(kind: BranchKind) -> &'static str
-    ensures { result.now ≡ lines.kind_text kind }
+    ensures { result.now ≡ codes " " ++ lines.kind_text kind }
 {
     match kind {
-        BranchKind::At => "AT",
-        BranchKind::Tcc => "TCC",
+        BranchKind::At => " AT",
+        BranchKind::Tcc => " TCC",
     }
 }
 
@@ -114,7 +114,7 @@ fn add_registered(
 {
     match answer {
         Registered::Granted { branch } => {
-            write!(out, "granted")?;
+            out.push_str("granted")?;
             add_after_space(out, ticket)?;
             add_word_leg(out, " ", xid, *branch)
         }
@@ -123,18 +123,18 @@ fn add_registered(
             holder,
             rolling,
         } => {
-            write!(out, "conflict")?;
+            out.push_str("conflict")?;
             add_after_space(out, ticket)?;
             add_word_xid(out, " ", xid)?;
             add_held(out, key, *holder, *rolling, names)
         }
         Registered::Closed { status } => {
-            write!(out, "closed")?;
+            out.push_str("closed")?;
             add_after_space(out, ticket)?;
             add_word_status(out, " ", xid, *status)
         }
         Registered::Late => {
-            write!(out, "late")?;
+            out.push_str("late")?;
             add_after_space(out, ticket)?;
             add_word_xid(out, " ", xid)
         }
@@ -148,11 +148,11 @@ fn add_reply(out: &mut String, answer: &CallAnswer, names: &Names) -> Result<(),
     match answer {
         CallAnswer::Done { branch } => write!(out, "done b{}", branch.0),
         CallAnswer::Busy { key, by } => {
-            write!(out, "busy")?;
+            out.push_str("busy")?;
             add_opener(out, key, *by, names)
         }
         CallAnswer::Failed { why } => {
-            write!(out, "failed ")?;
+            out.push_str("failed ")?;
             add_why(out, why, names)
         }
     }
@@ -169,11 +169,11 @@ fn add_lock_answer(
 {
     match held {
         None => {
-            write!(out, "lock-free")?;
+            out.push_str("lock-free")?;
             add_after_space(out, ticket)
         }
         Some((key, holder)) => {
-            write!(out, "lock-held")?;
+            out.push_str("lock-held")?;
             add_after_space(out, ticket)?;
             add_lock(out, key, *holder, names)
         }
@@ -184,8 +184,8 @@ fn add_lock_answer(
 fn add_locks(out: &mut String, hold: &[RowKey], check: &[RowKey]) -> Result<(), AllocError>
     ensures { OnOk result (string_bytes out.new ≡ string_bytes out.old ++ lines.locks_text hold.now check.now) }
 {
-    write!(out, " hold ")?;
+    out.push_str(" hold ")?;
     add_keys(out, hold)?;
-    write!(out, " check ")?;
+    out.push_str(" check ")?;
     add_keys(out, check)
 }

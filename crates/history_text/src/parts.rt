@@ -14,7 +14,7 @@ fn add_name(out: &mut String, letter: &str, names: &[Text], n: u16) -> Result<()
     if n > 0
         && let Some(name) = names.get(n as usize - 1)
     {
-        return write!(out, "{}", name.as_str());
+        return out.push_str(name.as_str());
     }
     write!(out, "{letter}{n}")
 }
@@ -24,8 +24,8 @@ pub(crate) fn add_place(out: &mut String, place: Place, names: &Names) -> Result
     ensures { OnOk result (string_bytes out.new ≡ string_bytes out.old ++ lines.place_text names.now place) }
 {
     match place {
-        Place::Net => write!(out, "net"),
-        Place::Tc => write!(out, "tc"),
+        Place::Net => out.push_str("net"),
+        Place::Tc => out.push_str("tc"),
         Place::Res(n) => add_name(out, "r", names.resources.as_slice(), n),
         Place::Man(n) => add_name(out, "m", names.managers.as_slice(), n),
     }
@@ -40,7 +40,7 @@ fn add_quoted(out: &mut String, text: &str) -> Result<(), AllocError>
         write!(out, "{before}''")?;
         rest = after;
     }
-    write!(out, "{rest}")
+    out.push_str(rest)
 }
 
 /// A value as a statement's literal.
@@ -50,9 +50,9 @@ fn add_literal(out: &mut String, value: &Value) -> Result<(), AllocError>
     match value {
         Value::Int(number) => write!(out, "{number}"),
         Value::Text(text) => {
-            write!(out, "'")?;
+            out.push_str("'")?;
             add_quoted(out, text.as_str())?;
-            write!(out, "'")
+            out.push_str("'")
         }
     }
 }
@@ -64,7 +64,7 @@ fn add_values(out: &mut String, between: &str, values: &[Value]) -> Result<(), A
     if let Some((first, rest)) = values.split_first() {
         add_literal(out, first)?;
         for value in rest {
-            write!(out, "{between}")?;
+            out.push_str(between)?;
             add_literal(out, value)?;
         }
     }
@@ -83,7 +83,9 @@ pub(crate) fn add_key(out: &mut String, key: &RowKey, names: &Names) -> Result<(
     ensures { OnOk result (string_bytes out.new ≡ string_bytes out.old ++ lines.key_text names.now key.now) }
 {
     add_name(out, "r", names.resources.as_slice(), key.resource)?;
-    write!(out, ".{}:", key.table.as_str())?;
+    out.push_str(".")?;
+    out.push_str(key.table.as_str())?;
+    out.push_str(":")?;
     add_parts(out, &key.pk)
 }
 
@@ -92,14 +94,15 @@ pub(crate) fn add_keys(out: &mut String, keys: &[RowKey]) -> Result<(), AllocErr
     ensures { OnOk result (string_bytes out.new ≡ string_bytes out.old ++ lines.keys_text keys.now) }
 {
     let Some((first, rest)) = keys.split_first() else {
-        return write!(out, "-");
+        return out.push_str("-");
     };
-    write!(out, "{}:", first.table.as_str())?;
+    out.push_str(first.table.as_str())?;
+    out.push_str(":")?;
     add_parts(out, &first.pk)?;
     let mut table = &first.table;
     for key in rest {
         if *table == key.table {
-            write!(out, ",")?;
+            out.push_str(",")?;
         } else {
             write!(out, ";{}:", key.table.as_str())?;
         }
@@ -113,9 +116,9 @@ pub(crate) fn add_keys(out: &mut String, keys: &[RowKey]) -> Result<(), AllocErr
 fn add_row(out: &mut String, row: &Row) -> Result<(), AllocError>
     ensures { OnOk result (string_bytes out.new ≡ string_bytes out.old ++ lines.row_text row.now) }
 {
-    write!(out, "(")?;
+    out.push_str("(")?;
     add_values(out, ", ", row.0.as_slice())?;
-    write!(out, ")")
+    out.push_str(")")
 }
 
 /// A row, or `-` for none.
@@ -124,6 +127,6 @@ pub(crate) fn add_option_row(out: &mut String, row: &Option<Row>) -> Result<(), 
 {
     match row {
         Some(row) => add_row(out, row),
-        None => write!(out, "-"),
+        None => out.push_str("-"),
     }
 }

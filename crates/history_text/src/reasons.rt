@@ -16,21 +16,21 @@ pub(crate) fn add_error(
     ensures { OnOk result (string_bytes out.new ≡ string_bytes out.old ++ lines.error_text names.now error.now) }
 {
     match error {
-        StmtError::NoTable => write!(out, "NoTable"),
-        StmtError::NoColumn => write!(out, "NoColumn"),
-        StmtError::Columns => write!(out, "Columns"),
-        StmtError::KeyChanged => write!(out, "KeyChanged"),
-        StmtError::TypeMismatch => write!(out, "TypeMismatch"),
-        StmtError::TooManyRows => write!(out, "TooManyRows"),
+        StmtError::NoTable => out.push_str("NoTable"),
+        StmtError::NoColumn => out.push_str("NoColumn"),
+        StmtError::Columns => out.push_str("Columns"),
+        StmtError::KeyChanged => out.push_str("KeyChanged"),
+        StmtError::TypeMismatch => out.push_str("TypeMismatch"),
+        StmtError::TooManyRows => out.push_str("TooManyRows"),
         StmtError::Overflow { key } => {
-            write!(out, "Overflow ")?;
+            out.push_str("Overflow ")?;
             add_key(out, key, names)
         }
         StmtError::Duplicate { key } => {
-            write!(out, "Duplicate ")?;
+            out.push_str("Duplicate ")?;
             add_key(out, key, names)
         }
-        StmtError::TableFull => write!(out, "TableFull"),
+        StmtError::TableFull => out.push_str("TableFull"),
     }
 }
 
@@ -43,12 +43,12 @@ pub(crate) fn add_why(out: &mut String, why: &Why, names: &Names) -> Result<(), 
             write!(out, "stmt {index} ")?;
             add_error(out, why, names)
         }
-        Why::Tries => write!(out, "tries"),
+        Why::Tries => out.push_str("tries"),
         Why::Rolling { holder } => write!(out, "rolling tc:{}", holder.0),
         Why::Closed { status } => write!(out, "closed {}", status.code()),
-        Why::Late => write!(out, "late"),
-        Why::Marker => write!(out, "marker"),
+        Why::Late => out.push_str("late"),
+        Why::Marker => out.push_str("marker"),
         Why::NoRow { index } => write!(out, "norow {index}"),
-        Why::Fence => write!(out, "fence"),
+        Why::Fence => out.push_str("fence"),
     }
 }

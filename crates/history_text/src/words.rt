@@ -11,7 +11,8 @@ use std::alloc::AllocError;
 pub(crate) fn add_word_xid(out: &mut String, word: &str, xid: Xid) -> Result<(), AllocError>
     ensures { OnOk result (string_bytes out.new ≡ string_bytes out.old ++ (word.now ++ lines.xid_text xid)) }
 {
-    write!(out, "{word}tc:{}", xid.0)
+    out.push_str(word)?;
+    write!(out, "tc:{}", xid.0)
 }
 
 /// A word, a transaction and its status.
@@ -23,7 +24,8 @@ pub(crate) fn add_word_status(
 ) -> Result<(), AllocError>
     ensures { OnOk result (string_bytes out.new ≡ string_bytes out.old ++ (word.now ++ (lines.xid_text xid ++ (codes " " ++ decimal (code_of status))))) }
 {
-    write!(out, "{word}tc:{} {}", xid.0, status.code())
+    out.push_str(word)?;
+    write!(out, "tc:{} {}", xid.0, status.code())
 }
 
 /// A word, a transaction and its branch.
@@ -35,7 +37,8 @@ pub(crate) fn add_word_leg(
 ) -> Result<(), AllocError>
     ensures { OnOk result (string_bytes out.new ≡ string_bytes out.old ++ (word.now ++ lines.leg_text xid branch)) }
 {
-    write!(out, "{word}tc:{} b{}", xid.0, branch.0)
+    out.push_str(word)?;
+    write!(out, "tc:{} b{}", xid.0, branch.0)
 }
 
 /// A word, a transaction and its call.
@@ -47,7 +50,8 @@ pub(crate) fn add_word_call(
 ) -> Result<(), AllocError>
     ensures { OnOk result (string_bytes out.new ≡ string_bytes out.old ++ (word.now ++ lines.call_text xid call)) }
 {
-    write!(out, "{word}tc:{} c{call}", xid.0)
+    out.push_str(word)?;
+    write!(out, "tc:{} c{call}", xid.0)
 }
 
 /// A space and a ticket.
@@ -61,5 +65,6 @@ pub(crate) fn add_after_space(out: &mut String, ticket: Ticket) -> Result<(), Al
 pub(crate) fn add_word_number(out: &mut String, word: &str, number: u16) -> Result<(), AllocError>
     ensures { OnOk result (string_bytes out.new ≡ string_bytes out.old ++ (word.now ++ decimal number)) }
 {
-    write!(out, "{word}{number}")
+    out.push_str(word)?;
+    write!(out, "{number}")
 }

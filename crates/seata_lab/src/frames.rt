@@ -10,7 +10,7 @@ use crate::listings::Listing;
 use crate::streams::{Failed, Source};
 use crate::transfer::{ReadFault, read_some, zeros};
 use frame_codec::{FrameError, Framed};
-use history_text::{Names, Note, note_of, put_note};
+use history_text::{Names, Note, add_note, note_of};
 use seata_types::limits::{INPUT_BYTES, PIECE_BYTES};
 use seata_types::{List, Message, NoMemory};
 use std::alloc::{AllocError, Global};
@@ -37,8 +37,8 @@ fn put_note_line(
     ensures { OnOk result (string_bytes out.new ≡ string_bytes out.old ++ lines.note_line at stamp note.now) }
 {
     write!(out, "{at} {stamp} ")?;
-    put_note(out, note, names)?;
-    write!(out, "\n")
+    add_note(out, note, names)?;
+    out.push_str("\n")
 }
 
 /// The line of a frame.
@@ -63,9 +63,9 @@ fn put_fault(out: &mut String, fault: FrameError) -> Result<(), AllocError>
 {
     match fault {
         FrameError::Short { need } => write!(out, "Short {need}"),
-        FrameError::Magic => write!(out, "Magic"),
-        FrameError::Version => write!(out, "Version"),
-        FrameError::Length => write!(out, "Length"),
+        FrameError::Magic => out.push_str("Magic"),
+        FrameError::Version => out.push_str("Version"),
+        FrameError::Length => out.push_str("Length"),
         FrameError::Compressed(compressor) => write!(out, "Compressed {compressor}"),
         FrameError::UnknownType(code) => write!(out, "UnknownType {code}"),
         FrameError::Body { at } => write!(out, "Body {at}"),
@@ -84,7 +84,7 @@ pub fn put_bad_frame(out: &mut String, at: u64, fault: FrameError) -> Result<(),
     }
     write!(out, "{at} ")?;
     put_fault(out, fault)?;
-    write!(out, "\n")
+    out.push_str("\n")
 }
 
 /// The line of a frame that was given.

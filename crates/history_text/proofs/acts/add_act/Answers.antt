@@ -11,7 +11,7 @@ returns-in_ok-add_word_xid-in-Conflict c = grind (arith, common_steps, append_as
 pub returns-in_ok-add_why-in-RefusedLocal : goal.returns-in_ok-add_why-in-RefusedLocal
 returns-in_ok-add_why-in-RefusedLocal c =
     three_more (string_bytes c.args.out.now) (codes "refused-local ") (decimal c.in-RefusedLocal.number) (codes " ") (lines.why_text c.args.names.now c.in-RefusedLocal.why) _ _ _
-    c.in_ok-add_word_number-in-RefusedLocal.ensures c.in_ok-write-in-RefusedLocal.ensures.bytes c.in_ok-add_why-in-RefusedLocal.ensures
+    c.in_ok-add_word_number-in-RefusedLocal.ensures c.in_ok-push_str-in-RefusedLocal.ensures.bytes c.in_ok-add_why-in-RefusedLocal.ensures
     ∙ ap (λ a. string_bytes c.args.out.now ++ lines.act_text c.args.names.now a) (sym c.in-RefusedLocal.is)
 
 pub returns-in_ok-add_after_space-in-OpenedLocal : goal.returns-in_ok-add_after_space-in-OpenedLocal
