@@ -1,3 +1,4 @@
+pub mod Members
 pub mod Transactions
 pub mod Branches
 pub mod Progress

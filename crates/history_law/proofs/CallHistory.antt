@@ -17,7 +17,7 @@ use Rattle.history_law.specs.Tickets.{Names}
 use Rattle.history_law.proofs.Branches.{in_all}
 use Rattle.history_rules.specs.Nodes.{World, Past, counted_at}
 use Rattle.history_rules.specs.Histories.{Moment, Legal, coordinator_left}
-use Rattle.history_rules.specs.Chains.{IsChain, MayLeave, IsEmpty}
+use Rattle.history_rules.specs.Chains.{IsChain, MayLeave, IsBlankPast}
 use Rattle.history_law.specs.Points.{In}
 use Rattle.history_law.specs.Network.{OnSent}
 use Rattle.history_law.specs.Cover.{all_of, memory_of, Covers}
@@ -25,7 +25,7 @@ use Rattle.history_law.specs.TicketSafety.{AreNumbered}
 use Rattle.history_law.specs.CallSafety.{CallsAreSafe, CallsStaySafe, CallsLaw, CallsOfChains, NoneIsUnfenced, UnfencedLaw, UnfencedOfChains}
 use Rattle.history_law.proofs.Tests.{false_true}
 use Rattle.history_law.proofs.CoverHistory.{covers}
-use Rattle.history_law.proofs.CoverChains.{of_sessions, of_memory, names_closed, covers_first, chain_covered, shorter_chain}
+use Rattle.history_law.proofs.CoverChains.{of_sessions, of_memory, names_closed, covers_first, at_first, chain_covered, shorter_chain}
 use Rattle.history_law.proofs.EndingHistory.{endings_keep, endings_first, endings_next}
 use Rattle.history_law.proofs.Works.{works_keep, works_first, disks_stay, works_next}
 use Rattle.history_law.proofs.Steps.{Keeps, by_entries}
@@ -98,19 +98,19 @@ works_boot : (w : World) (rs : List SessionRecord) (n : ℕ) (all : List Resourc
 works_boot w rs n all works q (inl is) = subst (λ z. WorkIs w rs n z) (sym is) tt
 works_boot w rs n all works q (inr i) = works q i
 
-first_calls : (w : World) (n : ℕ) (s : Setup) → CallsAt w [] n (memory s [] [])
-first_calls w n s =
-    let works = works_boot w [] n [] (λ q i. absurd i) in
+first_calls : (w : World) (past : Past) → IsBlankPast past → (n : ℕ) (s : Setup) → CallsAt w [] n (memory s (past.resource n) [])
+first_calls w past blank n s =
+    let works = works_boot w [] n (past.resource n) (at_first past blank (WorksAre w [] n) (λ q i. absurd i) (works_boot w [] n) n) in
     record { opens = λ o i. absurd i; works = (works, works) }
 
-pub calls_first : (w : World) (past : Past) → IsEmpty past → Calls w past []
+pub calls_first : (w : World) (past : Past) → IsBlankPast past → Calls w past []
 calls_first w past bare = record {
   calls = record {
     ends = endings_first w past bare;
     works = works_first w past bare;
     said = tt;
     at = λ n s is. subst (λ (rs : List SessionRecord). CallsAt w rs n (memory s (past.resource n) [])) (sym bare.sessions)
-        (subst (λ (rs : List ResourceRecord). CallsAt w [] n (memory s rs [])) (sym (bare.resources n)) (first_calls w n s));
+        (first_calls w past bare n s);
     granted = subst (λ (rs : List SessionRecord). AreCalls w rs rs × AreCalls w rs rs) (sym bare.sessions) (λ g i. absurd i, λ g i. absurd i);
     committed = subst (λ (rs : List SessionRecord). OwnCommits w rs (memory_of past []) rs × OwnCommits w rs (memory_of past []) rs) (sym bare.sessions)
         (λ x e. false_true e, λ x e. false_true e);

@@ -1,5 +1,5 @@
 -- Cover goes on from one history of a chain to the next.
-use Rattle.std.proofs.Common.{◌≡◌, ◌⊎◌, inl, inr, ◌≤◌, ℕ, zero, suc, true, List, [], ◌∷◌, Some, None, refl, sym, subst, arith}
+use Rattle.std.proofs.Common.{◌≡◌, ◌⊎◌, inl, inr, ◌≤◌, ℕ, zero, suc, true, false, List, [], ◌∷◌, Some, None, refl, sym, subst, ◌∙◌, arith}
 use Rattle.seata_types.specs.declared.ids.Place.TheVariants as place
 use Rattle.seata_types.specs.declared.ids.Ticket.{Ticket}
 use Rattle.seata_types.specs.declared.statuses.BranchKind.TheVariants as kind
@@ -15,12 +15,12 @@ use Rattle.history_rules.specs.CoordinatorRules.{xid_of, branch_of}
 use Rattle.history_rules.specs.ResourceMemory.{Setup, Open, Memory, boot_over, memory}
 use Rattle.history_rules.specs.Nodes.{World, Past, MayStand, counted_at}
 use Rattle.history_rules.specs.Histories.{Moment, Legal, own, coordinator_left}
-use Rattle.history_rules.specs.Chains.{IsChain, MayLeave, IsEmpty, with_boots}
+use Rattle.history_rules.specs.Chains.{IsChain, MayLeave, IsBlankPast, with_boots}
 use Rattle.history_law.specs.Points.{In}
 use Rattle.history_law.specs.Tickets.{WasGiven, Names, IsClosed}
 use Rattle.history_law.specs.Cover.{all_of, memory_of, IsUndone, MarksHold, Backs, CoversAt, EndsWell, Covers}
 use Rattle.history_law.specs.TicketSafety.{AreNumbered, TicketsOfChains}
-use Rattle.history_law.proofs.Tests.{false_true}
+use Rattle.history_law.proofs.Tests.{false_true, true_false}
 use Rattle.history_law.proofs.Branches.{in_all, decided_in_all}
 use Rattle.history_law.proofs.TicketSteps.{boots_added}
 use Rattle.history_law.proofs.CoverResource.{mark_added, in_added, cleared_boot}
@@ -152,34 +152,44 @@ module _ (w : World) (past : Past) (ms : List Moment) (next : Past) (numbered : 
       let ended = of_sessions (EndsWell w tc' (memory_of next [])) (ends_next tc.records c.ended.0, ends_next (all_of tc) c.ended.1) in
       record { allowed = (allowed, allowed); at = λ n s is. covers_disks n s is; ended = (ended, ended); said = tt }
 
--- ---- disks without records
+-- ---- disks without records, but for boots
 
-first_covers : (n : ℕ) (s : Setup) → CoversAt (record { records = []; flight = None }) n (memory s [] [])
-first_covers n s = record {
+-- what holds of no records, and of one boot more, holds of what the disks had first
+pub at_first : (past : Past) → IsBlankPast past → (Q : List ResourceRecord → Type 0) → Q [] → ((rs : List ResourceRecord) → Q rs → Q (boot_over rs ∷ rs)) → (n : ℕ) → Q (past.resource n)
+at_first past blank Q none boot n = let b = blank.resources n in subst Q (sym b.1) (on_boots Q boot b.0 [] none)
+
+first_covers : (n : ℕ) (s : Setup) (rs : List ResourceRecord) → undos rs ≡ [] → ((x b : ℕ) → is_marked rs x b ≡ false)
+    → ((x b : ℕ) → In (log.Cleared (xid_of x) (branch_of b)) rs → ⊥) → CoversAt (record { records = []; flight = None }) n (memory s rs [])
+first_covers n s rs none unmarked uncleared = record {
   tickets = record { given = λ o i. absurd i; distinct = λ o p i j e. absurd i; disjoint = λ o p i j key ho hp. absurd i };
-  marks = (λ x b e. false_true e, λ x b e. false_true e);
+  marks = (λ x b e. true_false (sym e ∙ unmarked x b), λ x b e. true_false (sym e ∙ unmarked x b));
   asked = λ g i at here. absurd i;
   backed = λ u i. by u i;
   cleared = λ x b i. cleared x b i;
 }
   where
-    by : (u : Undo) → In u (undos (boot_over [] ∷ [])) ⊎ In u (undos (boot_over [] ∷ [])) → Backs [] n (memory s [] []) u
-    by u (inl i) = absurd i
-    by u (inr i) = absurd i
+    by : (u : Undo) → In u (undos (boot_over rs ∷ rs)) ⊎ In u (undos (boot_over rs ∷ rs)) → Backs [] n (memory s rs []) u
+    by u (inl i) = absurd (subst (In u) none i)
+    by u (inr i) = absurd (subst (In u) none i)
 
-    cleared : (x b : ℕ) → In (log.Cleared (xid_of x) (branch_of b)) (boot_over [] ∷ []) → is_commit (decided [] x) ≡ true
-    cleared x b (inl e) = absurd (cleared_boot x b [] e)
-    cleared x b (inr i) = absurd i
+    cleared : (x b : ℕ) → In (log.Cleared (xid_of x) (branch_of b)) (boot_over rs ∷ rs) → is_commit (decided [] x) ≡ true
+    cleared x b (inl e) = absurd (cleared_boot x b rs e)
+    cleared x b (inr i) = absurd (uncleared x b i)
 
-pub covers_first : (w : World) (past : Past) → IsEmpty past → Covers w past []
-covers_first w past bare = record {
-  allowed = subst (λ (rs : List SessionRecord). Allowed rs × Allowed rs) (sym bare.sessions) (tt, tt);
-  at = λ n s is. subst (λ (rs : List SessionRecord). CoversAt (record { records = rs; flight = None }) n (memory s (past.resource n) [])) (sym bare.sessions)
-      (subst (λ (rs : List ResourceRecord). CoversAt (record { records = []; flight = None }) n (memory s rs [])) (sym (bare.resources n)) (first_covers n s));
-  ended = subst (λ (rs : List SessionRecord). EndsWell w (record { records = rs; flight = None }) (memory_of past []) rs × EndsWell w (record { records = rs; flight = None }) (memory_of past []) rs) (sym bare.sessions)
+pub covers_first : (w : World) (past : Past) → IsBlankPast past → Covers w past []
+covers_first w past blank = record {
+  allowed = subst (λ (rs : List SessionRecord). Allowed rs × Allowed rs) (sym blank.sessions) (tt, tt);
+  at = λ n s is. subst (λ (rs : List SessionRecord). CoversAt (record { records = rs; flight = None }) n (memory s (past.resource n) [])) (sym blank.sessions)
+      (first_covers n s (past.resource n) (at_first past blank (λ rs. undos rs ≡ []) refl (λ rs e. e) n)
+      (λ x b. at_first past blank (λ rs. is_marked rs x b ≡ false) refl (λ rs e. e) n) (λ x b. at_first past blank (λ rs. In (log.Cleared (xid_of x) (branch_of b)) rs → ⊥) (λ i. i) (uncleared_boot x b) n));
+  ended = subst (λ (rs : List SessionRecord). EndsWell w (record { records = rs; flight = None }) (memory_of past []) rs × EndsWell w (record { records = rs; flight = None }) (memory_of past []) rs) (sym blank.sessions)
       (λ x b e. false_true e, λ x b e. false_true e);
   said = tt;
 }
+  where
+    uncleared_boot : (x b : ℕ) (rs : List ResourceRecord) → (In (log.Cleared (xid_of x) (branch_of b)) rs → ⊥) → In (log.Cleared (xid_of x) (branch_of b)) (boot_over rs ∷ rs) → ⊥
+    uncleared_boot x b rs none (inl e) = cleared_boot x b rs e
+    uncleared_boot x b rs none (inr i) = none i
 
 -- ---- chains
 

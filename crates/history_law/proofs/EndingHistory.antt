@@ -26,7 +26,7 @@ use Rattle.history_rules.specs.Own.{Left}
 use Rattle.history_rules.specs.ResourceMemory.{Setup, Memory, boot_over, memory}
 use Rattle.history_rules.specs.Nodes.{World, Past, counted_at}
 use Rattle.history_rules.specs.Histories.{Moment, Legal, coordinator_left}
-use Rattle.history_rules.specs.Chains.{IsChain, MayLeave, IsEmpty}
+use Rattle.history_rules.specs.Chains.{IsChain, MayLeave, IsBlankPast}
 use Rattle.history_law.specs.Points.{In}
 use Rattle.history_law.specs.Network.{OnSent}
 use Rattle.history_law.specs.Cover.{all_of, memory_of, CoversAt, Covers}
@@ -38,7 +38,7 @@ use Rattle.history_law.proofs.Branches.{one_branch, decided_in_all}
 use Rattle.history_law.proofs.UndoRecords.{commit_of}
 use Rattle.history_law.proofs.ManagerSteps.{IsManagers, SendsManagers}
 use Rattle.history_law.proofs.CoverHistory.{covers, ended_none}
-use Rattle.history_law.proofs.CoverChains.{of_sessions, of_memory, backs_next, commit_stays, chain_covered, covers_first, shorter_chain}
+use Rattle.history_law.proofs.CoverChains.{of_sessions, of_memory, backs_next, commit_stays, chain_covered, covers_first, at_first, shorter_chain}
 use Rattle.history_law.proofs.CoverResource.{in_added}
 use Rattle.history_law.proofs.FenceRecords.{FenceOrder, Closes, confirm_closes, cancel_closes, done_added, Balanced, balanced_after, balanced_none, none_passes, kept, struck, is_cleared}
 use Rattle.history_law.proofs.Endings.{AllEver, AllRolled, EndsAt, IsDone as IsDoneBy, IsSettled, EndsSettled, SaysEnd, SaysEnds, EndingsBy, endings_coordinator, endings_resource, AllFenced, fenced_on}
@@ -222,31 +222,37 @@ endings_stay w past numbered start first (m ∷ ms) legal =
 
 -- ---- disks without records
 
-first_ends : (n : ℕ) (s : Setup) → EndsAt [] n (memory s [] [])
-first_ends n s =
-    let ever : AllEver [] n (memory s [] []) (boot_over [] ∷ []) = λ u i. absurd (no_commit u i) in
-    let rolled : AllRolled [] (boot_over [] ∷ []) = λ xid b i. absurd (no_undone xid b i) in
-    let balanced : Balanced (boot_over [] ∷ []) = balanced_after [] (boot_over []) tt (λ x b. (omega arith, refl)) in
-    record { ever = (ever, ever); balanced = (balanced, balanced); order = ((tt, tt), (tt, tt)); rolled = (rolled, rolled); fenced = (λ x b. tt, λ x b. tt) }
+first_ends : (past : Past) → IsBlankPast past → (n : ℕ) (s : Setup) → EndsAt [] n (memory s (past.resource n) [])
+first_ends past blank n s =
+    let m = memory s (past.resource n) [] in
+    let ever = ever_boot m (past.resource n) (at_first past blank (AllEver [] n m) (λ u i. absurd i) (ever_boot m) n) in
+    let rolled = rolled_boot (past.resource n) (at_first past blank (AllRolled []) (λ xid b i. absurd i) rolled_boot n) in
+    let balanced = balanced_boot (past.resource n) (at_first past blank Balanced (λ x b. (omega arith, refl)) balanced_boot n) in
+    let order = at_first past blank FenceOrder tt (λ rs k. (k, tt)) n in
+    let fenced = at_first past blank (AllFenced []) (λ x b. tt) (λ rs k. k) n in
+    record { ever = (ever, ever); balanced = (balanced, balanced); order = ((order, tt), (order, tt)); rolled = (rolled, rolled); fenced = (fenced, fenced) }
   where
-    no_commit : (u : Undo) → In (commit_of u) (boot_over [] ∷ []) → ⊥
-    no_commit u (inl e) = other e
+    ever_boot : (m : Memory) (rs : List ResourceRecord) → AllEver [] n m rs → AllEver [] n m (boot_over rs ∷ rs)
+    ever_boot m rs all u (inl same) = absurd (other same)
       where
-        other : commit_of u ≡ boot_over [] → ⊥
+        other : commit_of u ≡ boot_over rs → ⊥
         other e = cc
-    no_commit u (inr i) = i
+    ever_boot m rs all u (inr i) = all u i
 
-    no_undone : (xid : Xid) (b : BranchId) → In (resource_log.Undone xid b) (boot_over [] ∷ []) → ⊥
-    no_undone xid b (inl e) = other e
+    rolled_boot : (rs : List ResourceRecord) → AllRolled [] rs → AllRolled [] (boot_over rs ∷ rs)
+    rolled_boot rs all xid b (inl same) = absurd (other same)
       where
-        other : resource_log.Undone xid b ≡ boot_over [] → ⊥
+        other : resource_log.Undone xid b ≡ boot_over rs → ⊥
         other e = cc
-    no_undone xid b (inr i) = i
+    rolled_boot rs all xid b (inr i) = all xid b i
 
-pub endings_first : (w : World) (past : Past) → IsEmpty past → Endings w past []
+    balanced_boot : (rs : List ResourceRecord) → Balanced rs → Balanced (boot_over rs ∷ rs)
+    balanced_boot rs all = balanced_after rs (boot_over rs) tt all
+
+pub endings_first : (w : World) (past : Past) → IsBlankPast past → Endings w past []
 endings_first w past bare = record {
   at = λ n s is. subst (λ (rs : List SessionRecord). EndsAt rs n (memory s (past.resource n) [])) (sym bare.sessions)
-      (subst (λ (rs : List ResourceRecord). EndsAt [] n (memory s rs [])) (sym (bare.resources n)) (first_ends n s));
+      (first_ends past bare n s);
   ended = subst (λ (rs : List SessionRecord). EndsSettled w rs (memory_of past []) rs × EndsSettled w rs (memory_of past []) rs) (sym bare.sessions)
       (λ x b e. false_true e, λ x b e. false_true e);
   said = tt;

@@ -11,7 +11,7 @@ use Rattle.history_rules.specs.Own.{Left}
 use Rattle.history_rules.specs.ResourceMemory.{Setup, Memory, memory}
 use Rattle.history_rules.specs.Nodes.{World, Past, counted_at}
 use Rattle.history_rules.specs.Histories.{Moment, Legal, coordinator_left}
-use Rattle.history_rules.specs.Chains.{IsChain, MayLeave, IsEmpty}
+use Rattle.history_rules.specs.Chains.{IsChain, MayLeave, IsBlankPast}
 use Rattle.history_law.specs.Points.{In}
 use Rattle.history_law.specs.Tickets.{kind_of}
 use Rattle.history_law.specs.Cover.{memory_of, Covers}
@@ -23,7 +23,7 @@ use Rattle.history_law.specs.OnceSafety.{is_work, WorkedOnce, WorksAreOnce, Work
 use Rattle.history_law.proofs.Tests.{false_true, true_false, and_left, and_right, and_both, same_nat, nat_same}
 use Rattle.history_law.proofs.FenceRecords.{none_passes}
 use Rattle.history_law.proofs.CoverHistory.{covers}
-use Rattle.history_law.proofs.CoverChains.{of_memory, covers_first, chain_covered, shorter_chain}
+use Rattle.history_law.proofs.CoverChains.{of_memory, covers_first, at_first, chain_covered, shorter_chain}
 use Rattle.history_law.proofs.CallBranches.{slot_low, same_call}
 use Rattle.history_law.proofs.Calls.{WorkIs}
 use Rattle.history_law.proofs.CallHistory.{FencedCalls, calls_keep, calls_first, calls_next}
@@ -59,15 +59,15 @@ onces w past numbered start first ms legal = by_entries w past numbered (OnceBy 
 
 -- ---- disks without records
 
-first_once : (tc : Left SessionRecord) (n : ℕ) (s : Setup) → OnceAt tc n (memory s [] [])
-first_once tc n s =
-    let once = boot_once [] tt in
+first_once : (past : Past) → IsBlankPast past → (tc : Left SessionRecord) (n : ℕ) (s : Setup) → OnceAt tc n (memory s (past.resource n) [])
+first_once past blank tc n s =
+    let once = boot_once (past.resource n) (at_first past blank AreOnce tt boot_once n) in
     record { once = (once, once); late = λ o i. absurd i; alone = λ o p i j x c oo op. absurd i }
 
-pub onces_first : (w : World) (past : Past) → IsEmpty past → Onces w past []
+pub onces_first : (w : World) (past : Past) → IsBlankPast past → Onces w past []
 onces_first w past bare = record {
   calls = calls_first w past bare;
-  at = λ n s is. subst (λ (rs : List ResourceRecord). OnceAt (coordinator_left past []) n (memory s rs [])) (sym (bare.resources n)) (first_once (coordinator_left past []) n s);
+  at = λ n s is. first_once past bare (coordinator_left past []) n s;
 }
 
 -- ---- a call of a committed transaction

@@ -2,8 +2,8 @@
 use Rattle.seata_types.specs.declared.acts.Durable.TheVariants as durable
 use Rattle.history_law.proofs.UndoRecords.{commit_of, undo_committed, tried_stands}
 use Rattle.std.proofs.lemmas.Bool.{cases_lt}
-use Rattle.std.proofs.Common.{◌≡◌, ◌⊎◌, inl, inr, ◌+◌, ◌==◌, ◌||◌, not, nat_le, ℕ, zero, suc, Bool, true, false, cond, if◌then◌else◌, List, [], ◌∷◌, ◌++◌, find, filter, Option, Some, None, is_some, Result, Ok, Err, refl, ap, sym, subst, ◌∙◌, ◌<◌, ◌≤◌, ◌&&◌, min, map, option_map, arith}
-use Rattle.std.specs.Ordering.{is_lt}
+use Rattle.std.proofs.Common.{◌≡◌, ◌⊎◌, inl, inr, ◌+◌, ◌==◌, ◌||◌, not, nat_le, ℕ, zero, suc, Bool, true, false, cond, if◌then◌else◌, List, [], ◌∷◌, ◌++◌, find, filter, Option, Some, None, is_some, Result, Ok, Err, refl, ap, sym, subst, ◌∙◌, ◌<◌, ◌≤◌, ◌&&◌, min, map, option_map, arith, Ordering, Less, Equal, Greater}
+use Rattle.std.specs.Ordering.{is_lt, match_ordering}
 use Rattle.seata_types.specs.Orders.{key_cmp}
 use Rattle.seata_types.specs.declared.acts.Act.{Act}
 use Rattle.seata_types.specs.declared.acts.Act.TheVariants as act
@@ -31,7 +31,7 @@ use Rattle.seata_types.specs.declared.statuses.BranchStatus.TheVariants as branc
 use Rattle.local_tables.specs.Calls.{effect}
 use Rattle.local_tables.specs.Rows.{Database, is_key}
 use Rattle.local_tables.specs.declared.schemas.Effect.{Effect}
-use Rattle.local_tables.proofs.KeyLaws.{same_key}
+use Rattle.local_tables.proofs.KeyLaws.{key_exact, same_key}
 use Rattle.durable_records.specs.declared.resources.ResourceRecord.{ResourceRecord}
 use Rattle.durable_records.specs.Branches.{same_ticket}
 use Rattle.durable_records.specs.Locks.{has_key}
@@ -42,10 +42,10 @@ use Rattle.history_rules.specs.Own.{Event, Given, sends}
 use Rattle.history_rules.specs.CoordinatorRules.{xid_of, branch_of, last_of}
 use Rattle.history_rules.specs.ResourceMemory.{Setup, Owner, OfCall, OfLocal, Open, Memory, opening_tables, action_of, local_of, next_ticket, open_at, without, with_first, opening_of, has_row, no_effect, or_none, effect_on, or_empty, committed_of, tried_of, call_of}
 use Rattle.history_rules.specs.ResourceRules
-use Rattle.history_rules.specs.ResourceRules.{ticket_with, with_ticket, busy_in, lesser_row, busy_row, dirty_image, untouched, least_branch, is_for_call, is_for_local, request_of, requests, resource_answer, least_of}
+use Rattle.history_rules.specs.ResourceRules.{ticket_with, with_ticket, busy_in, lesser_row, busy_row, dirty_image, untouched, least_branch, is_for_call, is_for_local, request_of, requests, resource_answer, least_of, with_row, with_rows}
 use Rattle.history_law.specs.Points.{In}
 use Rattle.history_law.specs.Tickets.{Tickets, IsAtOf, HasAll, IsOfRollback}
-use Rattle.history_law.proofs.Tests.{false_true, true_false, none_some, and_both, or_either, nat_same, find_none, found_in, in_filter, same_nat, and_left, and_right, of_filter}
+use Rattle.history_law.proofs.Tests.{false_true, true_false, none_some, and_both, or_right, or_either, nat_same, find_none, found_in, in_filter, same_nat, and_left, and_right, of_filter}
 use Rattle.history_law.proofs.CoordinatorCauses.{one_ticket, tcc_not_at}
 use Rattle.history_law.proofs.CoordinatorAnswers.{last_in}
 use Rattle.history_law.proofs.ResourceFits.{tables_now, IsFree, IsNew, AreFree, IsGranted, IsRollback, IsCommit, RolledBy, CancelledBy, ConfirmedBy, IsOfCommit, is_done_commit, is_done_rollback, SaysCommitted, SaysRollbacked, Fits, IsWorked}
@@ -136,6 +136,37 @@ rows_asked o r h = by (has_key (image_keys o.images) r) refl h
     by true e h = has_first (image_keys o.images) (only_read o.images o.reads) r e
     by false e h = has_second (image_keys o.images) (only_read o.images o.reads) r (read_has (image_keys o.images) (read_keys o.reads) r e h)
 
+or_above : (b c d : Bool) → (b || c) ≡ true → (c ≡ true → d ≡ true) → (b || d) ≡ true
+or_above true c d h below = refl
+or_above false c d h below = below h
+
+with_row_has : (key : RowKey) (ks : List RowKey) (r : RowKey) → (is_key key r ≡ true) ⊎ (has_key ks r ≡ true) → has_key (with_row key ks) r ≡ true
+with_row_has key [] r (inl h) = ap (λ b. b || false) h
+with_row_has key [] r (inr h) = false_true h
+with_row_has key (k ∷ ks) r h = by (key_cmp key k) refl h (with_row_has key ks r)
+  where
+    by : (o : Ordering) → key_cmp key k ≡ o → (is_key key r ≡ true) ⊎ ((is_key k r || has_key ks r) ≡ true) → ((is_key key r ≡ true) ⊎ (has_key ks r ≡ true) → has_key (with_row key ks) r ≡ true)
+        → has_key (match_ordering o (key ∷ k ∷ ks) (k ∷ ks) (k ∷ with_row key ks)) r ≡ true
+    by Less e (inl a) below = ap (λ b. b || (is_key k r || has_key ks r)) a
+    by Less e (inr h) below = or_right (is_key key r) h
+    by Equal e (inl a) below = ap (λ b. b || has_key ks r) (ap (λ j. is_key j r) (sym (key_exact key k e)) ∙ a)
+    by Equal e (inr h) below = h
+    by Greater e (inl a) below = or_right (is_key k r) (below (inl a))
+    by Greater e (inr h) below = or_above (is_key k r) (has_key ks r) (has_key (with_row key ks) r) h (λ m. below (inr m))
+
+with_rows_have : (keys ks : List RowKey) (r : RowKey) → (has_key keys r ≡ true) ⊎ (has_key ks r ≡ true) → has_key (with_rows keys ks) r ≡ true
+with_rows_have keys [] r (inl h) = h
+with_rows_have keys [] r (inr h) = false_true h
+with_rows_have keys (k ∷ ks) r (inl h) = with_row_has k (with_rows keys ks) r (inr (with_rows_have keys ks r (inl h)))
+with_rows_have keys (k ∷ ks) r (inr h) = with_row_has k (with_rows keys ks) r (either (or_either (is_key k r) (has_key ks r) h) (λ b. with_rows_have keys ks r (inr b)))
+  where
+    either : (is_key k r ≡ true) ⊎ (has_key ks r ≡ true) → (has_key ks r ≡ true → has_key (with_rows keys ks) r ≡ true) → (is_key k r ≡ true) ⊎ (has_key (with_rows keys ks) r ≡ true)
+    either (inl a) below = inl a
+    either (inr b) below = inr (below b)
+
+local_rows_asked : (o : Open) → HasAll (with_rows (image_keys o.images) (read_keys o.reads)) o
+local_rows_asked o r h = with_rows_have (image_keys o.images) (read_keys o.reads) r (or_either (has_key (image_keys o.images) r) (has_key (read_keys o.reads) r) h)
+
 -- ---- answers
 
 module _ (s : Setup) (m : Memory) where
@@ -156,7 +187,7 @@ module _ (s : Setup) (m : Memory) where
   request_fits event done fits o (OfCall man x c (work.Tcc a)) is i =
       (fits, record { number = refl; open_ticket = o; there = i; ticket = refl; asks = record { manager = man; work = work.Tcc a; owner = is; of_kind = refl; touched = λ k. tcc_not_at k; rows = λ k. tcc_not_at k } })
   request_fits event done fits o (OfLocal k) is i =
-      (fits, record { number = refl; open_ticket = o; there = i; ticket = refl; rows = rows_asked o })
+      (fits, record { number = refl; open_ticket = o; there = i; ticket = refl; rows = local_rows_asked o })
 
   -- ---- calls
 

@@ -10,7 +10,7 @@ use Rattle.history_rules.specs.Own.{Left}
 use Rattle.history_rules.specs.ResourceMemory.{Setup, memory}
 use Rattle.history_rules.specs.Nodes.{World, Past, counted_at}
 use Rattle.history_rules.specs.Histories.{Moment, Legal, coordinator_left}
-use Rattle.history_rules.specs.Chains.{IsChain, MayLeave, IsEmpty}
+use Rattle.history_rules.specs.Chains.{IsChain, MayLeave, IsBlankPast}
 use Rattle.history_law.specs.Points.{In}
 use Rattle.history_law.specs.Network.{OnSent}
 use Rattle.history_law.specs.Cover.{all_of, memory_of, Covers}
@@ -18,7 +18,7 @@ use Rattle.history_law.specs.TicketSafety.{AreNumbered}
 use Rattle.history_law.specs.OrderSafety.{ArePiled, CommitsLie, UndosFollow, RowsArePiled, RowsStayPiled, RowsLaw, RowsOfChains}
 use Rattle.history_law.proofs.Branches.{in_all}
 use Rattle.history_law.proofs.CoverHistory.{covers}
-use Rattle.history_law.proofs.CoverChains.{of_sessions, of_memory, names_closed, commit_stays, covers_first, chain_covered, shorter_chain}
+use Rattle.history_law.proofs.CoverChains.{of_sessions, of_memory, names_closed, commit_stays, covers_first, at_first, chain_covered, shorter_chain}
 use Rattle.history_law.proofs.RowMessages.{SaysRows, manager_rows}
 use Rattle.history_law.proofs.Rows.{Unders, PiledAt, CommitsLieAt, UndosFollowAt, RowsBy, piled_on, commits_lie_on, rows_at_tc, rows_at_res}
 use Rattle.history_law.proofs.Steps.{Keeps, by_entries}
@@ -61,30 +61,17 @@ rows_stay : (w : World) (past : Past) → AreNumbered w → Covers w past [] →
 rows_stay w past numbered start first [] legal = rows_safe w past [] first
 rows_stay w past numbered start first (m ∷ ms) legal = (rows_stay w past numbered start first ms legal.0, rows_safe w past (m ∷ ms) (rows w past numbered start first (m ∷ ms) legal))
 
--- ---- disks without records
+-- ---- disks without records, but for boots
 
-first_piled : (s : Setup) → PiledAt [] (memory s [] [])
-first_piled s key = (tt, tt)
-
-first_commits_lie : (s : Setup) → CommitsLieAt [] (memory s [] [])
-first_commits_lie s = (tt, tt)
-
-first_undos_follow : (s : Setup) → UndosFollowAt (memory s [] [])
-first_undos_follow s = (tt, tt)
-
-first_unders : (n : ℕ) (s : Setup) → Unders [] [] n (memory s [] [])
-first_unders n s g i at here = absurd i
-
-pub rows_first : (w : World) (past : Past) → IsEmpty past → Rows w past []
-rows_first w past bare = record {
+pub rows_first : (w : World) (past : Past) → IsBlankPast past → Rows w past []
+rows_first w past blank = record {
   said = tt;
-  unders = λ n s is. subst (λ (rs : List SessionRecord). Unders rs rs n (memory s (past.resource n) [])) (sym bare.sessions)
-      (subst (λ (rs : List ResourceRecord). Unders [] [] n (memory s rs [])) (sym (bare.resources n)) (first_unders n s));
-  piled = λ n s is. subst (λ (rs : List SessionRecord). PiledAt rs (memory s (past.resource n) [])) (sym bare.sessions)
-      (subst (λ (rs : List ResourceRecord). PiledAt [] (memory s rs [])) (sym (bare.resources n)) (first_piled s));
-  commits_lie = λ n s is. subst (λ (rs : List SessionRecord). CommitsLieAt rs (memory s (past.resource n) [])) (sym bare.sessions)
-      (subst (λ (rs : List ResourceRecord). CommitsLieAt [] (memory s rs [])) (sym (bare.resources n)) (first_commits_lie s));
-  undos_follow = λ n s is. subst (λ (rs : List ResourceRecord). UndosFollowAt (memory s rs [])) (sym (bare.resources n)) (first_undos_follow s);
+  unders = λ n s is. subst (λ (rs : List SessionRecord). Unders rs rs n (memory s (past.resource n) [])) (sym blank.sessions) (λ g i at here. absurd i);
+  piled = λ n s is. subst (λ (rs : List SessionRecord). PiledAt rs (memory s (past.resource n) [])) (sym blank.sessions)
+      (λ key. let none = at_first past blank (λ rs. ArePiled [] (changes rs key)) tt (λ rs k. k) n in (none, none));
+  commits_lie = λ n s is. subst (λ (rs : List SessionRecord). CommitsLieAt rs (memory s (past.resource n) [])) (sym blank.sessions)
+      (let lie = at_first past blank (CommitsLie []) tt (λ rs k. k) n in (lie, lie));
+  undos_follow = λ n s is. let follow = at_first past blank UndosFollow tt (λ rs k. k) n in (follow, follow);
 }
 
 pub rows_law : RowsLaw

@@ -7,7 +7,7 @@ use Rattle.durable_records.specs.SessionOrder.{Allowed}
 use Rattle.history_rules.specs.ResourceMemory.{Setup}
 use Rattle.history_rules.specs.Nodes.{World, Past, counted_at}
 use Rattle.history_rules.specs.Histories.{Moment, Legal}
-use Rattle.history_rules.specs.Chains.{IsChain, IsEmpty}
+use Rattle.history_rules.specs.Chains.{IsChain, IsBlankPast}
 use Rattle.history_law.specs.Points.{In, AtEachPoint, InEachHistory}
 use Rattle.history_law.specs.SessionSafety.{session_records, SessionsStaySafe, SessionsAreSafe}
 use Rattle.history_law.specs.Cover.{memory_of}
@@ -76,7 +76,7 @@ all_points w past [] a b c d e f = safe_point w past [] (record { sessions = a; 
 all_points w past (m ∷ ms) a b c d e f =
     (all_points w past ms a.0 b.0 c.0 d.0 e.0 f.0, safe_point w past (m ∷ ms) (record { sessions = a.1; tickets = b.1; endings = c.1; once = d.1; order = e.1; values = f.1 }))
 
-allowed_first : (past : Past) → IsEmpty past → Allowed past.sessions
+allowed_first : (past : Past) → IsBlankPast past → Allowed past.sessions
 allowed_first past bare = subst Allowed (sym bare.sessions) tt
 
 pub safety_law : SafetyLaw

@@ -14,7 +14,7 @@ use Rattle.history_rules.specs.Nodes.{World, Past, Coordinator, Happens, MayStan
 use Rattle.history_rules.specs.Histories.{Moment, own, own_if, same_place, HappensAt, IsDone, Legal, coordinator_left}
 use Rattle.history_rules.specs.Chains.{IsChain}
 use Rattle.history_law.specs.SessionSafety.{SessionsAreSafe, SessionsLaw, SessionsOfChains, Asks, QuestionsLaw}
-use Rattle.history_law.proofs.Transactions.{known, in_order, by_table}
+use Rattle.history_law.proofs.Transactions.{decided_once, in_order, by_table}
 use Rattle.history_law.proofs.Holders.{one_holder, holders_change}
 use Rattle.history_law.proofs.CoordinatorAnswers.{OnRecord, OnAct, MayAct, coordinator_may}
 use Rattle.history_law.specs.Cover.{all_of}
@@ -23,7 +23,7 @@ use Rattle.history_law.proofs.CoordinatorSteps.{coordinator_moves}
 -- records each of which may come after those before it are safe
 pub sessions_safe : (rs : List SessionRecord) → Allowed rs → SessionsAreSafe rs
 sessions_safe rs a = record {
-  decided_once = λ x. (known rs a x).most;
+  decided_once = decided_once rs a;
   in_order = in_order rs a;
   by_table = by_table rs a;
   one_holder = one_holder rs a;

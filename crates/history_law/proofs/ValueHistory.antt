@@ -24,14 +24,14 @@ use Rattle.history_rules.specs.Own.{Left}
 use Rattle.history_rules.specs.ResourceMemory.{Setup, Open, Memory, opening_tables, boot_over, memory}
 use Rattle.history_rules.specs.Nodes.{World, Past, counted_at}
 use Rattle.history_rules.specs.Histories.{Moment, Legal, coordinator_left}
-use Rattle.history_rules.specs.Chains.{IsChain, MayLeave, IsEmpty}
+use Rattle.history_rules.specs.Chains.{IsChain, MayLeave, IsBlankPast}
 use Rattle.history_law.specs.Points.{In}
 use Rattle.history_law.specs.Cover.{all_of, memory_of, Covers}
 use Rattle.history_law.specs.TicketSafety.{AreNumbered}
 use Rattle.history_law.specs.ValueSafety.{HasModes, IsEffectThen, IsOpenedAt, HasOpening, AreEffects, EachHasValues, ValuesStaySafe, ValuesLaw, ValuesOfChains, IsOutsideAfter, DirtyByOutside, DirtyLaw, DirtyOfChains}
 use Rattle.history_law.proofs.CoverHistory.{covers}
 use Rattle.history_law.proofs.CoverResource.{one_number}
-use Rattle.history_law.proofs.CoverChains.{of_sessions, of_memory, covers_first, chain_covered, shorter_chain}
+use Rattle.history_law.proofs.CoverChains.{of_sessions, of_memory, covers_first, at_first, chain_covered, shorter_chain}
 use Rattle.history_law.proofs.Branches.{in_all, grant_stays}
 use Rattle.history_law.proofs.CallBranches.{session_stays, session_in_all}
 use Rattle.history_law.proofs.CallHistory.{FencedCalls, calls_keep, calls_first, calls_next}
@@ -255,24 +255,26 @@ none_sorted = tt
 opening_sorted : (s : Setup) → IsMap (opening_tables s).rows
 opening_sorted s = map_put_all [] (map comes (opening_rows s.number s.schema s.opening)) none_sorted
 
-first_rows : (w : World) (past : Past) (n : ℕ) (s : Setup) → RowsHold w past [] [] n s (boot_over [] ∷ [])
-first_rows w past n s = rows_boot w past [] [] n s [] (record {
+first_rows : (w : World) (past : Past) (n : ℕ) (s : Setup) → RowsHold w past [] [] n s []
+first_rows w past n s = record {
   sorted = opening_sorted s;
   values = λ key at. record { first = row_at (opening_tables s).rows key; found = tt; now = refl; opened = λ h. refl };
   undos_are = λ u i. absurd i;
   single = λ u v i j ex eb. absurd i;
   effects = tt;
-})
+}
 
-first_values : (w : World) (past : Past) (n : ℕ) (s : Setup) → ValuesAt w past [] [] n s (memory s [] [])
-first_values w past n s = record { rows = (first_rows w past n s, first_rows w past n s); opens = λ o i. absurd i }
+first_values : (w : World) (past : Past) → IsBlankPast past → (n : ℕ) (s : Setup) → ValuesAt w past [] [] n s (memory s (past.resource n) [])
+first_values w past blank n s =
+    let rows = rows_boot w past [] [] n s (past.resource n) (at_first past blank (RowsHold w past [] [] n s) (first_rows w past n s) (λ rs h. rows_boot w past [] [] n s rs h) n) in
+    record { rows = (rows, rows); opens = λ o i. absurd i }
 
-pub values_first : (w : World) (past : Past) → IsEmpty past → Values w past []
+pub values_first : (w : World) (past : Past) → IsBlankPast past → Values w past []
 values_first w past bare = record {
   calls = calls_first w past bare;
   order = rows_first w past bare;
   values = λ n s is. subst (λ (rs : List SessionRecord). ValuesAt w past [] rs n s (memory s (past.resource n) [])) (sym bare.sessions)
-      (subst (λ (rs : List ResourceRecord). ValuesAt w past [] [] n s (memory s rs [])) (sym (bare.resources n)) (first_values w past n s));
+      (first_values w past bare n s);
   dirty = tt;
 }
 

@@ -24,7 +24,7 @@ use Rattle.history_rules.specs.ResourceMemory.{Setup, Memory, resource_record}
 use Rattle.history_rules.specs.ManagerRules.{Settings, last_sent, sent_after}
 use Rattle.history_rules.specs.Nodes.{World, Past, counted_at}
 use Rattle.history_rules.specs.Histories.{Moment, Legal, own, own_if, same_place, coordinator_left}
-use Rattle.history_rules.specs.Chains.{IsChain, MayLeave, IsEmpty}
+use Rattle.history_rules.specs.Chains.{IsChain, MayLeave, IsBlankPast}
 use Rattle.history_law.specs.Points.{In}
 use Rattle.history_law.specs.Network.{OnSent, EachSent}
 use Rattle.history_law.specs.Cover.{all_of, memory_of, Covers}
@@ -294,7 +294,7 @@ Works w past ms = WorksBy w (coordinator_left past ms) (memory_of past ms) ms
 pub works : (w : World) (past : Past) → AreNumbered w → Covers w past [] → Works w past [] → (ms : List Moment) → Legal w past ms → Works w past ms
 works w past numbered start first ms legal = by_entries w past numbered (WorksBy w) (works_keep w past) start first ms legal
 
-pub works_first : (w : World) (past : Past) → IsEmpty past → Works w past []
+pub works_first : (w : World) (past : Past) → IsBlankPast past → Works w past []
 works_first w past bare = record {
   said = tt;
   committed = subst (λ (rs : List SessionRecord). CommitsWorked w (memory_of past []) rs × CommitsWorked w (memory_of past []) rs) (sym bare.sessions) (λ x e. false_true e, λ x e. false_true e);

@@ -15,7 +15,7 @@ use Rattle.history_rules.specs.ResourceMemory.{Setup, Memory}
 use Rattle.history_rules.specs.ManagerRules.{Settings}
 use Rattle.history_rules.specs.Nodes.{World, Past, counted_at}
 use Rattle.history_rules.specs.Histories.{Moment, Legal}
-use Rattle.history_rules.specs.Chains.{IsChain, IsEmpty}
+use Rattle.history_rules.specs.Chains.{IsChain, IsBlankPast}
 use Rattle.history_law.specs.Points.{In, AtEachPoint, InEachHistory}
 use Rattle.history_law.specs.SessionSafety.{session_records}
 use Rattle.history_law.specs.Tickets.{kind_of}
@@ -66,7 +66,7 @@ CallsStaySafe w past ms = AtEachPoint (CallsAreSafe w past) ms
 
 -- in a legal history over disks without records
 abbrev pub CallsLaw : Type 0
-CallsLaw = (w : World) (past : Past) (ms : List Moment) → AreNumbered w → IsEmpty past → Legal w past ms → CallsStaySafe w past ms
+CallsLaw = (w : World) (past : Past) (ms : List Moment) → AreNumbered w → IsBlankPast past → Legal w past ms → CallsStaySafe w past ms
 
 -- and in every chain
 abbrev pub CallsOfChains : Type 0
@@ -80,7 +80,7 @@ NoneIsUnfenced [] = Unit {0}
 NoneIsUnfenced (m ∷ ms) = NoneIsUnfenced ms × ((k : ℕ) (xid : Xid) (branch : BranchId) → m.place ≡ place.Res k → m.step.act ≡ act.Unfenced xid branch → ⊥)
 
 abbrev pub UnfencedLaw : Type 0
-UnfencedLaw = (w : World) (past : Past) (ms : List Moment) → AreNumbered w → IsEmpty past → Legal w past ms → NoneIsUnfenced ms
+UnfencedLaw = (w : World) (past : Past) (ms : List Moment) → AreNumbered w → IsBlankPast past → Legal w past ms → NoneIsUnfenced ms
 
 abbrev pub UnfencedOfChains : Type 0
 UnfencedOfChains = (w : World) (histories : List (Past × List Moment)) → AreNumbered w → IsChain w histories → InEachHistory (λ past ms. NoneIsUnfenced ms) histories

@@ -13,7 +13,7 @@ use Rattle.durable_records.specs.Progress.{progress, is_done}
 use Rattle.history_rules.specs.ResourceMemory.{Setup}
 use Rattle.history_rules.specs.Nodes.{World, Past, counted_at}
 use Rattle.history_rules.specs.Histories.{Moment, Legal}
-use Rattle.history_rules.specs.Chains.{IsChain, IsEmpty}
+use Rattle.history_rules.specs.Chains.{IsChain, IsBlankPast}
 use Rattle.history_law.specs.Points.{In, AtEachPoint, InEachHistory}
 use Rattle.history_law.specs.SessionSafety.{session_records}
 use Rattle.history_law.specs.Cover.{memory_of}
@@ -92,7 +92,7 @@ EndingsStaySafe w past ms = AtEachPoint (EndingsAreSafe w past) ms
 
 -- in a legal history over disks without records
 abbrev pub EndingsLaw : Type 0
-EndingsLaw = (w : World) (past : Past) (ms : List Moment) → AreNumbered w → IsEmpty past → Legal w past ms → EndingsStaySafe w past ms
+EndingsLaw = (w : World) (past : Past) (ms : List Moment) → AreNumbered w → IsBlankPast past → Legal w past ms → EndingsStaySafe w past ms
 
 -- and in every chain
 abbrev pub EndingsOfChains : Type 0

@@ -9,7 +9,7 @@ use Rattle.history_rules.specs.ResourceMemory.{Setup, Memory}
 use Rattle.history_rules.specs.ManagerRules.{Settings}
 use Rattle.history_rules.specs.Nodes.{World, Past, counted_at}
 use Rattle.history_rules.specs.Histories.{Moment, Legal}
-use Rattle.history_rules.specs.Chains.{IsChain, IsEmpty}
+use Rattle.history_rules.specs.Chains.{IsChain, IsBlankPast}
 use Rattle.history_law.specs.Points.{AtEachPoint, InEachHistory}
 use Rattle.history_law.specs.SessionSafety.{session_records}
 use Rattle.history_law.specs.Cover.{memory_of}
@@ -43,7 +43,7 @@ WorksStayOnce w past ms = AtEachPoint (WorksAreOnce w past) ms
 
 -- in a legal history over disks without records
 abbrev pub OnceLaw : Type 0
-OnceLaw = (w : World) (past : Past) (ms : List Moment) → AreNumbered w → IsEmpty past → Legal w past ms → WorksStayOnce w past ms
+OnceLaw = (w : World) (past : Past) (ms : List Moment) → AreNumbered w → IsBlankPast past → Legal w past ms → WorksStayOnce w past ms
 
 -- and in every chain
 abbrev pub OnceOfChains : Type 0

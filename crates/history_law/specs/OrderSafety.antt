@@ -17,7 +17,7 @@ use Rattle.durable_records.specs.RowsKept.{Change, ByBranch, ByLocal, ByOutside,
 use Rattle.history_rules.specs.ResourceMemory.{Setup, Open, Memory, has_row}
 use Rattle.history_rules.specs.Nodes.{World, Past, counted_at}
 use Rattle.history_rules.specs.Histories.{Moment, Legal}
-use Rattle.history_rules.specs.Chains.{IsChain, IsEmpty}
+use Rattle.history_rules.specs.Chains.{IsChain, IsBlankPast}
 use Rattle.history_law.specs.Points.{In, AtEachPoint, InEachHistory}
 use Rattle.history_law.specs.SessionSafety.{session_records}
 use Rattle.history_law.specs.Cover.{all_of, memory_of}
@@ -88,7 +88,7 @@ RowsStayPiled w past ms = AtEachPoint (RowsArePiled w past) ms
 
 -- in a legal history over disks without records
 abbrev pub RowsLaw : Type 0
-RowsLaw = (w : World) (past : Past) (ms : List Moment) → AreNumbered w → IsEmpty past → Legal w past ms → RowsStayPiled w past ms
+RowsLaw = (w : World) (past : Past) (ms : List Moment) → AreNumbered w → IsBlankPast past → Legal w past ms → RowsStayPiled w past ms
 
 -- and in every chain
 abbrev pub RowsOfChains : Type 0
@@ -121,7 +121,7 @@ AreFreeSinceGrants w past ms = (later before : List Moment) → ms ≡ later ++ 
 
 -- in a legal history over disks without records
 abbrev pub FreeLaw : Type 0
-FreeLaw = (w : World) (past : Past) (ms : List Moment) → AreNumbered w → IsEmpty past → Legal w past ms → AreFreeSinceGrants w past ms
+FreeLaw = (w : World) (past : Past) (ms : List Moment) → AreNumbered w → IsBlankPast past → Legal w past ms → AreFreeSinceGrants w past ms
 
 -- and in every chain
 abbrev pub FreeOfChains : Type 0

@@ -9,7 +9,7 @@ use Rattle.durable_records.specs.RowsKept.{Change, changes}
 use Rattle.history_rules.specs.ResourceMemory.{Setup, Memory}
 use Rattle.history_rules.specs.Nodes.{World, Past, counted_at}
 use Rattle.history_rules.specs.Histories.{Moment, Legal}
-use Rattle.history_rules.specs.Chains.{IsChain, IsEmpty}
+use Rattle.history_rules.specs.Chains.{IsChain, IsBlankPast}
 use Rattle.history_law.specs.Points.{In, AtEachPoint, InEachHistory}
 use Rattle.history_law.specs.SessionSafety.{session_records, HasOneHolder}
 use Rattle.history_law.specs.Cover.{all_of, memory_of}
@@ -74,7 +74,7 @@ pub record IsSafeHistory (w : World) (past : Past) (ms : List Moment) : Type 0 w
 
 -- each legal history over disks without records
 abbrev pub SafetyLaw : Type 0
-SafetyLaw = (w : World) (past : Past) (ms : List Moment) → IsScenario w → IsEmpty past → Legal w past ms → IsSafeHistory w past ms
+SafetyLaw = (w : World) (past : Past) (ms : List Moment) → IsScenario w → IsBlankPast past → Legal w past ms → IsSafeHistory w past ms
 
 -- and each history of a chain
 abbrev pub SafetyOfChains : Type 0

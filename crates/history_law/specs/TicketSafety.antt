@@ -11,6 +11,7 @@ use Rattle.durable_records.specs.ResourceOrder.{image_keys}
 use Rattle.durable_records.specs.RowsKept.{Change, ByBranch, ByLocal, ByOutside, changes}
 use Rattle.history_rules.specs.ResourceMemory.{Setup, Open, Memory, has_row}
 use Rattle.history_rules.specs.Nodes.{World, Past, counted_at}
+pub use Rattle.history_rules.specs.Nodes.{AreNumbered}
 use Rattle.history_rules.specs.Histories.{Moment, Legal}
 use Rattle.history_rules.specs.Chains.{IsChain}
 use Rattle.history_law.specs.Points.{In, AtEachPoint, InEachHistory}
@@ -56,10 +57,6 @@ pub record TicketsAreSafe (rs : List SessionRecord) (n : ℕ) (m : Memory) : Typ
       → (is_commit (decided rs g.xid) ≡ true) ⊎ (undo_of m.left.records g.xid g.branch ≡ None)
 
 -- ---- the law
-
--- each resource stands at its number
-abbrev pub AreNumbered : World → Type 0
-AreNumbered w = (n : ℕ) (s : Setup) → counted_at w.resources n ≡ Some s → s.number ≡ n
 
 abbrev pub EachIsSafe : World → Past → List Moment → Type 0
 EachIsSafe w past ms = (n : ℕ) (s : Setup) → counted_at w.resources n ≡ Some s → TicketsAreSafe (session_records past ms) n (memory_of past ms n s)

@@ -27,7 +27,7 @@ use Rattle.history_rules.specs.ResourceMemory.{Setup, Open, Memory, opening_tabl
 use Rattle.history_rules.specs.ManagerRules.{Settings}
 use Rattle.history_rules.specs.Nodes.{World, Past, counted_at}
 use Rattle.history_rules.specs.Histories.{Moment, Legal}
-use Rattle.history_rules.specs.Chains.{IsChain, IsEmpty}
+use Rattle.history_rules.specs.Chains.{IsChain, IsBlankPast}
 use Rattle.history_law.specs.Points.{In, AtEachPoint, InEachHistory}
 use Rattle.history_law.specs.SessionSafety.{session_records}
 use Rattle.history_law.specs.Cover.{all_of, memory_of}
@@ -176,7 +176,7 @@ ValuesStaySafe w past ms = AtEachPoint (EachHasValues w past) ms
 
 -- in a legal history over disks without records
 abbrev pub ValuesLaw : Type 0
-ValuesLaw = (w : World) (past : Past) (ms : List Moment) → AreNumbered w → HasModes w → IsEmpty past → Legal w past ms → ValuesStaySafe w past ms
+ValuesLaw = (w : World) (past : Past) (ms : List Moment) → AreNumbered w → HasModes w → IsBlankPast past → Legal w past ms → ValuesStaySafe w past ms
 
 -- and in every chain
 abbrev pub ValuesOfChains : Type 0
@@ -198,7 +198,7 @@ DirtyByOutside w past (m ∷ ms) = DirtyByOutside w past ms × ((n : ℕ) (s : S
     → IsOutsideAfter (memory_of past ms n s).left.records xid.0 branch.0 key)
 
 abbrev pub DirtyLaw : Type 0
-DirtyLaw = (w : World) (past : Past) (ms : List Moment) → AreNumbered w → HasModes w → IsEmpty past → Legal w past ms → DirtyByOutside w past ms
+DirtyLaw = (w : World) (past : Past) (ms : List Moment) → AreNumbered w → HasModes w → IsBlankPast past → Legal w past ms → DirtyByOutside w past ms
 
 abbrev pub DirtyOfChains : Type 0
 DirtyOfChains = (w : World) (histories : List (Past × List Moment)) → AreNumbered w → HasModes w → IsChain w histories → InEachHistory (DirtyByOutside w) histories

@@ -7,7 +7,7 @@ use Rattle.history_rules.specs.ResourceMemory.{Setup, Memory}
 use Rattle.history_rules.specs.ManagerRules.{Settings}
 use Rattle.history_rules.specs.Nodes.{World, Past, counted_at}
 use Rattle.history_rules.specs.Histories.{Moment, Legal}
-use Rattle.history_rules.specs.Chains.{IsChain, IsEmpty}
+use Rattle.history_rules.specs.Chains.{IsChain, IsBlankPast}
 use Rattle.history_law.specs.Points.{In, AtEachPoint, InEachHistory}
 use Rattle.history_law.specs.SessionSafety.{session_records}
 use Rattle.history_law.specs.Cover.{memory_of}
@@ -48,7 +48,7 @@ CommitsStaySafe w past ms = AtEachPoint (CommitsAreSafe w past) ms
 
 -- in a legal history over disks without records
 abbrev pub CommitsLaw : Type 0
-CommitsLaw = (w : World) (past : Past) (ms : List Moment) → AreNumbered w → IsEmpty past → Legal w past ms → CommitsStaySafe w past ms
+CommitsLaw = (w : World) (past : Past) (ms : List Moment) → AreNumbered w → IsBlankPast past → Legal w past ms → CommitsStaySafe w past ms
 
 -- and in every chain
 abbrev pub CommitsOfChains : Type 0

@@ -27,13 +27,14 @@ pub record MayLeave (w : World) (past : Past) (ms : List Moment) (next : Past) :
   pub resources : (n : ℕ) (s : Setup) → counted_at w.resources n ≡ Some s → (rs : List ResourceRecord) × (boots : ℕ)
       × MayStand (memory_at past s ms).left rs × (next.resource n ≡ with_boots boots rs)
 
-pub record IsEmpty (past : Past) : Type 0 where
+-- no records, but at a resource boots of openings that came to no entry
+pub record IsBlankPast (past : Past) : Type 0 where
   pub sessions : past.sessions ≡ []
-  pub resources : (n : ℕ) → past.resource n ≡ []
+  pub resources : (n : ℕ) → (boots : ℕ) × (past.resource n ≡ with_boots boots [])
 
--- histories, the last one first, each with the records that its disks had: the first had none, and each later one what the
--- one before may leave
+-- histories, the last one first, each with the records that its disks had: the first had none but such boots, and each later
+-- one what the one before may leave
 abbrev pub IsChain : World → List (Past × List Moment) → Type 0
 IsChain w [] = Unit {0}
-IsChain w ((past, ms) ∷ []) = IsEmpty past × Legal w past ms
+IsChain w ((past, ms) ∷ []) = IsBlankPast past × Legal w past ms
 IsChain w ((next, ms) ∷ (past, before) ∷ rest) = IsChain w ((past, before) ∷ rest) × MayLeave w past before next × Legal w next ms

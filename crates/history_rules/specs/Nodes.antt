@@ -41,6 +41,10 @@ abbrev pub counted_at : {A : Type 0} → List A → ℕ → Option A
 counted_at list zero = None
 counted_at list (suc n) = slice_get list n
 
+-- each resource stands at its number
+abbrev pub AreNumbered : World → Type 0
+AreNumbered w = (n : ℕ) (setup : Setup) → counted_at w.resources n ≡ Some setup → setup.number ≡ n
+
 -- what stands at a place: a node, or none
 abbrev pub role_at : World → Past → Place → Option Role
 role_at w past place.Net = None

@@ -3,7 +3,7 @@
 use Rattle.std.specs.Prelude.{ℕ, zero, suc, ◌+◌, ◌==◌, ◌&&◌, not, nat_le, min, Bool, true, false, if◌then◌else◌, List, [], ◌∷◌, ◌++◌, find, map, Option, Some, None, Result, Ok, Err}
 use Rattle.std.specs.BTreeMap.{is_at}
 use Rattle.std.specs.Cmp.Lexicographic.{pointwise}
-use Rattle.std.specs.Ordering.{is_lt}
+use Rattle.std.specs.Ordering.{is_lt, match_ordering}
 use Rattle.seata_types.specs.Orders.{key_cmp, value_cmp}
 use Rattle.seata_types.specs.declared.acts.Act.{Act}
 use Rattle.seata_types.specs.declared.acts.Act.TheVariants as act
@@ -81,13 +81,23 @@ untouched index (suc n ∷ ns) = untouched (index + 1) ns
 
 -- ---- what a ticket asks the coordinator
 
+-- a row in its place among rows in rising order, where it isn't among them
+abbrev pub with_row : RowKey → List RowKey → List RowKey
+with_row key [] = key ∷ []
+with_row key (k ∷ ks) = match_ordering (key_cmp key k) (key ∷ k ∷ ks) (k ∷ ks) (k ∷ with_row key ks)
+
+-- these rows with others, in rising order
+abbrev pub with_rows : List RowKey → List RowKey → List RowKey
+with_rows keys [] = keys
+with_rows keys (k ∷ ks) = with_row k (with_rows keys ks)
+
 -- a call's Register: to hold the rows that it touched and check those that it only read; a Try has no rows yet. A local
--- transaction asks for all its rows
+-- transaction asks for all its rows, those that it only read in their places among the others
 abbrev pub request_of : ℕ → Open → Owner → Message
 request_of number o (OfCall m x c (work.At stmts)) =
     message.Register (xid_of x) number c o.ticket kind.At (image_keys o.images) (only_read o.images o.reads)
 request_of number o (OfCall m x c (work.Tcc action)) = message.Register (xid_of x) number c o.ticket kind.Tcc [] []
-request_of number o (OfLocal k) = message.LockQuery number o.ticket (image_keys o.images ++ only_read o.images o.reads)
+request_of number o (OfLocal k) = message.LockQuery number o.ticket (with_rows (image_keys o.images) (read_keys o.reads))
 
 abbrev pub requests : ℕ → Act → Open → Step
 requests number done o = sends done place.Tc (request_of number o o.owner)

@@ -1,5 +1,5 @@
 -- The nodes and the schedule of a scenario, in the words of the rules.
-use Rattle.std.specs.Prelude.{◌≡◌, ℕ, ◌+◌, ◌==◌, if◌then◌else◌, List, [], ◌∷◌, ◌++◌, map, Some}
+use Rattle.std.specs.Prelude.{ℕ, ◌+◌, ◌==◌, if◌then◌else◌, List, [], ◌∷◌, ◌++◌, map}
 use Rattle.seata_types.specs.declared.statements.Action.{Action}
 use Rattle.seata_types.specs.declared.statements.Stmt.{Stmt}
 use Rattle.seata_types.specs.declared.statements.Work.{Work}
@@ -12,7 +12,8 @@ use Rattle.scenario_reader.specs.declared.scenarios.ScheduleItem.TheVariants as 
 use Rattle.history_rules.specs.CoordinatorMemory.{Times}
 use Rattle.history_rules.specs.ResourceMemory.{Setup}
 use Rattle.history_rules.specs.ManagerRules.{Settings}
-use Rattle.history_rules.specs.Nodes.{World, counted_at}
+use Rattle.history_rules.specs.Nodes.{World}
+pub use Rattle.history_rules.specs.Nodes.{AreNumbered}
 use Rattle.history_rules.specs.Schedules.{Item, TurnOf, DeliverOf, WaitFor, StopOf, CrashOf, RestartOf, LocalOf, OutsideOf, Auto}
 
 -- ---- the coordinator
@@ -82,10 +83,6 @@ resources_of s = resources_from s 1 s.resources
 
 abbrev pub world_of : Scenario → World
 world_of s = record { times = times_of s; resources = resources_of s; managers = managers_from s.lock_tries 1 s.managers }
-
--- each resource stands at its number
-abbrev pub AreNumbered : World → Type 0
-AreNumbered w = (n : ℕ) (setup : Setup) → counted_at w.resources n ≡ Some setup → setup.number ≡ n
 
 -- ---- the schedule
 

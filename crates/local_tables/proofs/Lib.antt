@@ -3,6 +3,7 @@ mod ApplyLaws
 mod ChangeLaws
 mod CountLaws
 mod EffectLaws
+pub mod EffectRowLaws
 pub mod FittingLaws
 pub mod ImageLaws
 mod InsertLaws

@@ -4,6 +4,7 @@ pub mod Sums
 pub mod Checks
 pub mod Touches
 pub mod Calls
+pub mod EffectRows
 pub mod Lookups
 pub mod Puts
 pub mod Sound

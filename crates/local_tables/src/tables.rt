@@ -7,7 +7,7 @@ use crate::conditions::table_named;
 use crate::maps::insert;
 use crate::schemas::Schema;
 use crate::touching::keyed;
-use seata_types::{List, NoMemory, Row, RowKey, Text};
+use seata_types::{Duplicate, List, NoMemory, Row, RowKey, Text};
 use std::alloc::Global;
 use std::collections::BTreeMap;
 use std::marker::Model;
@@ -63,6 +63,33 @@ impl Tables {
         ensures in_order { IsMap self.now.rows }
     {
         self.rows.get(key)
+    }
+
+    /// The resource's number; takes no memory.
+    pub fn resource(&self) -> u16
+        ensures { result ≡ self.now.resource }
+    {
+        self.resource
+    }
+
+    /// The tables with their columns; takes no memory.
+    pub fn schema(&self) -> &Schema
+        ensures { result.now ≡ self.now.schema }
+    {
+        &self.schema
+    }
+
+    /// All rows with their keys, by table and key.
+    pub fn list(&self, alloc: Global) -> Result<List<(RowKey, Row)>, NoMemory>
+        ensures all { IfOk result (λ all. all ≡ self.now.rows) }
+        ensures in_order { IsMap self.now.rows }
+    {
+        let mut all = Vec::new(alloc);
+        for (key, row) in &self.rows {
+            all.push((key.copy(alloc)?, row.copy(alloc)?))
+                .map_err(|_| NoMemory)?;
+        }
+        Ok(List::of(all))
     }
 
     /// How many rows there are over all tables.

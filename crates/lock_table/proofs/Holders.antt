@@ -41,7 +41,7 @@ some_of : (e x : Xid) (b rest : Bool) (o : Option Xid) → cond b (Some e) o ≡
 some_of e x true rest o is later = let same : e ≡ x = cc in rw (same, xid_itself x) refl
 some_of e x false rest o is later = rw (later is) (or_true ((e.0 == x.0) && false))
 
-holder_holds : (hs : Holds) (x : Xid) (q : RowKey) → locked (locks hs) q ≡ Some x → holds hs x q ≡ true
+pub holder_holds : (hs : Holds) (x : Xid) (q : RowKey) → locked (locks hs) q ≡ Some x → holds hs x q ≡ true
 holder_holds [] x q is = absurd cc
 holder_holds (e ∷ es) x q is =
     some_of e.0.xid x (has_key e.1 q) (holds es x q) (locked (locks es) q) (sym (at_on e.0.xid e.1 (locks es) q) ∙ is) (holder_holds es x q)
@@ -51,7 +51,7 @@ none_of e true a rest o is later = absurd cc
 none_of e false true rest o is later = later is
 none_of e false false rest o is later = later is
 
-nobody_holds : (hs : Holds) (q : RowKey) → locked (locks hs) q ≡ None → (x : Xid) → holds hs x q ≡ false
+pub nobody_holds : (hs : Holds) (q : RowKey) → locked (locks hs) q ≡ None → (x : Xid) → holds hs x q ≡ false
 nobody_holds [] q is x = refl
 nobody_holds (e ∷ es) q is x =
     none_of e.0.xid (has_key e.1 q) (e.0.xid.0 == x.0) (holds es x q) (locked (locks es) q) (sym (at_on e.0.xid e.1 (locks es) q) ∙ is) (λ none. nobody_holds es q none x)

@@ -14,4 +14,4 @@ use Rattle.seata_lab.proofs.Modes.{world_of-modes}
 pub run_is_safe : (s : Scenario) (ms : List Moment) → IsRunnable s → Legal (world_of s) no_past ms → IsSafeHistory (world_of s) no_past ms
 run_is_safe s ms runs legal =
     safety_law (world_of s) no_past ms (record { numbered = world_of-numbered s; modes = world_of-modes s runs })
-    (record { sessions = refl; resources = λ n. refl }) legal
+    (record { sessions = refl; resources = λ n. (0, refl) }) legal

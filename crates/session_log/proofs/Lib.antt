@@ -1,7 +1,7 @@
 pub mod RecordLaws
 pub mod SnapshotLaws
 pub mod WritingLaws
-mod Members
-mod RecordFacts
+pub mod Members
+pub mod RecordFacts
 mod SnapshotKeys
 pub mod SoundSnapshots

@@ -1,24 +1,16 @@
 -- Members of lists: what holds of each, and of each two that stand at different places.
-use Rattle.std.proofs.Common.{◌≡◌, ◌⊎◌, inl, inr, ◌||◌, not, Bool, true, false, cond, List, [], ◌∷◌, ◌++◌, map, filter, find, Some, is_some, refl, ap, sym, subst, ◌∙◌}
+use Rattle.std.proofs.Common.{◌≡◌, ◌⊎◌, inl, inr, ◌||◌, not, Bool, true, false, cond, List, [], ◌∷◌, ◌++◌, map, filter, refl, ap, sym, subst, ◌∙◌}
 use Rattle.std.specs.List.{list_any, list_all, flat_map}
 use Rattle.std.proofs.lemmas.Bool.{and_from}
+pub use Rattle.durable_records.specs.Members.{In}
+pub use Rattle.durable_records.proofs.Tests.{false_true}
+pub use Rattle.durable_records.proofs.MemberFacts.{of_filter, in_filter, member_found as is_found, none_passes, found_member as member}
 use Rattle.session_log.specs.Soundness.{differ_after, all_differ}
 use Rattle.session_log.specs.SnapshotOf.{in_order}
-
-no_truth : false ≡ true → ⊥
-no_truth e = cc
-
-pub false_true : {A : Type 0} → false ≡ true → A
-false_true e = absurd (no_truth e)
 
 or_true : (b : Bool) → (b || true) ≡ true
 or_true true = refl
 or_true false = refl
-
--- a stands in a list
-abbrev pub In : {A : Type 0} → A → List A → Type 0
-In a [] = ⊥
-In a (b ∷ bs) = (a ≡ b) ⊎ In a bs
 
 -- each two of a list are related, the one that stands first with the other
 abbrev pub Pairs : {A : Type 0} → (A → A → Type 0) → List A → Type 0
@@ -64,54 +56,6 @@ module _ {A : Type 0} where
   in_order_too (x ∷ xs) a (inr i) = in_first (in_order xs) (x ∷ []) a (in_order_too xs a i)
 
 module _ {A : Type 0} (test : A → Bool) where
-  filter_by : (x : A) (xs : List A) (a : A) → (In a (filter test xs) → In a xs × (test a ≡ true)) → (b : Bool) → test x ≡ b → In a (cond b (x ∷ filter test xs) (filter test xs)) → In a (x ∷ xs) × (test a ≡ true)
-  filter_by x xs a below true t (inl is) = (inl is, ap test is ∙ t)
-  filter_by x xs a below true t (inr rest) = let k = below rest in (inr k.0, k.1)
-  filter_by x xs a below false t rest = let k = below rest in (inr k.0, k.1)
-
-  pub of_filter : (xs : List A) (a : A) → In a (filter test xs) → In a xs × (test a ≡ true)
-  of_filter [] a i = absurd i
-  of_filter (x ∷ xs) a i = filter_by x xs a (of_filter xs a) (test x) refl i
-
-  in_filter_by : (x : A) (xs : List A) (a : A) → (In a xs → In a (filter test xs)) → test a ≡ true → (b : Bool) → test x ≡ b → In a (x ∷ xs) → In a (cond b (x ∷ filter test xs) (filter test xs))
-  in_filter_by x xs a below t true p (inl is) = inl is
-  in_filter_by x xs a below t true p (inr rest) = inr (below rest)
-  in_filter_by x xs a below t false p (inl is) = false_true (sym p ∙ sym (ap test is) ∙ t)
-  in_filter_by x xs a below t false p (inr rest) = below rest
-
-  pub in_filter : (xs : List A) (a : A) → In a xs → test a ≡ true → In a (filter test xs)
-  in_filter [] a i t = absurd i
-  in_filter (x ∷ xs) a i t = in_filter_by x xs a (λ r. in_filter xs a r t) t (test x) refl i
-
-  found_by : (x : A) (xs : List A) (a : A) → (In a xs → is_some (find test xs) ≡ true) → test a ≡ true → (b : Bool) → test x ≡ b → In a (x ∷ xs) → is_some (cond b (Some x) (find test xs)) ≡ true
-  found_by x xs a below t true p i = refl
-  found_by x xs a below t false p (inl is) = false_true (sym p ∙ sym (ap test is) ∙ t)
-  found_by x xs a below t false p (inr rest) = below rest
-
-  -- a member that passes is found, or another one
-  pub is_found : (xs : List A) (a : A) → In a xs → test a ≡ true → is_some (find test xs) ≡ true
-  is_found [] a i t = absurd i
-  is_found (x ∷ xs) a i t = found_by x xs a (λ r. is_found xs a r t) t (test x) refl i
-
-  missing_by : (x : A) (xs : List A) (a : A) → (is_some (find test xs) ≡ false → In a xs → test a ≡ false) → (b : Bool) → test x ≡ b → is_some (cond b (Some x) (find test xs)) ≡ false → In a (x ∷ xs) → test a ≡ false
-  missing_by x xs a below true t e i = false_true (sym e)
-  missing_by x xs a below false t e (inl is) = ap test is ∙ t
-  missing_by x xs a below false t e (inr rest) = below e rest
-
-  -- where none is found, none passes
-  pub none_passes : (xs : List A) (a : A) → is_some (find test xs) ≡ false → In a xs → test a ≡ false
-  none_passes [] a e i = absurd i
-  none_passes (x ∷ xs) a e i = missing_by x xs a (none_passes xs a) (test x) refl e i
-
-  member_by : (x : A) (xs : List A) → (is_some (find test xs) ≡ true → (a : A) × In a xs × (test a ≡ true)) → (b : Bool) → test x ≡ b → is_some (cond b (Some x) (find test xs)) ≡ true → (a : A) × In a (x ∷ xs) × (test a ≡ true)
-  member_by x xs below true t e = (x, inl refl, t)
-  member_by x xs below false t e = let k = below e in (k.0, inr k.1, k.2)
-
-  -- what is found is a member that passes
-  pub member : (xs : List A) → is_some (find test xs) ≡ true → (a : A) × In a xs × (test a ≡ true)
-  member [] e = false_true e
-  member (x ∷ xs) e = member_by x xs (member xs) (test x) refl e
-
   pub all_by : (xs : List A) → ((a : A) → In a xs → test a ≡ true) → list_all test xs ≡ true
   all_by [] each = refl
   all_by (x ∷ xs) each = and_from (test x) (list_all test xs) (each x (inl refl)) (all_by xs (λ a i. each a (inr i)))

@@ -1,49 +1,20 @@
 -- What is known of records of the coordinator that may come after one another.
 use Rattle.std.proofs.Common.{◌≡◌, inl, inr, ℕ, ◌≤◌, ◌==◌, ◌&&◌, not, Bool, true, false, if◌then◌else◌, List, [], ◌∷◌, length, Option, Some, None, is_some, is_none, refl, ap, sym, subst, ◌∙◌, arith}
 use Rattle.std.proofs.lemmas.Bool.{and_from, eqb-true, eq-eqb}
-use Rattle.seata_types.specs.declared.rows.RowKey.{RowKey}
 use Rattle.seata_types.specs.declared.statuses.BranchKind.{BranchKind}
 use Rattle.seata_types.specs.declared.statuses.BranchKind.TheVariants as kind
 use Rattle.seata_types.specs.declared.statuses.Decision.{Decision}
 use Rattle.seata_types.specs.declared.statuses.Decision.TheVariants as how
 use Rattle.durable_records.specs.declared.coordinators.SessionRecord.{SessionRecord}
 use Rattle.durable_records.specs.declared.coordinators.SessionRecord.TheVariants as log
-use Rattle.durable_records.specs.Transactions.{Session as Began, sessions, session, session_for, has_manager, next_xid, decided, is_forgotten, failed}
-use Rattle.durable_records.specs.Branches.{Grant, grants, branches, granted, is_named, is_at, all_at, same_ticket, is_ended, is_unended, unended, unended_branch, next_branch}
-use Rattle.durable_records.specs.Progress.{Progress, Goes, Retries, IsFailed, IsDone, progress, status_by, status_of, is_known, is_on, may_decide, is_going, has_retrying}
-use Rattle.durable_records.specs.Locks.{first_held}
-use Rattle.durable_records.specs.SessionOrder.{Allowed, is_empty, may_grant}
+use Rattle.durable_records.specs.Transactions.{Session as Began, sessions, session_for, has_manager, next_xid, decided, is_forgotten, failed}
+use Rattle.durable_records.specs.Branches.{Grant, grants, branches, granted, is_named, is_at, all_at, same_ticket, is_ended, is_unended, unended, unended_branch}
+use Rattle.durable_records.specs.Progress.{Progress, Goes, Retries, IsFailed, IsDone, progress, status_by, status_of, is_known, is_on, is_going, has_retrying}
+use Rattle.durable_records.specs.SessionOrder.{Allowed, is_empty}
+use Rattle.durable_records.proofs.MemberFacts.{counted_in}
+use Rattle.durable_records.proofs.RecordFacts.{known, numbered, began_xid, grant_branch, begin_next, begin_new, grant_undecided, grant_new, going_decided, going_on, end_going}
+use Rattle.durable_records.proofs.Tests.{and_left, and_right, not_true, false_not, is_none_none, moved}
 use Rattle.session_log.proofs.Members.{false_true, In, Pairs, IsSymmetric, of_filter, in_filter, none_passes, member, pairs_more}
-
--- ---- tests
-
-pub left_of : (a b : Bool) → (a && b) ≡ true → a ≡ true
-left_of true b e = refl
-left_of false b e = e
-
-pub right_of : (a b : Bool) → (a && b) ≡ true → b ≡ true
-right_of true b e = e
-right_of false b e = false_true e
-
-pub is_not : (b : Bool) → not b ≡ true → b ≡ false
-is_not true e = sym e
-is_not false e = refl
-
-pub not_is : (b : Bool) → b ≡ false → not b ≡ true
-not_is true e = sym e
-not_is false e = refl
-
-is_none_of : {A : Type 0} (o : Option A) → is_none o ≡ true → is_some o ≡ false
-is_none_of None e = refl
-is_none_of (Some a) e = false_true e
-
-none_of : {A : Type 0} (o : Option A) → is_some o ≡ false → o ≡ None
-none_of None e = refl
-none_of (Some a) e = false_true (sym e)
-
-some_is : {A B : Type 0} (o : Option A) → is_some o ≡ true → o ≡ None → B
-some_is None e n = false_true e
-some_is (Some a) e n = absurd cc
 
 -- ---- counts
 
@@ -57,46 +28,13 @@ few_grants [] = omega arith
 few_grants (log.Granted xid branch resource call ticket k hold ∷ rs) = let n = few_grants rs in omega (arith, n)
 few_grants (r ∷ rs) = let n = few_grants rs in omega (arith, n)
 
--- ---- what a grant was asked
-
-module _ (rs : List SessionRecord) (x b : ℕ) (hold : List RowKey) (free : Bool) (may : (may_grant rs x b hold && free) ≡ true) where
-  grant_test : may_grant rs x b hold ≡ true
-  grant_test = left_of (may_grant rs x b hold) free may
-
-  grant_free : free ≡ true
-  grant_free = right_of (may_grant rs x b hold) free may
-
-  grant_decides : may_decide rs x ≡ true
-  grant_decides = left_of (may_decide rs x) ((b == next_branch rs) && is_none (first_held rs x hold)) grant_test
-
-  grant_next : b ≡ next_branch rs
-  grant_next = eqb-true b (next_branch rs) (left_of (b == next_branch rs) (is_none (first_held rs x hold)) (right_of (may_decide rs x) ((b == next_branch rs) && is_none (first_held rs x hold)) grant_test))
-
-  grant_undecided : decided rs x ≡ None
-  grant_undecided = none_of (decided rs x) (is_none_of (decided rs x) (right_of (is_known rs x) (is_none (decided rs x)) grant_decides))
-
-  grant_kept : is_forgotten rs x ≡ false
-  grant_kept = is_not (is_forgotten rs x) (right_of (is_some (session rs x)) (not (is_forgotten rs x)) (left_of (is_known rs x) (is_none (decided rs x)) grant_decides))
-
 -- ---- numbers, and what stands once
 
 pub sessions_low : (rs : List SessionRecord) → Allowed rs → (s : Began) → In s (sessions rs) → s.xid ≤ length (sessions rs)
-sessions_low [] a s i = absurd i
-sessions_low (log.Begun xid manager begun timeout ∷ rs) a s (inl e) =
-    let number : xid.0 ≡ next_xid rs = eqb-true xid.0 (next_xid rs) (left_of (xid.0 == next_xid rs) (is_none (session_for rs manager)) a.1) in
-    let here : s.xid ≡ xid.0 = ap (λ (z : Began). z.xid) e in
-    omega (arith, number, here)
-sessions_low (log.Begun xid manager begun timeout ∷ rs) a s (inr i) = let low = sessions_low rs a.0 s i in omega (arith, low)
-sessions_low (r ∷ rs) a s i = sessions_low rs a.0 s i
+sessions_low rs a s i = (counted_in began_xid (sessions rs) (numbered rs a).began s i).1
 
 pub grants_low : (rs : List SessionRecord) → Allowed rs → (g : Grant) → In g (grants rs) → g.branch ≤ length (grants rs)
-grants_low [] a g i = absurd i
-grants_low (log.Granted xid branch resource call ticket k hold ∷ rs) a g (inl e) =
-    let number : branch.0 ≡ next_branch rs = grant_next rs xid.0 branch.0 hold (is_none (granted rs xid.0 resource call ticket k)) a.1 in
-    let here : g.branch ≡ branch.0 = ap (λ (z : Grant). z.branch) e in
-    omega (arith, number, here)
-grants_low (log.Granted xid branch resource call ticket k hold ∷ rs) a g (inr i) = let low = grants_low rs a.0 g i in omega (arith, low)
-grants_low (r ∷ rs) a g i = grants_low rs a.0 g i
+grants_low rs a g i = (counted_in grant_branch (grants rs) (numbered rs a).branched g i).1
 
 -- two transactions have two numbers and two managers
 pub record Other (s q : Began) : Type 0 where
@@ -109,8 +47,8 @@ other_symmetric s q o = record { xid = λ e. o.xid (sym e); manager = λ e. o.ma
 pub sessions_differ : (rs : List SessionRecord) → Allowed rs → Pairs Other (sessions rs)
 sessions_differ [] a = tt
 sessions_differ (log.Begun xid manager begun timeout ∷ rs) a =
-    let number : xid.0 ≡ next_xid rs = eqb-true xid.0 (next_xid rs) (left_of (xid.0 == next_xid rs) (is_none (session_for rs manager)) a.1) in
-    let new : is_some (session_for rs manager) ≡ false = is_none_of (session_for rs manager) (right_of (xid.0 == next_xid rs) (is_none (session_for rs manager)) a.1) in (
+    let number : xid.0 ≡ next_xid rs = begin_next rs xid.0 manager a.1 in
+    let new : is_some (session_for rs manager) ≡ false = ap is_some (begin_new rs xid.0 manager a.1) in (
       λ q i. record {
         xid = λ e. let low = sessions_low rs a.0 q i in absurd (omega (arith, number, e, low));
         manager = λ e. false_true (sym (none_passes (has_manager manager) (sessions rs) q new i) ∙ eq-eqb q.manager manager (sym e));
@@ -118,57 +56,6 @@ sessions_differ (log.Begun xid manager begun timeout ∷ rs) a =
       sessions_differ rs a.0,
     )
 sessions_differ (r ∷ rs) a = sessions_differ rs a.0
-
--- ---- what is known of a transaction
-
-pub record UndecidedBy (decision : Option Decision) (far : Progress) (failure : Option (ℕ × ℕ)) (ended : ℕ → Bool) : Type 0 where
-  pub quiet : decision ≡ None → (far ≡ Goes) × (failure ≡ None) × ((b : ℕ) → ended b ≡ false)
-
--- a record of a decided transaction, or of another one
-settled : (decision : Option Decision) (far : Bool → Progress) (failure : Bool → Option (ℕ × ℕ)) (ended : Bool → ℕ → Bool) → UndecidedBy decision (far false) (failure false) (ended false) →
-    (b : Bool) → (b ≡ true → is_some decision ≡ true) → UndecidedBy decision (far b) (failure b) (ended b)
-settled decision far failure ended k true is = record { quiet = λ n. some_is decision (is refl) n }
-settled decision far failure ended k false is = k
-
-decides : (b : Bool) (how : Decision) (decision : Option Decision) (far : Progress) (failure : Option (ℕ × ℕ)) (ended : ℕ → Bool) → UndecidedBy decision far failure ended → UndecidedBy (if b then Some how else decision) far failure ended
-decides true how decision far failure ended k = record { quiet = λ n. absurd cc }
-decides false how decision far failure ended k = k
-
-abbrev pub Undecided : List SessionRecord → ℕ → Type 0
-Undecided rs x = UndecidedBy (decided rs x) (progress rs x) (failed rs x) (is_ended rs x)
-
-going_decided : (rs : List SessionRecord) (x y : ℕ) → is_going rs y ≡ true → (y == x) ≡ true → is_some (decided rs x) ≡ true
-going_decided rs x y going same =
-    subst (λ (z : ℕ). is_some (decided rs z) ≡ true) (eqb-true y x same) (left_of (is_some (decided rs y)) (is_on (progress rs y)) (right_of (is_known rs y) (is_some (decided rs y) && is_on (progress rs y)) going))
-
-going_on : (rs : List SessionRecord) (x y : ℕ) → is_going rs y ≡ true → (y == x) ≡ true → is_on (progress rs x) ≡ true
-going_on rs x y going same =
-    subst (λ (z : ℕ). is_on (progress rs z) ≡ true) (eqb-true y x same) (right_of (is_some (decided rs y)) (is_on (progress rs y)) (right_of (is_known rs y) (is_some (decided rs y) && is_on (progress rs y)) going))
-
-retrying_decided : (known at : Bool) (d : Option Decision) (far : Progress) → has_retrying (if known then status_by at d far else Rattle.seata_types.specs.declared.statuses.GlobalStatus.TheVariants.Finished) ≡ true → is_some d ≡ true
-retrying_decided false at d far e = false_true e
-retrying_decided true at None far e = false_true e
-retrying_decided true at (Some d) far e = refl
-
-ended_going : (rs : List SessionRecord) (y b : ℕ) → (is_going rs y && is_some (unended_branch rs y b)) ≡ true → is_going rs y ≡ true
-ended_going rs y b may = left_of (is_going rs y) (is_some (unended_branch rs y b)) may
-
-pub undecided : (rs : List SessionRecord) → Allowed rs → (x : ℕ) → Undecided rs x
-undecided [] a x = record { quiet = λ n. (refl, refl, λ b. refl) }
-undecided (log.Decided xid d ∷ rs) a x = decides (xid.0 == x) d (decided rs x) (progress rs x) (failed rs x) (is_ended rs x) (undecided rs a.0 x)
-undecided (log.Retrying xid ∷ rs) a x =
-    settled (decided rs x) (λ b. if b then Retries else progress rs x) (λ b. failed rs x) (λ b. is_ended rs x) (undecided rs a.0 x) (xid.0 == x)
-    (λ same. subst (λ (z : ℕ). is_some (decided rs z) ≡ true) (eqb-true xid.0 x same) (retrying_decided (is_known rs xid.0) (all_at (branches rs xid.0)) (decided rs xid.0) (progress rs xid.0) a.1))
-undecided (log.Ended xid branch ∷ rs) a x =
-    settled (decided rs x) (λ b. progress rs x) (λ b. failed rs x) (λ b c. if b && (branch.0 == c) then true else is_ended rs x c) (undecided rs a.0 x) (xid.0 == x)
-    (going_decided rs x xid.0 (ended_going rs xid.0 branch.0 a.1))
-undecided (log.Failed xid branch stmt ∷ rs) a x =
-    settled (decided rs x) (λ b. if b then IsFailed else progress rs x) (λ b. if b then Some (branch.0, stmt) else failed rs x) (λ b. is_ended rs x) (undecided rs a.0 x) (xid.0 == x)
-    (going_decided rs x xid.0 (ended_going rs xid.0 branch.0 a.1))
-undecided (log.Finished xid ∷ rs) a x =
-    settled (decided rs x) (λ b. if b then IsDone else progress rs x) (λ b. failed rs x) (λ b. is_ended rs x) (undecided rs a.0 x) (xid.0 == x)
-    (going_decided rs x xid.0 (left_of (is_going rs xid.0) (is_empty (unended rs xid.0)) a.1))
-undecided (r ∷ rs) a x = undecided rs a.0 x
 
 -- ---- where a transaction is done, its branches are ended
 
@@ -189,7 +76,7 @@ done_before false here before not e = e
 
 ended_or_not : (rs : List SessionRecord) (x : ℕ) (g : Grant) → is_empty (unended rs x) ≡ true → In g (branches rs x) → (b : Bool) → is_ended rs g.xid g.branch ≡ b → is_ended rs g.xid g.branch ≡ true
 ended_or_not rs x g empty of_x true e = e
-ended_or_not rs x g empty of_x false e = absurd (empty_none g (unended rs x) empty (in_filter (is_unended rs) (branches rs x) g of_x (not_is (is_ended rs g.xid g.branch) e)))
+ended_or_not rs x g empty of_x false e = absurd (empty_none g (unended rs x) empty (in_filter (is_unended rs) (branches rs x) g of_x (false_not (is_ended rs g.xid g.branch) e)))
 
 finished_ends : (rs : List SessionRecord) (y x : ℕ) (g : Grant) → In g (branches rs x) → g.xid ≡ x → is_empty (unended rs y) ≡ true → (progress rs x ≡ IsDone → is_ended rs x g.branch ≡ true) →
     (t : Bool) → (y == x) ≡ t → (if t then IsDone else progress rs x) ≡ IsDone → is_ended rs x g.branch ≡ true
@@ -203,13 +90,13 @@ done_ended [] a x g done i of = absurd i
 done_ended (log.Granted xid branch resource call ticket k hold ∷ rs) a x g done (inl e) of =
     let here : xid.0 ≡ x = sym (ap (λ (z : Grant). z.xid) e) ∙ of in
     let none : decided rs x ≡ None = subst (λ (q : ℕ). decided rs q ≡ None) here (grant_undecided rs xid.0 branch.0 hold (is_none (granted rs xid.0 resource call ticket k)) a.1) in
-    not_done (progress rs x) done (((undecided rs a.0 x).quiet none).0)
+    not_done (progress rs x) done (((known rs a.0 x).undecided none).0)
 done_ended (log.Granted xid branch resource call ticket k hold ∷ rs) a x g done (inr i) of = done_ended rs a.0 x g done i of
 done_ended (log.Retrying xid ∷ rs) a x g done i of = done_ended rs a.0 x g (done_before (xid.0 == x) Retries (progress rs x) (λ e. absurd cc) done) i of
 done_ended (log.Ended xid branch ∷ rs) a x g done i of = ends_too ((xid.0 == x) && (branch.0 == g.branch)) (is_ended rs x g.branch) (done_ended rs a.0 x g done i of)
 done_ended (log.Failed xid branch stmt ∷ rs) a x g done i of = done_ended rs a.0 x g (done_before (xid.0 == x) IsFailed (progress rs x) (λ e. absurd cc) done) i of
 done_ended (log.Finished xid ∷ rs) a x g done i of =
-    finished_ends rs xid.0 x g (in_filter (λ h. h.xid == x) (grants rs) g i (eq-eqb g.xid x of)) of (right_of (is_going rs xid.0) (is_empty (unended rs xid.0)) a.1) (λ d. done_ended rs a.0 x g d i of) (xid.0 == x) refl done
+    finished_ends rs xid.0 x g (in_filter (λ h. h.xid == x) (grants rs) g i (eq-eqb g.xid x of)) of (and_right (is_going rs xid.0) (is_empty (unended rs xid.0)) a.1) (λ d. done_ended rs a.0 x g d i of) (xid.0 == x) refl done
 done_ended (r ∷ rs) a x g done i of = done_ended rs a.0 x g done i of
 
 -- ---- failures
@@ -271,23 +158,23 @@ retries_not rs y x may same far =
     false_true (sym (no_retry (is_known rs y) (all_at (branches rs y)) (decided rs y)) ∙ sym (ap (λ p. has_retrying (if is_known rs y then status_by (all_at (branches rs y)) (decided rs y) p else Rattle.seata_types.specs.declared.statuses.GlobalStatus.TheVariants.Finished)) here) ∙ may)
 
 goes_not : (rs : List SessionRecord) (y x : ℕ) → is_going rs y ≡ true → (y == x) ≡ true → progress rs x ≡ IsFailed → ⊥
-goes_not rs y x going same far = false_true (sym (ap is_on far) ∙ going_on rs x y going same)
+goes_not rs y x going same far = false_true (sym (ap is_on far) ∙ going_on rs x (moved (λ n. is_going rs n ≡ true) y x going same))
 
 fails_now : (rs : List SessionRecord) (x b : ℕ) → (is_going rs x && is_some (unended_branch rs x b)) ≡ true → FailsBy IsFailed (decided rs x) (grants rs) (is_ended rs x b) x b
 fails_now rs x b may =
-    let found = member (λ g. g.branch == b) (unended rs x) (right_of (is_going rs x) (is_some (unended_branch rs x b)) may) in
+    let found = member (λ g. g.branch == b) (unended rs x) (and_right (is_going rs x) (is_some (unended_branch rs x b)) may) in
     let left = of_filter (is_unended rs) (branches rs x) found.0 found.1 in
     let here = of_filter (λ g. g.xid == x) (grants rs) found.0 left.0 in
     let of : found.0.xid ≡ x = eqb-true found.0.xid x here.1 in
     let number : found.0.branch ≡ b = eqb-true found.0.branch b found.2 in
     record {
       is_far = refl;
-      is_decided = going_decided rs x x (ended_going rs x b may) (eq-eqb x x refl);
+      is_decided = going_decided rs x (end_going rs x b may);
       branch = found.0;
       there = here.0;
       of = of;
       number = number;
-      unended_now = ap (λ (y : ℕ). is_ended rs y b) (sym of) ∙ ap (λ (c : ℕ). is_ended rs found.0.xid c) (sym number) ∙ is_not (is_ended rs found.0.xid found.0.branch) left.1;
+      unended_now = ap (λ (y : ℕ). is_ended rs y b) (sym of) ∙ ap (λ (c : ℕ). is_ended rs found.0.xid c) (sym number) ∙ not_true (is_ended rs found.0.xid found.0.branch) left.1;
     }
 
 fails_by : (rs : List SessionRecord) (y x c s : ℕ) (f : ℕ × ℕ) (t : Bool) → (y == x) ≡ t → (is_going rs y && is_some (unended_branch rs y c)) ≡ true → (failed rs x ≡ Some f → Fails rs x f.0) →
@@ -305,9 +192,9 @@ fails (log.Granted xid branch resource call ticket k hold ∷ rs) a x f e =
     fails_more (fails rs a.0 x f e) (record { xid = xid.0; branch = branch.0; resource = resource; call = call; ticket = ticket; kind = k; hold = hold })
 fails (log.Decided xid d ∷ rs) a x f e = fails_decided (fails rs a.0 x f e) (xid.0 == x) d
 fails (log.Retrying xid ∷ rs) a x f e = fails_on (fails rs a.0 x f e) (xid.0 == x) Retries (retries_not rs xid.0 x a.1)
-fails (log.Ended xid branch ∷ rs) a x f e = fails_ended (fails rs a.0 x f e) (xid.0 == x) (branch.0 == f.0) (goes_not rs xid.0 x (ended_going rs xid.0 branch.0 a.1))
+fails (log.Ended xid branch ∷ rs) a x f e = fails_ended (fails rs a.0 x f e) (xid.0 == x) (branch.0 == f.0) (goes_not rs xid.0 x (end_going rs xid.0 branch.0 a.1))
 fails (log.Failed xid branch stmt ∷ rs) a x f e = fails_by rs xid.0 x branch.0 stmt f (xid.0 == x) refl a.1 (fails rs a.0 x f) e
-fails (log.Finished xid ∷ rs) a x f e = fails_on (fails rs a.0 x f e) (xid.0 == x) IsDone (goes_not rs xid.0 x (left_of (is_going rs xid.0) (is_empty (unended rs xid.0)) a.1))
+fails (log.Finished xid ∷ rs) a x f e = fails_on (fails rs a.0 x f e) (xid.0 == x) IsDone (goes_not rs xid.0 x (and_left (is_going rs xid.0) (is_empty (unended rs xid.0)) a.1))
 fails (r ∷ rs) a x f e = fails rs a.0 x f e
 
 -- ---- what was granted once
@@ -349,7 +236,7 @@ granted_once : (rs : List SessionRecord) (g h : Grant) (k : BranchKind) → is_s
 granted_once rs g h k none i c =
     let off = none_passes (λ (q : Grant). not (is_forgotten rs q.xid) && is_named g.xid g.resource g.call g.ticket g.kind q) (grants rs) h none i in
     let here = subst (λ (z : BranchKind). is_named g.xid g.resource g.call g.ticket z h ≡ true) (sym c.of_first) (named k g h c.of_second c.names) in
-    false_true (sym off ∙ and_from (not (is_forgotten rs h.xid)) (is_named g.xid g.resource g.call g.ticket g.kind h) (not_is (is_forgotten rs h.xid) c.second) here)
+    false_true (sym off ∙ and_from (not (is_forgotten rs h.xid)) (is_named g.xid g.resource g.call g.ticket g.kind h) (false_not (is_forgotten rs h.xid) c.second) here)
 
 kept_before : (t before : Bool) → (if t then true else before) ≡ false → before ≡ false
 kept_before true before e = false_true (sym e)
@@ -359,7 +246,7 @@ pub grants_differ : (rs : List SessionRecord) → Allowed rs → (k : BranchKind
 grants_differ [] a k = tt
 grants_differ (log.Granted xid branch resource call ticket of hold ∷ rs) a k = (
   λ h i. granted_once rs (record { xid = xid.0; branch = branch.0; resource = resource; call = call; ticket = ticket; kind = of; hold = hold }) h k
-      (is_none_of (granted rs xid.0 resource call ticket of) (grant_free rs xid.0 branch.0 hold (is_none (granted rs xid.0 resource call ticket of)) a.1)) i,
+      (ap is_some (is_none_none (granted rs xid.0 resource call ticket of) (grant_new rs xid.0 branch.0 hold (is_none (granted rs xid.0 resource call ticket of)) a.1))) i,
   grants_differ rs a.0 k,
 )
 grants_differ (log.Forgot xid ∷ rs) a k =

@@ -17,8 +17,9 @@ use Rattle.session_log.specs.declared.keys.TicketKey.{TicketKey}
 use Rattle.session_log.specs.declared.keys.CallKey.{CallKey}
 use Rattle.session_log.specs.SnapshotOf.{in_order, branch_now, entry_now, forgotten_now, is_forgotten_session, is_kept_session, snapshot_of}
 use Rattle.session_log.specs.Soundness.{all_differ, entry_xid, entry_manager, forgotten_xid, forgotten_manager, xids, managers_of, same_ticket_key, ticket_of, branch_ticket, tickets, same_call_key, call_of, branch_call, calls}
+use Rattle.durable_records.proofs.Tests.{and_left, and_right, not_true}
 use Rattle.session_log.proofs.Members.{false_true, In, Pairs, of_order, of_filter, of_map, pairs_more, pairs_append, pairs_filter, pairs_order, pair_of, pairs_map, pairs_within, of_flat_map, pairs_flat_map, Differ, differ}
-use Rattle.session_log.proofs.RecordFacts.{left_of, right_of, is_not, other_symmetric, sessions_differ, Names, Apart, apart_symmetric, grants_differ, Other}
+use Rattle.session_log.proofs.RecordFacts.{other_symmetric, sessions_differ, Names, Apart, apart_symmetric, grants_differ, Other}
 
 -- ---- the transactions of a snapshot
 
@@ -32,7 +33,7 @@ gone_sessions rs = in_order (filter (is_forgotten_session rs) (sessions rs))
 pub kept_member : (rs : List SessionRecord) (s : Began) → In s (kept_sessions rs) → In s (sessions rs) × (is_forgotten rs s.xid ≡ false)
 kept_member rs s i =
     let there = of_filter (is_kept_session rs) (sessions rs) s (of_order (filter (is_kept_session rs) (sessions rs)) s i) in
-    (there.0, is_not (is_forgotten rs s.xid) there.1)
+    (there.0, not_true (is_forgotten rs s.xid) there.1)
 
 pub gone_member : (rs : List SessionRecord) (s : Began) → In s (gone_sessions rs) → In s (sessions rs) × (is_forgotten rs s.xid ≡ true)
 gone_member rs s i = of_filter (is_forgotten_session rs) (sessions rs) s (of_order (filter (is_forgotten_session rs) (sessions rs)) s i)
@@ -116,10 +117,10 @@ at_single kind.Tcc b = tt
 
 at_agree : (x y : ℕ) (g h : Grant) → g.xid ≡ x → h.xid ≡ y → ((g.resource == h.resource) && same_ticket g.ticket h.ticket) ≡ true → Names kind.At g h
 at_agree x y g h of other e =
-    let ticket = right_of (g.resource == h.resource) (same_ticket g.ticket h.ticket) e in (
-      eqb-true g.resource h.resource (left_of (g.resource == h.resource) (same_ticket g.ticket h.ticket) e),
-      eqb-true g.ticket.boot h.ticket.boot (left_of (g.ticket.boot == h.ticket.boot) (g.ticket.seq == h.ticket.seq) ticket),
-      eqb-true g.ticket.seq h.ticket.seq (right_of (g.ticket.boot == h.ticket.boot) (g.ticket.seq == h.ticket.seq) ticket),
+    let ticket = and_right (g.resource == h.resource) (same_ticket g.ticket h.ticket) e in (
+      eqb-true g.resource h.resource (and_left (g.resource == h.resource) (same_ticket g.ticket h.ticket) e),
+      eqb-true g.ticket.boot h.ticket.boot (and_left (g.ticket.boot == h.ticket.boot) (g.ticket.seq == h.ticket.seq) ticket),
+      eqb-true g.ticket.seq h.ticket.seq (and_right (g.ticket.boot == h.ticket.boot) (g.ticket.seq == h.ticket.seq) ticket),
     )
 
 pub tickets_differ : (rs : List SessionRecord) → Allowed rs → all_differ same_ticket_key (tickets (snapshot_of rs)) ≡ true
@@ -139,10 +140,10 @@ tcc_single kind.Tcc x b = (λ y i. absurd i, tt)
 
 tcc_agree : (x y : ℕ) (g h : Grant) → g.xid ≡ x → h.xid ≡ y → ((x == y) && ((g.resource == h.resource) && (g.call == h.call))) ≡ true → Names kind.Tcc g h
 tcc_agree x y g h of other e =
-    let rest = right_of (x == y) ((g.resource == h.resource) && (g.call == h.call)) e in (
-      of ∙ eqb-true x y (left_of (x == y) ((g.resource == h.resource) && (g.call == h.call)) e) ∙ sym other,
-      eqb-true g.resource h.resource (left_of (g.resource == h.resource) (g.call == h.call) rest),
-      eqb-true g.call h.call (right_of (g.resource == h.resource) (g.call == h.call) rest),
+    let rest = and_right (x == y) ((g.resource == h.resource) && (g.call == h.call)) e in (
+      of ∙ eqb-true x y (and_left (x == y) ((g.resource == h.resource) && (g.call == h.call)) e) ∙ sym other,
+      eqb-true g.resource h.resource (and_left (g.resource == h.resource) (g.call == h.call) rest),
+      eqb-true g.call h.call (and_right (g.resource == h.resource) (g.call == h.call) rest),
     )
 
 pub calls_differ : (rs : List SessionRecord) → Allowed rs → all_differ same_call_key (calls (snapshot_of rs)) ≡ true

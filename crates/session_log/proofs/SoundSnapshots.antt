@@ -16,8 +16,10 @@ use Rattle.session_log.specs.declared.sessions.Branch.{Branch}
 use Rattle.session_log.specs.declared.keys.TheConstants.{ACTS}
 use Rattle.session_log.specs.SnapshotOf.{in_order, branch_now, failure_of, entry_now, forgotten_now, snapshot_of}
 use Rattle.session_log.specs.Soundness.{has_counts, is_open_branch, is_ended_branch, is_at_branch, is_tcc_branch, is_numbered_branch, status_fits, is_failed_status, is_open_with, failure_fits, is_entry, all_differ, xids, managers_of, same_ticket_key, tickets, same_call_key, calls, is_forgotten_entry, has_sound_parts, is_sound}
+use Rattle.durable_records.proofs.RecordFacts.{known}
+use Rattle.durable_records.proofs.Tests.{and_left, and_right, false_not}
 use Rattle.session_log.proofs.Members.{false_true, In, of_order, in_order_too, of_filter, in_filter, is_found, all_of_map, any_of_map}
-use Rattle.session_log.proofs.RecordFacts.{left_of, right_of, not_is, few_sessions, few_grants, sessions_low, grants_low, undecided, done_ended, not_failed, fails}
+use Rattle.session_log.proofs.RecordFacts.{few_sessions, few_grants, sessions_low, grants_low, done_ended, not_failed, fails}
 use Rattle.session_log.proofs.SnapshotKeys.{kept_sessions, gone_sessions, kept_member, gone_member, tickets_differ, calls_differ, xids_differ, managers_differ}
 
 -- ---- numbers of a scenario
@@ -29,9 +31,9 @@ AreWithin managers resources rs = list_all (is_within managers resources) rs ≡
 sessions_within : (managers resources : ℕ) (rs : List SessionRecord) → AreWithin managers resources rs → (s : Began) → In s (sessions rs) → is_counted managers s.manager ≡ true
 sessions_within managers resources [] w s i = absurd i
 sessions_within managers resources (log.Begun xid manager begun timeout ∷ rs) w s (inl e) =
-    ap (λ (z : Began). is_counted managers z.manager) e ∙ left_of (is_counted managers manager) (list_all (is_within managers resources) rs) w
-sessions_within managers resources (log.Begun xid manager begun timeout ∷ rs) w s (inr i) = sessions_within managers resources rs (right_of (is_counted managers manager) (list_all (is_within managers resources) rs) w) s i
-sessions_within managers resources (r ∷ rs) w s i = sessions_within managers resources rs (right_of (is_within managers resources r) (list_all (is_within managers resources) rs) w) s i
+    ap (λ (z : Began). is_counted managers z.manager) e ∙ and_left (is_counted managers manager) (list_all (is_within managers resources) rs) w
+sessions_within managers resources (log.Begun xid manager begun timeout ∷ rs) w s (inr i) = sessions_within managers resources rs (and_right (is_counted managers manager) (list_all (is_within managers resources) rs) w) s i
+sessions_within managers resources (r ∷ rs) w s i = sessions_within managers resources rs (and_right (is_within managers resources r) (list_all (is_within managers resources) rs) w) s i
 
 -- of a branch: its resource, its call and the resources of its rows
 abbrev has_numbers : ℕ → Grant → Bool
@@ -39,25 +41,25 @@ has_numbers resources g = is_counted resources g.resource && (is_counted CALLS g
 
 without_size : (a b c d : Bool) → (a && (b && (c && d))) ≡ true → (a && (b && c)) ≡ true
 without_size a b c d e =
-    let rest = right_of a (b && (c && d)) e in
-    let last = right_of b (c && d) rest in
-    and_from a (b && c) (left_of a (b && (c && d)) e) (and_from b c (left_of b (c && d) rest) (left_of c d last))
+    let rest = and_right a (b && (c && d)) e in
+    let last = and_right b (c && d) rest in
+    and_from a (b && c) (and_left a (b && (c && d)) e) (and_from b c (and_left b (c && d) rest) (and_left c d last))
 
 grants_within : (managers resources : ℕ) (rs : List SessionRecord) → AreWithin managers resources rs → (g : Grant) → In g (grants rs) → has_numbers resources g ≡ true
 grants_within managers resources [] w g i = absurd i
 grants_within managers resources (log.Granted xid branch resource call ticket k hold ∷ rs) w g (inl e) =
-    let here = left_of (is_counted resources resource && (is_counted CALLS call && (list_all (has_resource resources) hold && nat_le (length hold) CALL_ROWS))) (list_all (is_within managers resources) rs) w in
+    let here = and_left (is_counted resources resource && (is_counted CALLS call && (list_all (has_resource resources) hold && nat_le (length hold) CALL_ROWS))) (list_all (is_within managers resources) rs) w in
     ap (has_numbers resources) e ∙ without_size (is_counted resources resource) (is_counted CALLS call) (list_all (has_resource resources) hold) (nat_le (length hold) CALL_ROWS) here
 grants_within managers resources (log.Granted xid branch resource call ticket k hold ∷ rs) w g (inr i) =
-    grants_within managers resources rs (right_of (is_counted resources resource && (is_counted CALLS call && (list_all (has_resource resources) hold && nat_le (length hold) CALL_ROWS))) (list_all (is_within managers resources) rs) w) g i
-grants_within managers resources (r ∷ rs) w g i = grants_within managers resources rs (right_of (is_within managers resources r) (list_all (is_within managers resources) rs) w) g i
+    grants_within managers resources rs (and_right (is_counted resources resource && (is_counted CALLS call && (list_all (has_resource resources) hold && nat_le (length hold) CALL_ROWS))) (list_all (is_within managers resources) rs) w) g i
+grants_within managers resources (r ∷ rs) w g i = grants_within managers resources rs (and_right (is_within managers resources r) (list_all (is_within managers resources) rs) w) g i
 
 -- ---- statuses
 
 all_at_each : (gs : List Grant) → all_at gs ≡ true → (g : Grant) → In g gs → is_at g.kind ≡ true
 all_at_each [] e g i = absurd i
-all_at_each (h ∷ hs) e g (inl is) = ap (λ (z : Grant). is_at z.kind) is ∙ left_of (is_at h.kind) (all_at hs) e
-all_at_each (h ∷ hs) e g (inr i) = all_at_each hs (right_of (is_at h.kind) (all_at hs) e) g i
+all_at_each (h ∷ hs) e g (inl is) = ap (λ (z : Grant). is_at z.kind) is ∙ and_left (is_at h.kind) (all_at hs) e
+all_at_each (h ∷ hs) e g (inr i) = all_at_each hs (and_right (is_at h.kind) (all_at hs) e) g i
 
 tcc_by : (h : Grant) (hs : List Grant) (b : Bool) → is_at h.kind ≡ b → (b && all_at hs) ≡ false → (all_at hs ≡ false → (g : Grant) × In g hs × (is_at g.kind ≡ false)) → (g : Grant) × In g (h ∷ hs) × (is_at g.kind ≡ false)
 tcc_by h hs true t e below = let k = below e in (k.0, inr k.1, k.2)
@@ -128,26 +130,26 @@ module _ (managers resources : ℕ) (rs : List SessionRecord) (a : Allowed rs) (
     branch_statuses =
         fits (map (branch_now rs) (in_order (branches rs x))) (all_at (branches rs x)) (decided rs x) (progress rs x)
         (λ none. each_branch is_open_branch
-        (λ g i of. not_is (is_ended rs g.xid g.branch) (ap (λ (y : ℕ). is_ended rs y g.branch) of ∙ (((undecided rs a x).quiet none).2) g.branch)))
+        (λ g i of. false_not (is_ended rs g.xid g.branch) (ap (λ (y : ℕ). is_ended rs y g.branch) of ∙ (((known rs a x).undecided none).2) g.branch)))
         (λ all. all_of_map is_at_branch (branch_now rs) (in_order (branches rs x)) (λ g i. all_at_each (branches rs x) all g (of_order (branches rs x) g i)))
-        (λ some. let g = one_tcc (branches rs x) some in some_branch is_tcc_branch g.0 g.1 (not_is (is_at g.0.kind) g.2))
+        (λ some. let g = one_tcc (branches rs x) some in some_branch is_tcc_branch g.0 g.1 (false_not (is_at g.0.kind) g.2))
         (λ done. each_branch is_ended_branch (λ g i of. ap (λ (y : ℕ). is_ended rs y g.branch) of ∙ done_ended rs a x g done i of))
 
     failure_by : (o : Option (ℕ × ℕ)) → failed rs x ≡ o → failure_fits (status_by (all_at (branches rs x)) (decided rs x) (progress rs x)) (failure_of o) (map (branch_now rs) (in_order (branches rs x))) ≡ true
-    failure_by None e = not_is (is_failed_status (status_by (all_at (branches rs x)) (decided rs x) (progress rs x))) (unfailed (all_at (branches rs x)) (decided rs x) (progress rs x) (not_failed rs a x e))
+    failure_by None e = false_not (is_failed_status (status_by (all_at (branches rs x)) (decided rs x) (progress rs x))) (unfailed (all_at (branches rs x)) (decided rs x) (progress rs x) (not_failed rs a x e))
     failure_by (Some f) e =
         let k = fails rs a x f e in
         and_from (is_failed_status (status_by (all_at (branches rs x)) (decided rs x) (progress rs x))) (list_any (is_open_with f.0) (map (branch_now rs) (in_order (branches rs x))))
         (ap (λ (p : Progress). is_failed_status (status_by (all_at (branches rs x)) (decided rs x) p)) k.is_far ∙ failed_status (all_at (branches rs x)) (decided rs x) k.is_decided)
         (some_branch (is_open_with f.0) k.branch (in_filter (λ (h : Grant). h.xid == x) (grants rs) k.branch k.there (eq-eqb k.branch.xid x k.of))
         (and_from (k.branch.branch == f.0) (not (is_ended rs k.branch.xid k.branch.branch)) (eq-eqb k.branch.branch f.0 k.number)
-        (not_is (is_ended rs k.branch.xid k.branch.branch)
+        (false_not (is_ended rs k.branch.xid k.branch.branch)
         (ap (λ (y : ℕ). is_ended rs y k.branch.branch) k.of ∙ ap (λ (c : ℕ). is_ended rs x c) k.number ∙ k.unended_now))))
 
   known_status : (s : Began) → In s (sessions rs) → is_forgotten rs s.xid ≡ false → status_of rs s.xid ≡ status_by (all_at (branches rs s.xid)) (decided rs s.xid) (progress rs s.xid)
   known_status s i kept =
       let began : is_some (session rs s.xid) ≡ true = is_found (has_xid s.xid) (sessions rs) s i (eq-eqb s.xid s.xid refl) in
-      let known : is_known rs s.xid ≡ true = and_from (is_some (session rs s.xid)) (not (is_forgotten rs s.xid)) began (not_is (is_forgotten rs s.xid) kept) in
+      let known : is_known rs s.xid ≡ true = and_from (is_some (session rs s.xid)) (not (is_forgotten rs s.xid)) began (false_not (is_forgotten rs s.xid) kept) in
       ap (λ (b : Bool). if b then status_by (all_at (branches rs s.xid)) (decided rs s.xid) (progress rs s.xid) else Rattle.seata_types.specs.declared.statuses.GlobalStatus.TheVariants.Finished) known
 
   sound_entry : (s : Began) → In s (kept_sessions rs) → is_entry managers resources (length (sessions rs)) (length (grants rs)) (entry_now rs s) ≡ true

@@ -1,5 +1,5 @@
 -- A snapshot of records finds what is registered as the records do.
-use Rattle.std.proofs.Common.{◌≡◌, ◌⊎◌, inl, inr, ◌==◌, ◌&&◌, ◌||◌, not, ℕ, Bool, true, false, cond, List, [], ◌∷◌, map, Option, Some, None, is_some, is_none, refl, sym, ap, ◌∙◌}
+use Rattle.std.proofs.Common.{◌≡◌, ◌==◌, ◌&&◌, ◌||◌, not, ℕ, Bool, true, false, List, [], ◌∷◌, map, Option, Some, None, is_some, is_none, refl, sym, ap, ◌∙◌}
 use Rattle.std.specs.Prelude.{find, filter}
 use Rattle.std.specs.List.{list_any}
 use Rattle.seata_types.specs.declared.ids.Xid.{Xid}
@@ -16,71 +16,26 @@ use Rattle.session_log.specs.declared.sessions.SessionEntry.{SessionEntry}
 use Rattle.session_log.specs.SnapshotOf.{in_order, branch_now, entry_now, is_kept_session, snapshot_of}
 use Rattle.session_memory.specs.Lookups.{leg_of, leg_with, first_leg, has_ticket, has_call, branches_in}
 use Rattle.session_memory.specs.Changes.{is_new}
-use Rattle.session_memory.proofs.Small.{false_true, true_false, none_some, and_left, and_right, and_both, not_true, same_nat, nat_same}
-use Rattle.session_memory.proofs.RecordFacts.{known, numbered}
+use Rattle.session_log.proofs.Members.{In, of_filter, in_filter}
+use Rattle.session_memory.proofs.Small.{false_true, and_left, and_right, and_both, not_true, same_nat, nat_same}
+use Rattle.session_memory.proofs.Passing.{passing, any_of, found_in, both_ways, any_same, filter_any}
+use Rattle.durable_records.proofs.RecordFacts.{known, numbered}
 use Rattle.session_memory.proofs.StepLaws.{began_found}
 use Rattle.session_memory.proofs.MayLaws.{any_now, none_both, none_mapped, none_found, branches_found}
 
--- ---- members
+-- a branch that was granted is of a transaction that began
+pub grant_begun : (rs : List SessionRecord) → Allowed rs → (g : Grant) → In g (grants rs) → is_some (session rs g.xid) ≡ true
+grant_begun rs a g i = begun_by (is_some (session rs g.xid)) refl
+  where
+    in_nothing : (hs : List Grant) → hs ≡ [] → In g hs → ⊥
+    in_nothing [] is j = j
+    in_nothing (k ∷ ks) is j = cc
 
-abbrev In : {X : Type 0} → X → List X → Type 0
-In x [] = ⊥
-In x (y ∷ ys) = (x ≡ y) ⊎ In x ys
-
-both_ways : (a b : Bool) → (a ≡ true → b ≡ true) → (b ≡ true → a ≡ true) → a ≡ b
-both_ways true b f g = sym (f refl)
-both_ways false true f g = g refl
-both_ways false false f g = refl
-
-module _ {X : Type 0} (p : X → Bool) where
-  pub record Passes (xs : List X) : Type 0 where
-    pub it : X
-    pub member : In it xs
-    pub passes : p it ≡ true
-
-  passing_by : (b : Bool) (x : X) (xs : List X) → p x ≡ b → (b || list_any p xs) ≡ true → (list_any p xs ≡ true → Passes xs) → Passes (x ∷ xs)
-  passing_by true x xs is e below = record { it = x; member = inl refl; passes = is }
-  passing_by false x xs is e below = let k = below e in record { it = k.it; member = inr k.member; passes = k.passes }
-
-  passing : (xs : List X) → list_any p xs ≡ true → Passes xs
-  passing [] e = false_true e
-  passing (x ∷ xs) e = passing_by (p x) x xs refl e (passing xs)
-
-  any_of_by : (b : Bool) (xs : List X) → list_any p xs ≡ true → (b || list_any p xs) ≡ true
-  any_of_by true xs e = refl
-  any_of_by false xs e = e
-
-  any_of : (x : X) (xs : List X) → In x xs → p x ≡ true → list_any p xs ≡ true
-  any_of x [] i e = absurd i
-  any_of x (y ∷ ys) (inl is) e = ap (λ b. b || list_any p ys) (ap p (sym is) ∙ e)
-  any_of x (y ∷ ys) (inr i) e = any_of_by (p y) ys (any_of x ys i e)
-
-  kept_by : (b : Bool) (x y : X) (ys : List X) → p y ≡ b → p x ≡ true → (In x ys → In x (filter p ys)) → In x (y ∷ ys) → In x (cond b (y ∷ filter p ys) (filter p ys))
-  kept_by true x y ys is e below (inl same) = inl same
-  kept_by true x y ys is e below (inr i) = inr (below i)
-  kept_by false x y ys is e below (inl same) = true_false (sym e ∙ ap p same ∙ is)
-  kept_by false x y ys is e below (inr i) = below i
-
-  kept_in : (x : X) (ys : List X) → In x ys → p x ≡ true → In x (filter p ys)
-  kept_in x [] i e = absurd i
-  kept_in x (y ∷ ys) i e = kept_by (p y) x y ys refl e (λ r. kept_in x ys r e) i
-
-  of_kept_by : (b : Bool) (x y : X) (ys : List X) → p y ≡ b → (In x (filter p ys) → In x ys × (p x ≡ true)) → In x (cond b (y ∷ filter p ys) (filter p ys)) → In x (y ∷ ys) × (p x ≡ true)
-  of_kept_by true x y ys is below (inl same) = (inl same, ap p same ∙ is)
-  of_kept_by true x y ys is below (inr i) = let k = below i in (inr k.0, k.1)
-  of_kept_by false x y ys is below i = let k = below i in (inr k.0, k.1)
-
-  of_kept : (x : X) (ys : List X) → In x (filter p ys) → In x ys × (p x ≡ true)
-  of_kept x [] i = absurd i
-  of_kept x (y ∷ ys) i = of_kept_by (p y) x y ys refl (of_kept x ys) i
-
-  found_by : (b : Bool) (x y : X) (ys : List X) → cond b (Some y) (find p ys) ≡ Some x → (find p ys ≡ Some x → In x ys) → In x (y ∷ ys)
-  found_by true x y ys e below = let same : y ≡ x = cc in inl (sym same)
-  found_by false x y ys e below = inr (below e)
-
-  found_in : (x : X) (ys : List X) → find p ys ≡ Some x → In x ys
-  found_in x [] e = none_some e
-  found_in x (y ∷ ys) e = found_by (p y) x y ys e (found_in x ys)
+    begun_by : (b : Bool) → is_some (session rs g.xid) ≡ b → is_some (session rs g.xid) ≡ true
+    begun_by true is = is
+    begun_by false is =
+        let member : In g (branches rs g.xid) = in_filter (λ h. h.xid == g.xid) (grants rs) g i (nat_same g.xid g.xid refl) in
+        absurd (in_nothing (branches rs g.xid) ((known rs a g.xid).empty is) member)
 
 -- ---- branches of the transactions that are known
 
@@ -94,39 +49,28 @@ module _ (rs : List SessionRecord) (a : Allowed rs) (t : Grant → Bool) where
   forth : list_any has_one (filter (is_kept_session rs) (sessions rs)) ≡ true → list_any of_known (grants rs) ≡ true
   forth e =
       let s = passing has_one (filter (is_kept_session rs) (sessions rs)) e in
-      let kept = of_kept (is_kept_session rs) s.it (sessions rs) s.member in
+      let kept = of_filter (is_kept_session rs) (sessions rs) s.it s.member in
       let g = passing t (branches rs s.it.xid) s.passes in
-      let granted_one = of_kept (λ h. h.xid == s.it.xid) g.it (grants rs) g.member in
+      let granted_one = of_filter (λ h. h.xid == s.it.xid) (grants rs) g.it g.member in
       any_of of_known g.it (grants rs) granted_one.0
       (and_both (not (is_forgotten rs g.it.xid)) (t g.it) (ap (λ n. not (is_forgotten rs n)) (same_nat g.it.xid s.it.xid granted_one.1) ∙ kept.1) g.passes)
 
   back_at : (g : Grant) → In g (grants rs) → of_known g ≡ true → (o : Option Began) → session rs g.xid ≡ o → list_any has_one (filter (is_kept_session rs) (sessions rs)) ≡ true
-  back_at g i e None none =
-      let empty : branches rs g.xid ≡ [] = (known rs a g.xid).empty (ap is_some none) in
-      let member : In g (branches rs g.xid) = kept_in (λ h. h.xid == g.xid) g (grants rs) i (nat_same g.xid g.xid refl) in
-      absurd (nothing_in g (branches rs g.xid) empty member)
-    where
-      nothing_in : (h : Grant) (hs : List Grant) → hs ≡ [] → In h hs → ⊥
-      nothing_in h [] is i = i
-      nothing_in h (k ∷ ks) is i = cc
+  back_at g i e None none = false_true (sym (ap is_some none) ∙ grant_begun rs a g i)
   back_at g i e (Some s) is =
       let at = began_found g.xid (sessions rs) s is in
       any_of has_one s (filter (is_kept_session rs) (sessions rs))
-      (kept_in (is_kept_session rs) s (sessions rs) (found_in (began_as g.xid) s (sessions rs) is)
+      (in_filter (is_kept_session rs) (sessions rs) s (found_in (began_as g.xid) s (sessions rs) is)
       (ap (λ n. not (is_forgotten rs n)) at ∙ and_left (not (is_forgotten rs g.xid)) (t g) e))
-      (any_of t g (branches rs s.xid) (kept_in (λ h. h.xid == s.xid) g (grants rs) i (nat_same g.xid s.xid (sym at))) (and_right (not (is_forgotten rs g.xid)) (t g) e))
+      (any_of t g (branches rs s.xid) (in_filter (λ h. h.xid == s.xid) (grants rs) g i (nat_same g.xid s.xid (sym at))) (and_right (not (is_forgotten rs g.xid)) (t g) e))
 
   back : list_any of_known (grants rs) ≡ true → list_any has_one (filter (is_kept_session rs) (sessions rs)) ≡ true
   back e = let g = passing of_known (grants rs) e in back_at g.it g.member g.passes (session rs g.it.xid) refl
 
-  by_sessions : list_any has_one (filter (is_kept_session rs) (sessions rs)) ≡ list_any of_known (grants rs)
+  pub by_sessions : list_any has_one (filter (is_kept_session rs) (sessions rs)) ≡ list_any of_known (grants rs)
   by_sessions = both_ways (list_any has_one (filter (is_kept_session rs) (sessions rs))) (list_any of_known (grants rs)) forth back
 
 -- ---- what is registered
-
-any_same : {X : Type 0} (p q : X → Bool) → ((x : X) → p x ≡ q x) → (xs : List X) → list_any p xs ≡ list_any q xs
-any_same p q same [] = refl
-any_same p q same (x ∷ xs) = ap (λ b. b || list_any p xs) (same x) ∙ ap (λ b. q x || b) (any_same p q same xs)
 
 first_none : (test : Branch → Bool) (es : List SessionEntry) → is_none (first_leg test es) ≡ not (list_any (λ e. list_any test e.session.branches) es)
 first_none test [] = refl
@@ -140,16 +84,8 @@ first_none test (e ∷ es) =
     not_either true q = refl
     not_either false q = refl
 
-filter_any : {X : Type 0} (k t : X → Bool) (xs : List X) → list_any t (filter k xs) ≡ list_any (λ x. k x && t x) xs
-filter_any k t [] = refl
-filter_any k t (x ∷ xs) = filter_any_by (k x) (filter_any k t xs)
-  where
-    filter_any_by : (b : Bool) → list_any t (filter k xs) ≡ list_any (λ y. k y && t y) xs → list_any t (cond b (x ∷ filter k xs) (filter k xs)) ≡ ((b && t x) || list_any (λ y. k y && t y) xs)
-    filter_any_by true e = ap (λ b. t x || b) e
-    filter_any_by false e = e
-
 module _ (rs : List SessionRecord) (a : Allowed rs) (x : Xid) (resource call : ℕ) (ticket : Ticket) where
-  tickets_alike : is_new (snapshot_of rs) x resource call ticket kind.At ≡ is_none (granted rs x.0 resource call ticket kind.At)
+  pub tickets_alike : is_new (snapshot_of rs) x resource call ticket kind.At ≡ is_none (granted rs x.0 resource call ticket kind.At)
   tickets_alike =
       first_none (has_ticket resource ticket) (snapshot_of rs).sessions
       ∙ ap not (any_now (λ e. list_any (has_ticket resource ticket) e.session.branches) (entry_now rs) (filter (is_kept_session rs) (sessions rs))

@@ -59,7 +59,7 @@ module _ (leg : Leg) where
   less_leg : (x : Xid) (b : Branch) → leg.xid.0 < x.0 → leg_cmp leg (leg_of x b) ≡ Less
   less_leg x b lt = ap (λ (o : Ordering). ordering_then o (nat_cmp leg.branch.0 b.id.0)) (cmp_less leg.xid.0 x.0 lt)
 
-  later_leg : (x : Xid) (b : Branch) → leg.xid.0 ≡ x.0 → b.id.0 < leg.branch.0 → leg_cmp leg (leg_of x b) ≡ Greater
+  pub later_leg : (x : Xid) (b : Branch) → leg.xid.0 ≡ x.0 → b.id.0 < leg.branch.0 → leg_cmp leg (leg_of x b) ≡ Greater
   later_leg x b same lt =
       ap (λ (n : ℕ). ordering_then (nat_cmp leg.xid.0 n) (nat_cmp leg.branch.0 b.id.0)) (sym same)
       ∙ ap (λ (o : Ordering). ordering_then o (nat_cmp leg.branch.0 b.id.0)) (tied_itself nat_cmp_total leg.xid.0)
@@ -88,7 +88,7 @@ module _ (leg : Leg) where
   kept_by o true hs n = n
   kept_by o false hs n = tt
 
-  entry_greater : (e : SessionEntry) → e.xid.0 < leg.xid.0 → Compare Greater leg (held_by e)
+  pub entry_greater : (e : SessionEntry) → e.xid.0 < leg.xid.0 → Compare Greater leg (held_by e)
   entry_greater e lt = kept_by Greater (keeps_rows e.session.status) (held_by_branches e.xid e.session.branches) (branches_greater e.xid lt e.session.branches)
 
   entry_less : (e : SessionEntry) → leg.xid.0 < e.xid.0 → Compare Less leg (held_by e)

@@ -51,7 +51,7 @@ module _ (x : ℕ) (f : Session → Session) where
     each_changed_by true e es rest p each below = (here e p, each_same P Q still es each)
     each_changed_by false e es rest p each below = (still e p, below)
 
-    each_changed : (es : List SessionEntry) → Each P es → Each Q (changed x f es)
+    pub each_changed : (es : List SessionEntry) → Each P es → Each Q (changed x f es)
     each_changed [] each = tt
     each_changed (e ∷ es) each = each_changed_by (e.xid.0 == x) e es (changed x f es) each.0 each.1 (each_changed es each.1)
 
@@ -76,7 +76,7 @@ module _ (x : ℕ) where
   each_without_by P true e es rest p each below = each
   each_without_by P false e es rest p each below = (p, below)
 
-  each_without : (P : SessionEntry → Type 0) (es : List SessionEntry) → Each P es → Each P (without x es)
+  pub each_without : (P : SessionEntry → Type 0) (es : List SessionEntry) → Each P es → Each P (without x es)
   each_without P [] each = tt
   each_without P (e ∷ es) each = each_without_by P (e.xid.0 == x) e es (without x es) each.0 each.1 (each_without P es each.1)
 

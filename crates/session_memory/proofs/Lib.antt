@@ -2,9 +2,13 @@ pub mod Small
 pub mod EntryLaws
 pub mod HeldLaws
 pub mod Lists
-pub mod RecordFacts
+pub mod Passing
 pub mod StepLaws
 pub mod MayLaws
 pub mod GrantLaws
+pub mod HolderLaws
+pub mod LookupLaws
 pub mod KeptLaws
 pub mod PlaceLaws
+pub mod LoadLaws
+pub mod WritingLaws

@@ -6,11 +6,7 @@ use Rattle.session_log.specs.SnapshotOf.{in_order}
 use Rattle.session_memory.specs.Lookups.{or_else}
 use Rattle.session_memory.specs.Order.{Each, AreAbove, AreRising}
 use Rattle.session_memory.proofs.Small.{same_nat, nat_differs}
-
--- each is numbered by how many stand behind it, itself among them
-abbrev pub AreCounted : {X : Type 0} → (X → ℕ) → List X → Type 0
-AreCounted number [] = Unit {0}
-AreCounted number (x ∷ xs) = (number x ≡ length xs + 1) × AreCounted number xs
+pub use Rattle.durable_records.proofs.MemberFacts.{AreCounted}
 
 -- ---- each
 

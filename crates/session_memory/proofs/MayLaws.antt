@@ -16,13 +16,12 @@ use Rattle.session_log.specs.SnapshotOf.{in_order, branch_now, session_now, entr
 use Rattle.session_log.specs.Soundness.{is_ended_branch, is_open_with}
 use Rattle.session_memory.specs.Lookups.{status_or_finished, status_in, branches_or_none, branches_in, or_else, xid_of, forgotten_xid, has_manager, was_of_manager, xid_for}
 use Rattle.session_memory.specs.Changes.{is_begin, is_going, is_finished, may_come}
-use Rattle.session_memory.specs.Laws.{registers_nothing}
 use Rattle.session_memory.proofs.Small.{false_true, and_left}
 use Rattle.session_memory.proofs.Lists.{keep, map_both, and_swap, all_behind}
-use Rattle.session_memory.proofs.RecordFacts.{Numbered, numbered}
+use Rattle.durable_records.proofs.RecordFacts.{Numbered, numbered}
 use Rattle.session_memory.proofs.StepLaws.{session_found, began_found}
 
-abbrev state : (known at : Bool) → Option Decision → Progress → GlobalStatus
+abbrev pub state : (known at : Bool) → Option Decision → Progress → GlobalStatus
 state known at d far = if known then status_by at d far else status.Finished
 
 -- ---- statuses
@@ -41,7 +40,7 @@ module _ (rs : List SessionRecord) (n : Numbered rs) (x : ℕ) where
   pub status_found : status_in (snapshot_of rs) x ≡ status_of rs x
   status_found = ap status_or_finished (session_found rs n x) ∙ status_by_session (session rs x) refl
 
-begin_state : (known at : Bool) (d : Option Decision) (far : Progress) → is_begin (state known at d far) ≡ (known && is_none d)
+pub begin_state : (known at : Bool) (d : Option Decision) (far : Progress) → is_begin (state known at d far) ≡ (known && is_none d)
 begin_state false at d far = refl
 begin_state true at None far = refl
 begin_state true true (Some how.Commit) Goes = refl
@@ -59,7 +58,7 @@ begin_state true at (Some how.Timeout) Retries = refl
 begin_state true at (Some how.Timeout) IsFailed = refl
 begin_state true at (Some how.Timeout) IsDone = refl
 
-going_state : (known at : Bool) (d : Option Decision) (far : Progress) → is_going (state known at d far) ≡ (known && (is_some d && is_on far))
+pub going_state : (known at : Bool) (d : Option Decision) (far : Progress) → is_going (state known at d far) ≡ (known && (is_some d && is_on far))
 going_state false at d far = refl
 going_state true at None far = refl
 going_state true true (Some how.Commit) Goes = refl
@@ -77,7 +76,7 @@ going_state true at (Some how.Timeout) Retries = refl
 going_state true at (Some how.Timeout) IsFailed = refl
 going_state true at (Some how.Timeout) IsDone = refl
 
-finished_state : (known at : Bool) (d : Option Decision) (far : Progress) → is_finished (state known at d far) ≡ (known && (is_some d && is_done far))
+pub finished_state : (known at : Bool) (d : Option Decision) (far : Progress) → is_finished (state known at d far) ≡ (known && (is_some d && is_done far))
 finished_state false at d far = refl
 finished_state true at None far = refl
 finished_state true true (Some how.Commit) Goes = refl
@@ -97,13 +96,13 @@ finished_state true at (Some how.Timeout) IsDone = refl
 
 -- ---- tests of all branches
 
-or_swap : (a b : Bool) → (a || b) ≡ (b || a)
+pub or_swap : (a b : Bool) → (a || b) ≡ (b || a)
 or_swap true true = refl
 or_swap true false = refl
 or_swap false true = refl
 or_swap false false = refl
 
-or_assoc : (a b c : Bool) → (a || (b || c)) ≡ ((a || b) || c)
+pub or_assoc : (a b c : Bool) → (a || (b || c)) ≡ ((a || b) || c)
 or_assoc true b c = refl
 or_assoc false b c = refl
 
@@ -162,7 +161,7 @@ module _ (rs : List SessionRecord) (n : Numbered rs) (x : ℕ) where
   when_going true p q e same = same (and_left (is_known rs x) (is_some (decided rs x) && is_on (progress rs x)) e)
   when_going false p q e same = refl
 
-  going_found : is_going (status_in (snapshot_of rs) x) ≡ goes rs x
+  pub going_found : is_going (status_in (snapshot_of rs) x) ≡ goes rs x
   going_found = ap is_going (status_found rs n x) ∙ going_state (is_known rs x) (all_at (branches rs x)) (decided rs x) (progress rs x)
 
   open_found : (b : ℕ) → (is_going (status_in (snapshot_of rs) x) && list_any (is_open_with b) (branches_in (snapshot_of rs) x)) ≡ (goes rs x && is_some (unended_branch rs x b))
@@ -224,6 +223,10 @@ manager_found rs m =
     ∙ sym (none_found (began_by m) (sessions rs))
 
 -- ---- records
+
+abbrev pub registers_nothing : SessionRecord → Bool
+registers_nothing (log.Granted xid branch resource call ticket kind hold) = false
+registers_nothing _ = true
 
 -- the snapshot of records allows what they allow, of all records but a registration
 pub allowed_alike : (rs : List SessionRecord) → Allowed rs → (r : SessionRecord) → registers_nothing r ≡ true → may_come (snapshot_of rs) r ≡ may rs r

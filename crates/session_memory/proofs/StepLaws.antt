@@ -31,7 +31,7 @@ use Rattle.session_memory.specs.Changes.{decided_status, retrying_status, failed
 use Rattle.session_memory.specs.Order.{Each, AreAbove, AreRising}
 use Rattle.session_memory.proofs.Small.{false_true, none_some, and_left, and_right, and_both, not_true, same_nat, nat_same, nat_differs, differ, moved}
 use Rattle.session_memory.proofs.Lists.{AreCounted, each_all, each_same, each_in_order, each_filtered, map_both, map_same, filter_same, all_behind, up_to, up_to_in_order, rising_in_order, find_in_order, find_missing, find_mapped, keep, and_false}
-use Rattle.session_memory.proofs.RecordFacts.{Known, known, Numbered, numbered, began_xid, grant_branch, decide_none, going_decided, going_on, finished_known, grant_decides}
+use Rattle.durable_records.proofs.RecordFacts.{Known, known, Numbered, numbered, began_xid, grant_branch, decide_none, going_decided, going_on, finished_known, grant_decides}
 
 same_snapshot : (a b : Snapshot) → a.acts ≡ b.acts → a.begun ≡ b.begun → a.granted ≡ b.granted → a.sessions ≡ b.sessions → a.forgotten ≡ b.forgotten → a ≡ b
 same_snapshot a b p q r s t = λ i. record { acts = p i; begun = q i; granted = r i; sessions = s i; forgotten = t i }

@@ -4,3 +4,5 @@ pub mod Changes
 pub mod Order
 pub mod Answers
 pub mod Laws
+pub mod Loading
+pub mod Writing

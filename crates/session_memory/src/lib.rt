@@ -3,11 +3,14 @@
 #![tactic(auto)]
 
 mod allowing;
+mod errors;
 pub mod laws;
+mod loading;
 mod lookups;
 mod memory;
 mod sessions;
 mod snapshots;
 mod statuses;
 
+pub use errors::LoadError;
 pub use memory::Memory;

@@ -3,14 +3,17 @@ ghost use Rattle.std.specs.Prelude.{◌≡◌, ◌<◌, ◌≤◌, ◌+◌, ◌*
 ghost use Rattle.std.specs.Option.{option_copied};
 ghost use Rattle.durable_records.specs.declared.coordinators.SessionRecord.TheVariants as log;
 ghost use Rattle.lock_table.specs.Locks.{HaveOneHolder, locks, TakesAtMost};
+ghost use Rattle.lock_table.specs.Answers.{FindsConflict};
 ghost use Rattle.session_log.specs.SnapshotOf.{snapshot_of};
 ghost use Rattle.session_memory.specs.Lookups.{session_in, status_in, xid_for, ticket_leg, call_leg, xid_of};
 ghost use Rattle.session_memory.specs.Holding.{held_in};
 ghost use Rattle.session_memory.specs.Changes.{is_begin, is_new, is_open, may_come, after, granted_record, turns};
 ghost use Rattle.session_memory.specs.Order.{IsCounted};
 ghost use Rattle.session_memory.specs.Answers.{Grants};
+ghost use Rattle.session_memory.specs.Loading.{LoadsSnapshot};
 
-use crate::{allowing, lookups, sessions, snapshots, statuses};
+use crate::errors::LoadError;
+use crate::{allowing, loading, lookups, sessions, snapshots, statuses};
 use durable_records::SessionRecord;
 use lock_table::{HoldError, LockTable, Steps};
 use seata_types::{BranchId, BranchKind, GlobalStatus, Leg, List, NoMemory, RowKey, Ticket, Xid};
@@ -53,6 +56,25 @@ impl Memory {
         Memory {
             snapshot,
             locks: LockTable::new(alloc),
+        }
+    }
+
+    /// A memory of a snapshot, unless a row has two holders in it.
+    pub fn load<L: Ledger>(
+        alloc: Global,
+        snapshot: Snapshot,
+        steps: &mut Steps<L>,
+    ) -> Result<Memory, LoadError>
+        requires { IsCounted snapshot }
+        ensures { LoadsSnapshot snapshot result }
+    {
+        let mut locks = LockTable::new(alloc);
+        match loading::take_all(alloc, &mut locks, snapshot.sessions.as_slice(), steps) {
+            Ok(()) => Ok(Memory { snapshot, locks }),
+            Err(error) => {
+                drop(snapshot);
+                Err(error)
+            }
         }
     }
 
@@ -112,6 +134,21 @@ impl Memory {
             Some(session) => lookups::call_leg(xid, session.branches.as_slice(), resource, call),
             None => None,
         }
+    }
+
+    /// Whether another transaction holds one of these rows, and the first one, as an error. A step is a comparison of two
+    /// keys.
+    pub fn conflict<L: Ledger>(
+        &self,
+        alloc: Global,
+        xid: Xid,
+        rows: &[RowKey],
+        steps: &mut Steps<L>,
+    ) -> Result<(), HoldError>
+        ensures found { FindsConflict (locks (held_in self.now)) xid rows.now result }
+        ensures cost { TakesAtMost (length rows.now) (length (locks (held_in self.now))) steps.old steps.new }
+    {
+        allowing::conflict(alloc, &self.locks, xid, rows, steps)
     }
 
     /// The numbers of the transactions that are known, in rising order.

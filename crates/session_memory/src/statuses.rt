@@ -1,6 +1,7 @@
 //! The statuses of a transaction, after Seata's table.
 ghost use Rattle.std.specs.Prelude.{◌≡◌};
 ghost use Rattle.durable_records.specs.Progress.{has_retrying};
+ghost use Rattle.session_memory.specs.Holding.{keeps_rows};
 ghost use Rattle.session_memory.specs.Changes.{decided_status, retrying_status, failed_status, finished_status, is_begin, is_going, is_finished};
 
 use seata_types::{Decision, GlobalStatus};
@@ -97,5 +98,19 @@ pub(crate) fn is_finished(status: GlobalStatus) -> bool
     matches!(
         status,
         GlobalStatus::Committed | GlobalStatus::Rollbacked | GlobalStatus::TimeoutRollbacked
+    )
+}
+
+/// Whether a transaction with this status isn't decided commit.
+pub(crate) fn keeps_rows(status: GlobalStatus) -> bool
+    ensures { result ≡ keeps_rows status }
+{
+    !matches!(
+        status,
+        GlobalStatus::Committing
+            | GlobalStatus::CommitRetrying
+            | GlobalStatus::AsyncCommitting
+            | GlobalStatus::Committed
+            | GlobalStatus::CommitFailed
     )
 }

@@ -11,12 +11,8 @@ use Rattle.durable_records.specs.Branches.{Grant, grants, branches, all_at, is_e
 use Rattle.durable_records.specs.Progress.{Progress, Goes, Retries, IsFailed, IsDone, progress, status_by, is_known, is_on, is_done, may_decide, is_going, is_finished, has_retrying, may_retry}
 use Rattle.durable_records.specs.Locks.{first_held}
 use Rattle.durable_records.specs.SessionOrder.{May, Allowed, is_empty}
-use Rattle.session_memory.proofs.Small.{false_true, true_false, none_some, and_left, and_right, is_none_none, same_nat, moved}
-use Rattle.session_memory.proofs.Lists.{AreCounted}
-
-some_not_none : {A B : Type 0} (o : Option A) → is_some o ≡ true → o ≡ None → B
-some_not_none None e n = false_true e
-some_not_none (Some a) e n = none_some (sym n)
+use Rattle.durable_records.proofs.Tests.{false_true, true_false, none_some, and_left, and_right, is_none_none, some_not_none, same_nat, moved}
+use Rattle.durable_records.proofs.MemberFacts.{AreCounted}
 
 -- ---- what is known of a transaction
 
@@ -58,10 +54,10 @@ retrying_decided true at None far e = false_true e
 retrying_decided true at (Some d) far e = refl
 
 module _ (rs : List SessionRecord) (x : ℕ) where
-  retry_decided : may_retry rs x ≡ true → is_some (decided rs x) ≡ true
+  pub retry_decided : may_retry rs x ≡ true → is_some (decided rs x) ≡ true
   retry_decided e = retrying_decided (is_known rs x) (all_at (branches rs x)) (decided rs x) (progress rs x) e
 
-  known_begun : is_known rs x ≡ true → is_some (session rs x) ≡ true
+  pub known_begun : is_known rs x ≡ true → is_some (session rs x) ≡ true
   known_begun e = and_left (is_some (session rs x)) (not (is_forgotten rs x)) e
 
   pub decide_begun : may_decide rs x ≡ true → is_some (session rs x) ≡ true
@@ -79,8 +75,15 @@ module _ (rs : List SessionRecord) (x : ℕ) where
   pub finished_known : is_finished rs x ≡ true → is_known rs x ≡ true
   finished_known e = and_left (is_known rs x) (is_some (decided rs x) && is_done (progress rs x)) e
 
-  finished_decided : is_finished rs x ≡ true → is_some (decided rs x) ≡ true
+  pub finished_decided : is_finished rs x ≡ true → is_some (decided rs x) ≡ true
   finished_decided e = and_left (is_some (decided rs x)) (is_done (progress rs x)) (and_right (is_known rs x) (is_some (decided rs x) && is_done (progress rs x)) e)
+
+  pub finished_done : is_finished rs x ≡ true → is_done (progress rs x) ≡ true
+  finished_done e = and_right (is_some (decided rs x)) (is_done (progress rs x)) (and_right (is_known rs x) (is_some (decided rs x) && is_done (progress rs x)) e)
+
+  -- a branch that may end is of a transaction in its second phase
+  pub end_going : (b : ℕ) → (is_going rs x && is_some (unended_branch rs x b)) ≡ true → is_going rs x ≡ true
+  end_going b e = and_left (is_going rs x) (is_some (unended_branch rs x b)) e
 
 -- a grant: its transaction is undecided, it has the next number, and its rows are free
 module _ (rs : List SessionRecord) (x b : ℕ) (hold : List RowKey) (new : Bool) (may : ((may_decide rs x && ((b == next_branch rs) && is_none (first_held rs x hold))) && new) ≡ true) where
@@ -92,6 +95,20 @@ module _ (rs : List SessionRecord) (x b : ℕ) (hold : List RowKey) (new : Bool)
   grant_next =
       let both = and_right (may_decide rs x) ((b == next_branch rs) && is_none (first_held rs x hold)) (and_left (may_decide rs x && ((b == next_branch rs) && is_none (first_held rs x hold))) new may) in
       same_nat b (next_branch rs) (and_left (b == next_branch rs) (is_none (first_held rs x hold)) both)
+
+  pub grant_undecided : decided rs x ≡ None
+  grant_undecided = decide_none rs x grant_decides
+
+  pub grant_new : new ≡ true
+  grant_new = and_right (may_decide rs x && ((b == next_branch rs) && is_none (first_held rs x hold))) new may
+
+-- a transaction that begins: it has the next number, and its manager has none
+module _ (rs : List SessionRecord) (x manager : ℕ) (may : ((x == next_xid rs) && is_none (session_for rs manager)) ≡ true) where
+  pub begin_next : x ≡ next_xid rs
+  begin_next = same_nat x (next_xid rs) (and_left (x == next_xid rs) (is_none (session_for rs manager)) may)
+
+  pub begin_new : session_for rs manager ≡ None
+  begin_new = is_none_none (session_for rs manager) (and_right (x == next_xid rs) (is_none (session_for rs manager)) may)
 
 -- ---- a record keeps what is known
 
@@ -118,10 +135,10 @@ module _ (rs : List SessionRecord) (x : ℕ) (k : Known rs x) where
       (λ e. retry_decided rs x (moved (λ n. may_retry rs n ≡ true) xid.0 x may e))
   known_after (log.Ended xid branch) may =
       settled begun_now (branches rs x) (decided rs x) (λ b. progress rs x) (λ b. is_forgotten rs x) (λ b c. if b && (branch.0 == c) then true else is_ended rs x c) (λ b. failed rs x) k (xid.0 == x)
-      (decided_after xid branch.0 (and_left (is_going rs xid.0) (is_some (unended_branch rs xid.0 branch.0)) may))
+      (decided_after xid branch.0 (end_going rs xid.0 branch.0 may))
   known_after (log.Failed xid branch stmt) may =
       settled begun_now (branches rs x) (decided rs x) (λ b. if b then IsFailed else progress rs x) (λ b. is_forgotten rs x) (λ b. is_ended rs x) (λ b. if b then Some (branch.0, stmt) else failed rs x) k (xid.0 == x)
-      (decided_after xid branch.0 (and_left (is_going rs xid.0) (is_some (unended_branch rs xid.0 branch.0)) may))
+      (decided_after xid branch.0 (end_going rs xid.0 branch.0 may))
   known_after (log.Finished xid) may =
       settled begun_now (branches rs x) (decided rs x) (λ b. if b then IsDone else progress rs x) (λ b. is_forgotten rs x) (λ b. is_ended rs x) (λ b. failed rs x) k (xid.0 == x)
       (decided_after xid 0 (and_left (is_going rs xid.0) (is_empty (unended rs xid.0)) may))
@@ -151,7 +168,7 @@ pub record Numbered (rs : List SessionRecord) : Type 0 where
 
 numbered_after : (rs : List SessionRecord) (r : SessionRecord) → May rs r → Numbered rs → Numbered (r ∷ rs)
 numbered_after rs (log.Begun xid manager moment timeout) may n =
-    record { began = (same_nat xid.0 (next_xid rs) (and_left (xid.0 == next_xid rs) (is_none (session_for rs manager)) may), n.began); branched = n.branched }
+    record { began = (begin_next rs xid.0 manager may, n.began); branched = n.branched }
 numbered_after rs (log.Granted xid branch resource call ticket kind hold) may n =
     record { began = n.began; branched = (grant_next rs xid.0 branch.0 hold (is_none (granted rs xid.0 resource call ticket kind)) may, n.branched) }
 numbered_after rs (log.Decided xid d) may n = record { began = n.began; branched = n.branched }
