@@ -1,7 +1,7 @@
 -- What the statuses and answers of the code are in the words of a resource's records, and the fences that a map holds.
 use Rattle.std.specs.Prelude.{◌≡◌, ℕ, List, map, Option}
 use Rattle.std.specs.BTreeMap.{is_at}
-use Rattle.std.specs.Map.{lookup}
+use Rattle.std.specs.Map.{lookup, remove_entry}
 use Rattle.seata_types.specs.declared.ids.Leg.{Leg}
 use Rattle.durable_records.specs.declared.resources.ResourceRecord.{ResourceRecord}
 use Rattle.durable_records.specs.Fences.{fence, fences, Fence, IsTried, IsCommitted, IsRollbacked, IsSuspended, Runs, WasDone, Suspends, Refuses, leg_cmp}
@@ -48,6 +48,10 @@ fences_of es = map entry_of es
 -- the fence of a branch among these
 abbrev pub fence_at : Fences → Leg → Option Fence
 fence_at fences leg = lookup (is_at (leg_cmp (pair_of leg))) fences
+
+-- the fences without one of this branch
+abbrev pub without_fence : Fences → Leg → Fences
+without_fence fences leg = remove_entry (is_at (leg_cmp (pair_of leg))) fences
 
 -- what stands at a branch among all fences of a resource's records is its fence, by its last record
 abbrev pub FencesStandAtBranches : Type 0

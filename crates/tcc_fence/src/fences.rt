@@ -24,9 +24,9 @@ impl Model for Fence {
 }
 
 impl Fence {
-    ghost use Rattle.std.specs.Prelude.{◌≡◌, [], None, option_map, OnOk, OnErr, IfOk};
+    ghost use Rattle.std.specs.Prelude.{◌≡◌, [], length, None, option_map, OnOk, OnErr, IfOk};
     ghost use Rattle.durable_records.specs.Fences.{with_fence, on_try, on_confirm, on_cancel};
-    ghost use Rattle.tcc_fence.specs.Meanings.{status_of, answer_of, fences_of, fence_at};
+    ghost use Rattle.tcc_fence.specs.Meanings.{status_of, answer_of, fences_of, fence_at, without_fence};
 
     /// No branch has a status yet; takes no memory.
     pub fn new(alloc: Global) -> Fence
@@ -56,6 +56,20 @@ impl Fence {
     {
         self.entries.insert(leg, status).map_err(|_| NoMemory)?;
         Ok(())
+    }
+
+    /// Takes the status of a branch back, as if it had been given none; takes no memory.
+    pub fn remove(&mut self, leg: Leg)
+        ensures { self.new ≡ without_fence self.old leg }
+    {
+        self.entries.remove(&leg);
+    }
+
+    /// How many branches have a status; takes no memory.
+    pub fn len(&self) -> usize
+        ensures { result ≡ length self.now }
+    {
+        self.entries.len()
     }
 
     /// All branches that have a status, by transaction and branch.

@@ -29,7 +29,7 @@ impl Model for UndoLog {
 }
 
 impl UndoLog {
-    ghost use Rattle.std.specs.Prelude.{◌≡◌, [], IfOk};
+    ghost use Rattle.std.specs.Prelude.{◌≡◌, [], length, IfOk};
     ghost use Rattle.std.specs.Option.{option_copied};
     ghost use Rattle.undo_log.specs.Entries.{IsInOrder, Puts, entry_at, record_of_call, records, without_entry};
 
@@ -83,6 +83,25 @@ impl UndoLog {
         ensures left { self.new ≡ without_entry self.old leg }
     {
         self.entries.remove(&leg)
+    }
+
+    /// How many entries there are; takes no memory.
+    pub fn len(&self) -> usize
+        ensures { result ≡ length self.now }
+    {
+        self.entries.len()
+    }
+
+    /// All entries, the markers too, by transaction and branch.
+    pub fn entries(&self, alloc: Global) -> Result<List<(Leg, UndoEntry)>, NoMemory>
+        ensures all { IfOk result (λ all. all ≡ self.now) }
+        ensures in_order { IsInOrder self.now }
+    {
+        let mut all = Vec::new(alloc);
+        for (leg, entry) in &self.entries {
+            all.push((*leg, entry.copy(alloc)?)).map_err(|_| NoMemory)?;
+        }
+        Ok(List::of(all))
     }
 
     /// All undo records, without the markers, by transaction and branch.

@@ -1,0 +1,14 @@
+pub mod Maps
+pub mod Legs
+pub mod Fits
+pub mod RowLaws
+pub mod UndoLaws
+pub mod CallLaws
+pub mod KeptLaws
+pub mod Steps
+pub mod Listed
+pub mod Saved
+pub mod PartLaws
+pub mod RecordLaws
+pub mod Room
+pub mod TriedLaws

@@ -1,0 +1,46 @@
+-- What the parts of a memory are given back, and take in again.
+use Rattle.std.proofs.Common.{◌≡◌, ◌==◌, ◌++◌, ℕ, Bool, true, false, cond, List, ◌∷◌, None, ap, ◌∙◌}
+use Rattle.std.specs.BTreeMap.{insert_entry}
+use Rattle.std.specs.List.Sorted.{IsStrictlySortedBy}
+use Rattle.std.specs.Map.{lookup, keys_of}
+use Rattle.seata_types.specs.declared.ids.Leg.{Leg}
+use Rattle.durable_records.specs.Fences.{Fence, leg_cmp, with_fence}
+use Rattle.undo_log.specs.Entries.{Log, IsInOrder, is_leg, order, entry_at, with_entry, without_entry}
+use Rattle.undo_log.specs.declared.records.UndoEntry.{UndoEntry}
+use Rattle.tcc_fence.specs.Meanings.{Fences, fence_at, pair_of, without_fence}
+use Rattle.resource_log.specs.declared.states.FenceItem.{FenceItem}
+use Rattle.resource_memory.specs.Known.{Calls, with_call}
+use Rattle.resource_memory.specs.Lookups.{without_call}
+use Rattle.resource_memory.specs.Snapshots.{calls_in}
+use Rattle.resource_memory.proofs.Legs.{pair_total, pair_exact, leg_total, leg_exact}
+use Rattle.resource_memory.proofs.Maps.{remove_insert, remove_none, put_last}
+
+-- ---- given back
+
+pub entry_back : (log : Log) (leg : Leg) (e : UndoEntry) → entry_at log leg ≡ None → without_entry (with_entry log leg e) leg ≡ log
+entry_back log leg e none = remove_insert order leg_total leg_exact log leg e none
+
+pub fence_back : (fences : Fences) (leg : Leg) (here : Fence) → fence_at fences leg ≡ None → without_fence (with_fence leg.xid.0 leg.branch.0 here fences) leg ≡ fences
+fence_back fences leg here none = remove_insert leg_cmp pair_total pair_exact fences (pair_of leg) here none
+
+pub call_back : (calls : Calls) (leg : Leg) (call : ℕ) → lookup (is_leg leg) calls ≡ None → without_call (with_call calls leg call) leg ≡ calls
+call_back calls leg call none = by (call == 0)
+  where
+    by : (b : Bool) → without_call (cond b calls (insert_entry order calls leg call)) leg ≡ calls
+    by true = remove_none order leg_total leg_exact calls leg none
+    by false = remove_insert order leg_total leg_exact calls leg call none
+
+-- ---- taken in again
+
+pub entries_step : (log : Log) (e : Leg × UndoEntry) (rest all new : Log) → IsInOrder all → log ++ e ∷ rest ≡ all → new ≡ with_entry log e.0 e.1 → new ++ rest ≡ all
+entries_step log e rest all new s is put = put_last order leg_total leg_exact log e.0 e.1 rest all new s is put
+
+pub fences_step : (fences : Fences) (leg : Leg) (here : Fence) (rest all new : Fences) → IsStrictlySortedBy leg_cmp (keys_of all) → fences ++ (pair_of leg, here) ∷ rest ≡ all → new ≡ with_fence leg.xid.0 leg.branch.0 here fences → new ++ rest ≡ all
+fences_step fences leg here rest all new s is put = put_last leg_cmp pair_total pair_exact fences (pair_of leg) here rest all new s is put
+
+pub calls_step : (calls : Calls) (f : FenceItem) (fs : List FenceItem) (all new : Calls) → IsStrictlySortedBy order (keys_of all) → calls ++ calls_in (f ∷ fs) ≡ all → new ≡ with_call calls f.leg f.call → new ++ calls_in fs ≡ all
+calls_step calls f fs all new s is put = by (f.call == 0) is put
+  where
+    by : (b : Bool) → calls ++ cond b (calls_in fs) ((f.leg, f.call) ∷ calls_in fs) ≡ all → new ≡ cond b calls (insert_entry order calls f.leg f.call) → new ++ calls_in fs ≡ all
+    by true held made = ap (λ l. l ++ calls_in fs) made ∙ held
+    by false held made = put_last order leg_total leg_exact calls f.leg f.call (calls_in fs) all new s held made
