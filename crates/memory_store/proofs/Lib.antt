@@ -1,0 +1,4 @@
+pub mod Replaying
+pub mod TwinFacts
+pub mod Damages
+pub mod DiskFacts

@@ -1,0 +1,165 @@
+-- What a store shows of itself and keeps, and what its calls do.
+use Rattle.std.specs.Prelude.{◌≡◌, ◌⊎◌, ℕ, ◌+◌, ◌^◌, ◌<◌, ◌≤◌, Bool, true, Option, Some, None, IsSome, List, Result, Ok, Err}
+use Rattle.std.specs.Borrow.{Lends, Fml, RattleType, MutBor}
+use Rattle.disk_model.specs.Disk.{DiskState, SameKind, KeepsRest, Rose, CountsCalls, last_pick}
+use Rattle.disk_model.specs.declared.errors.Failed.{Failed}
+use Rattle.disk_journal.specs.Keeping.{IsFull}
+use Rattle.seata_types.specs.declared.errors.Full.{Full}
+use Rattle.seata_types.specs.declared.errors.OpenError.{OpenError}
+use Rattle.seata_types.specs.declared.errors.OpenError.TheVariants as open_error
+use Rattle.seata_types.specs.declared.errors.StoreError.{StoreError}
+use Rattle.seata_types.specs.declared.errors.StoreError.TheVariants as store_error
+use Rattle.journal_checkpoint.specs.declared.types.Found.{Found}
+use Rattle.journal_checkpoint.specs.declared.twin.Twin.{Twin}
+use Rattle.journal_checkpoint.specs.Images.{PairStandsFor}
+use Rattle.journal_checkpoint.specs.Keeping.{KeepsPair, active_disk, other_disk, first_disk, second_disk, is_second, needed_for, with_active, is_down as twin_is_down}
+use Rattle.memory_store.specs.declared.store.Store.{Store}
+use Rattle.memory_store.specs.contracts.store.Store.{the_row}
+use Rattle.memory_store.specs.Meanings.{Meaning}
+use Rattle.memory_store.specs.Holdings.{held_in, memory_on, second_in, first_place}
+use Rattle.memory_store.specs.Settling.{IsShort, CannotSettle, KeepsOrSettled}
+
+-- ---- what it shows of itself
+
+-- the settings of its memory
+abbrev pub machine_of : {M K D : Type 0} → Store M K D → M
+machine_of s = s.machine
+
+-- what it knows
+abbrev pub memory_of : {M K D : Type 0} → Store M K D → K
+memory_of s = s.memory
+
+-- its two disks, with the records on them
+abbrev pub twin_of : {M K D : Type 0} → Store M K D → Twin D
+twin_of s = s.twin
+
+-- the first record that its opening read, as a disk and an offset
+abbrev pub found_of : {M K D : Type 0} → Store M K D → Option (Bool × ℕ)
+found_of s = s.found
+
+-- a call failed, so that it takes no more records
+abbrev pub is_down : {M K D : Type 0} → Store M K D → Bool
+is_down s = twin_is_down s.twin
+
+-- Each pair of images of its disks stands for this snapshot and these records, and what they hold is what it knows.
+pub record Keeps {M K D I : Type 0} (state : D → DiskState) (m : Meaning K I) (found : Found) (s : Store M K D) : Type 0 where
+  pub pair : KeepsPair state found (twin_of s)
+  pub held : held_in m found ≡ Ok (memory_of s)
+
+-- ---- one record more
+
+-- The active disk took a record: four writes and syncs went by a stop, if one is armed.
+pub record Takes {D : Type 0} (state : D → DiskState) (old new : Twin D) : Type 0 where
+  pub counts : CountsCalls {T = Unit {0}} {E = Failed} 4 (Ok tt) (state (active_disk old)).counts (state (active_disk new)).counts
+  pub rest : KeepsRest (state (active_disk old)) (state (active_disk new))
+  pub other : other_disk new ≡ other_disk old
+  pub second : is_second new ≡ is_second old
+
+-- The active disk failed, since a stop let fewer than four calls pass, or by its own fault.
+pub record Falls {D : Type 0} (state : D → DiskState) (old new : Twin D) : Type 0 where
+  pub cause : Rose (state (active_disk old)).counts.own (state (active_disk new)).counts.own
+      ⊎ ((calls : ℕ) × ((state (active_disk old)).counts.left ≡ Some calls) × (calls < 4))
+  pub counts : CountsCalls {T = Unit {0}} {E = Failed} 4 (Err (record {})) (state (active_disk old)).counts (state (active_disk new)).counts
+  pub rest : KeepsRest (state (active_disk old)) (state (active_disk new))
+  pub other : other_disk new ≡ other_disk old
+  pub second : is_second new ≡ is_second old
+
+-- its records can't be counted in four bytes; a store that keeps what its disks hold is never there
+abbrev pub IsAtEnd : {M K D I : Type 0} → Meaning K I → Store M K D → Type 0
+IsAtEnd m s = m.acts (memory_of s) + 1 ≡ 2 ^ 32
+
+-- a record with a body of so many bytes would end behind the active disk's last byte
+abbrev pub IsFullFor : {M K D : Type 0} → (D → DiskState) → ℕ → Store M K D → Full → Type 0
+IsFullFor state body s full = IsFull (needed_for (twin_of s) body) (state (active_disk (twin_of s))).size full
+
+-- what the memory is after a record, where it was put on the disks, or that failed
+abbrev pub ChangesMemory : {M K D I : Type 0} → Meaning K I → I → Result (Unit {0}) StoreError → Store M K D → Store M K D → Type 0
+ChangesMemory m item (Ok x) old new = memory_of new ≡ m.after item (memory_of old)
+ChangesMemory m item (Err store_error.Failed) old new = memory_of new ≡ m.after item (memory_of old)
+ChangesMemory m item (Err (store_error.Full full)) old new = new ≡ old
+ChangesMemory m item (Err store_error.NoMemory) old new = new ≡ old
+
+-- ---- openings
+
+-- an error is the damage that the bytes have
+abbrev pub IsDamage : {K I : Type 0} → Meaning K I → List ℕ → List ℕ → OpenError → Type 0
+IsDamage m a b (open_error.Damaged second at) = memory_on m a b ≡ Err (open_error.Damaged second at)
+IsDamage m a b open_error.Failed = Unit {0}
+IsDamage m a b (open_error.Full full) = ⊥
+IsDamage m a b open_error.NoMemory = Unit {0}
+
+-- an opening or a restart is never full
+abbrev pub IsNotFull : OpenError → Type 0
+IsNotFull (open_error.Full full) = ⊥
+IsNotFull (open_error.Damaged second at) = Unit {0}
+IsNotFull open_error.Failed = Unit {0}
+IsNotFull open_error.NoMemory = Unit {0}
+
+-- What these bytes hold is what it knows, and its disks keep it.
+pub record IsRead {M K D I : Type 0} (state : D → DiskState) (m : Meaning K I) (a b : List ℕ) (s : Store M K D) : Type 0 where
+  pub found : Found
+  pub stands : PairStandsFor found a b
+  pub keeps : Keeps state m found s
+
+-- What these bytes hold is what it knows, and its disks keep it, as the bytes have it or as a snapshot.
+pub record IsOf {M K D I : Type 0} (state : D → DiskState) (m : Meaning K I) (a b : List ℕ) (s : Store M K D) : Type 0 where
+  pub found : Found
+  pub stands : PairStandsFor found a b
+  pub held : held_in m found ≡ Ok (memory_of s)
+  pub kept : KeepsOrSettled state m found (memory_of s) (twin_of s)
+  -- the records past the snapshot take at most half of the disk, unless no snapshot can be put in their place
+  pub short : IsShort state (twin_of s) ⊎ CannotSettle m state (memory_of s) (twin_of s)
+
+-- the first record that it found is the first one there
+abbrev pub FindsFirst : {M K D : Type 0} → List ℕ → List ℕ → Store M K D → Type 0
+FindsFirst a b s = (found : Found) → PairStandsFor found a b → found_of s ≡ first_place (second_in a b) found
+
+-- ---- restarts
+
+-- What a restart with this pick, and a checkpoint after it, did to a disk, where it answered Ok or not.
+pub record ComesUp (ok : Bool) (pick : ℕ) (old new : DiskState) : Type 0 where
+  pub picked : ok ≡ true → (p : Option ℕ) → last_pick new ≡ Some p → p ≡ Some pick
+  pub unarmed : ok ≡ true → new.counts.left ≡ None
+  pub faults : old.counts.faults ≤ new.counts.faults
+  pub own : old.counts.own ≤ new.counts.own
+  pub kind : SameKind old new
+
+-- It came back as one of the pairs of images that these picks may give, and knows what that pair holds.
+pub record IsBack {M K D I : Type 0} (state : D → DiskState) (m : Meaning K I) (pick : ℕ) (old new : Store M K D) : Type 0 where
+  pub a : List ℕ
+  pub b : List ℕ
+  pub first : (state (first_disk (twin_of old))).may_leave a × (state (first_disk (twin_of old))).comes_back pick a
+  pub second : (state (second_disk (twin_of old))).may_leave b × (state (second_disk (twin_of old))).comes_back pick b
+  pub is : IsOf state m a b new
+
+-- the disk tells its bytes
+abbrev pub IsTold : DiskState → Type 0
+IsTold disk = IsSome disk.content
+
+-- ---- what an opening hands on
+
+-- its disks in their order
+abbrev pub first_after : {M K D : Type 0} → Result (Store M K D) (OpenError × D × D) → D
+first_after (Ok s) = first_disk (twin_of s)
+first_after (Err failed) = failed.1
+
+abbrev pub second_after : {M K D : Type 0} → Result (Store M K D) (OpenError × D × D) → D
+second_after (Ok s) = second_disk (twin_of s)
+second_after (Err failed) = failed.2
+
+-- ---- a memory that is lent
+
+abbrev pub with_memory : {M K D : Type 0} → Store M K D → K → Store M K D
+with_memory s known = record s { memory = known }
+
+module _ (M K D : RattleType) where
+  -- it ends with the last memory behind r
+  abbrev pub LendsMemory : MutBor (Store M.Denot K.Denot D.Denot) → MutBor K.Denot → Fml
+  LendsMemory s r = Lends (the_row M K D) K s r (with_memory s.now)
+
+  abbrev pub with_twin : {M K D : Type 0} → Store M K D → Twin D → Store M K D
+  with_twin s t = record s { twin = t }
+
+  -- it ends with the last disk behind r as the active one
+  abbrev pub LendsActive : MutBor (Store M.Denot K.Denot D.Denot) → MutBor D.Denot → Fml
+  LendsActive s r = Lends (the_row M K D) D s r (λ disk. with_twin s.now (with_active s.now.twin disk))

@@ -1,0 +1,5 @@
+pub mod Meanings
+pub mod Holdings
+pub mod Replays
+pub mod Settling
+pub mod Keeping

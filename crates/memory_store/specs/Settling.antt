@@ -1,0 +1,60 @@
+-- A snapshot in place of the records.
+use Rattle.std.specs.Prelude.{◌≡◌, ◌⊎◌, ◌*◌, ◌<◌, ◌≤◌, ℕ, true, false, None, List, length, Ok}
+use Rattle.disk_model.specs.Disk.{DiskState, KeepsRest}
+use Rattle.seata_types.specs.declared.errors.OpenError.{OpenError}
+use Rattle.seata_types.specs.declared.errors.OpenError.TheVariants as open_error
+use Rattle.journal_checkpoint.specs.declared.types.Found.{Found}
+use Rattle.journal_checkpoint.specs.declared.twin.Twin.{Twin}
+use Rattle.journal_checkpoint.specs.Images.{PairStandsFor, CannotCheckpoint, only_snapshot}
+use Rattle.journal_checkpoint.specs.Keeping.{KeepsPair, active_disk, other_disk, generation_of, records_length}
+use Rattle.memory_store.specs.declared.machine.TheConstants.{ACTS}
+use Rattle.memory_store.specs.Meanings.{Meaning}
+use Rattle.memory_store.specs.Holdings.{held_in}
+
+-- the records past the snapshot take at most half of the active disk
+abbrev pub IsShort : {D : Type 0} → (D → DiskState) → Twin D → Type 0
+IsShort state t = 2 * records_length t ≤ (state (active_disk t)).size
+
+-- no snapshot can be put in place of the records
+abbrev pub CannotSettle : {K I D : Type 0} → Meaning K I → (D → DiskState) → K → Twin D → Type 0
+CannotSettle m state known t =
+    (ACTS ≤ m.acts known) ⊎ (m.can_write known ≡ false)
+    ⊎ CannotCheckpoint (state (other_disk t)).size (length (m.snapshot_bytes known)) (generation_of t)
+
+-- a snapshot of it can be written
+pub record IsWritable {K I : Type 0} (m : Meaning K I) (known : K) : Type 0 where
+  pub can : m.can_write known ≡ true
+  pub few : m.acts known < ACTS
+  pub sound : m.IsSound known
+
+-- the snapshot of what is known, and no record past it
+abbrev pub settled : {K I : Type 0} → Meaning K I → K → Found
+settled m known = only_snapshot (m.snapshot_bytes known)
+
+-- two disks keep this, or the snapshot of what is known in its place
+abbrev pub KeepsOrSettled : {K I D : Type 0} → (D → DiskState) → Meaning K I → Found → K → Twin D → Type 0
+KeepsOrSettled state m found known t = KeepsPair state found t ⊎ (IsWritable m known × KeepsPair state (settled m known) t)
+
+-- the bytes stand for this, or for the snapshot of what is known in its place
+abbrev pub StandsOrSettled : {K I : Type 0} → Meaning K I → Found → K → List ℕ → List ℕ → Type 0
+StandsOrSettled m found known a b = PairStandsFor found a b ⊎ (IsWritable m known × PairStandsFor (settled m known) a b)
+
+-- what a pair of bytes holds is on these bytes too: they are the same, or they stand for what those stand for, or for its
+-- snapshot
+abbrev pub GoesOn : {K I : Type 0} → Meaning K I → (a b c d : List ℕ) → Type 0
+GoesOn {K} m a b c d =
+    ((c ≡ a) × (d ≡ b)) ⊎ ((found : Found) × ((known : K) × PairStandsFor found a b × (held_in m found ≡ Ok known) × StandsOrSettled m found known c d))
+
+-- What reads and a checkpoint leave of a disk: its size, what it tells and its last pick stay, and its counts don't fall.
+pub record RunsOn (old new : DiskState) : Type 0 where
+  pub rest : KeepsRest old new
+  pub faults : old.counts.faults ≤ new.counts.faults
+  pub own : old.counts.own ≤ new.counts.own
+  pub unarmed : old.counts.left ≡ None → new.counts.left ≡ None
+
+-- no other error comes
+abbrev pub IsSettlingError : OpenError → Type 0
+IsSettlingError open_error.Failed = Unit {0}
+IsSettlingError open_error.NoMemory = Unit {0}
+IsSettlingError (open_error.Damaged second at) = ⊥
+IsSettlingError (open_error.Full full) = ⊥

@@ -1,0 +1,370 @@
+//! A memory on two disks.
+use crate::machine::StateMachine;
+use crate::reading::{first_place, read_found, store_error};
+use crate::settling::settle;
+use disk_journal::AppendError;
+use disk_model::{Disk, Failed};
+use journal_checkpoint::{Found, Twin};
+use seata_types::{Full, NoMemory, OpenError, StoreError};
+use std::alloc::Global;
+
+/// A memory on two disks.
+#[derive(Drop)]
+pub struct Store<M, K, D> {
+    // The settings of the memory.
+    machine: M,
+    memory: K,
+    twin: Twin<D>,
+    // The first record that the opening read: whether it stands on the second disk, and its offset.
+    found: Option<(bool, u64)>,
+}
+
+impl<K: Drop, M: StateMachine<Memory = K> + Drop, D: Disk> Store<M, K, D> {
+    ghost use Rattle.std.specs.Prelude.{◌≡◌, ◌⊎◌, ◌↔◌, ◌+◌, ◌*◌, ◌^◌, ◌<◌, ◌≤◌, ℕ, true, false, is_err, is_ok, List, length, Option, Some, Ok, Err, IsTrue, IfOk, IfErr, OnOk, OnErr};
+    ghost use Rattle.std.specs.Borrow.{sem};
+    ghost use Rattle.disk_model.specs.Disk.{IsSettled, HasCause, present};
+    ghost use Rattle.disk_model.specs.declared.disk.TheConstants.{LAST_PICK};
+    ghost use Rattle.disk_journal.specs.Keeping.{OnlyReads};
+    ghost use Rattle.disk_journal.specs.Reading.{row_length};
+    ghost use Rattle.seata_types.specs.declared.limits.TheConstants.{BODY_BYTES};
+    ghost use Rattle.journal_checkpoint.specs.Images.{FailsItself, PairStandsFor, LeavesPairs, Either, with_record};
+    ghost use Rattle.journal_checkpoint.specs.Keeping.{KeepsPair, active_disk, first_disk, second_disk, disks, needed_for};
+    ghost use Rattle.memory_store.specs.Settling.{GoesOn, RunsOn, IsSettlingError};
+    ghost use Rattle.memory_store.specs.Keeping.{machine_of, memory_of, twin_of, found_of, is_down, Keeps, Takes, Falls, IsAtEnd, IsFullFor, ChangesMemory, IsDamage, IsOf, IsNotFull, IsRead, FindsFirst, ComesUp, IsBack, IsTold, first_after, second_after, LendsMemory, LendsActive};
+
+    /// Reads two disks, and changes no byte. The disks come back where it fails: `Damaged` where their bytes hold nothing,
+    /// `NoMemory` where there is none for what they hold or for appends.
+    pub fn read(
+        alloc: Global,
+        machine: M,
+        first: D,
+        second: D,
+    ) -> Result<Store<M, K, D>, (OpenError, D, D)>
+        requires first { IsSettled (D.state first) }
+        requires second { IsSettled (D.state second) }
+
+        // What it knows is exactly what the bytes hold, and the damage is where they have it.
+        ensures ok { IfOk result (λ store. (a b : List ℕ) → present (D.state first) ≡ Some a → present (D.state second) ≡ Some b →
+            IsRead D.state (M.meaning machine) a b store) }
+        ensures place { IfOk result (λ store. (a b : List ℕ) → present (D.state first) ≡ Some a → present (D.state second) ≡ Some b →
+            FindsFirst a b store) }
+        ensures damaged { IfErr result (λ failed. (a b : List ℕ) → present (D.state first) ≡ Some a → present (D.state second) ≡ Some b →
+            IsDamage (M.meaning machine) a b failed.0) }
+        ensures failed { IfErr result (λ failed. failed.0 ≡ OpenError.Failed →
+            HasCause (D.state first).counts (D.state failed.1).counts ⊎ HasCause (D.state second).counts (D.state failed.2).counts) }
+        ensures not_full { IfErr result (λ failed. IsNotFull failed.0) }
+        ensures first_reads { OnlyReads (D.state first) (D.state (first_after result)) }
+        ensures second_reads { OnlyReads (D.state second) (D.state (second_after result)) }
+
+        ensures machine { IfOk result (λ store. machine_of store ≡ machine) }
+        ensures sound { IfOk result (λ store. (M.meaning machine).IsSound (memory_of store)) }
+        ensures up { IfOk result (λ store. is_down store ≡ false) }
+    {
+        let (_one, _two) = (first.size(), second.size());
+        match Twin::open(alloc, first, second) {
+            Err((error, first, second)) => Err((store_error(error), first, second)),
+            Ok((twin, found)) => {
+                let second = twin.is_second();
+                match read_found(alloc, &machine, second, &found) {
+                    Ok(memory) => Ok(Store {
+                        machine,
+                        memory,
+                        twin,
+                        found: first_place(second, &found),
+                    }),
+                    Err(error) => {
+                        let (first, second) = twin.into_disks();
+                        Err((error, first, second))
+                    }
+                }
+            }
+        }
+    }
+
+    /// Reads two disks, and puts a snapshot in place of the records where these take more than half of a disk, fewer than
+    /// `ACTS` acts stand, and a snapshot can be written. It writes nothing else.
+    pub fn open(
+        alloc: Global,
+        machine: M,
+        first: D,
+        second: D,
+    ) -> Result<Store<M, K, D>, (OpenError, D, D)>
+        requires first { IsSettled (D.state first) }
+        requires second { IsSettled (D.state second) }
+
+        ensures ok { IfOk result (λ store. (a b : List ℕ) → present (D.state first) ≡ Some a → present (D.state second) ≡ Some b →
+            IsOf D.state (M.meaning machine) a b store) }
+        ensures place { IfOk result (λ store. (a b : List ℕ) → present (D.state first) ≡ Some a → present (D.state second) ≡ Some b →
+            FindsFirst a b store) }
+        ensures damaged { IfErr result (λ failed. (a b : List ℕ) → present (D.state first) ≡ Some a → present (D.state second) ≡ Some b →
+            IsDamage (M.meaning machine) a b failed.0) }
+        // A crash after it, however it ended, leaves what the bytes hold, as they have it or as a snapshot.
+        ensures images { (a b c d : List ℕ) → present (D.state first) ≡ Some a → present (D.state second) ≡ Some b →
+            (D.state (first_after result)).may_leave c → (D.state (second_after result)).may_leave d → GoesOn (M.meaning machine) a b c d }
+        // Where the records take at most half of either disk it changes no byte.
+        ensures not_due { (a b : List ℕ) (found : Found) → present (D.state first) ≡ Some a → present (D.state second) ≡ Some b → PairStandsFor found a b →
+            2 * row_length found.records ≤ (D.state first).size → 2 * row_length found.records ≤ (D.state second).size →
+            OnlyReads (D.state first) (D.state (first_after result)) × OnlyReads (D.state second) (D.state (second_after result)) }
+        ensures failed { IfErr result (λ failed. failed.0 ≡ OpenError.Failed →
+            HasCause (D.state first).counts (D.state failed.1).counts ⊎ HasCause (D.state second).counts (D.state failed.2).counts) }
+        ensures not_full { IfErr result (λ failed. IsNotFull failed.0) }
+        ensures first_disk { RunsOn (D.state first) (D.state (first_after result)) }
+        ensures second_disk { RunsOn (D.state second) (D.state (second_after result)) }
+
+        ensures machine { IfOk result (λ store. machine_of store ≡ machine) }
+        ensures up { IfOk result (λ store. is_down store ≡ false) }
+    {
+        let mut store = match Store::read(alloc, machine, first, second) {
+            Ok(store) => store,
+            Err(failed) => return Err(failed),
+        };
+        match settle(alloc, &store.machine, &mut store.twin, &store.memory) {
+            Ok(()) => Ok(store),
+            Err(error) => {
+                let (first, second) = store.into_disks();
+                Err((error, first, second))
+            }
+        }
+    }
+
+    /// Whether a record with a body of so many bytes fits on the active disk. At `Ok` one more act can be counted too.
+    pub fn fits(&self, body: usize) -> Result<(), Full>
+        requires { body ≤ BODY_BYTES }
+        ensures ok { OnOk result (needed_for (twin_of self.now) body ≤ (D.state (active_disk (twin_of self.now))).size) }
+        ensures room { OnOk result ((M.meaning (machine_of self.now)).acts (memory_of self.now) + 1 < 2 ^ 32) }
+        // It is exact, since no disk has room for as many records as can be counted.
+        ensures full { IfErr result (λ full. IsFullFor D.state body self.now full ⊎ IsAtEnd (M.meaning (machine_of self.now)) self.now) }
+        ensures exact { (found : Found) → Keeps D.state (M.meaning (machine_of self.now)) found self.now → IfErr result (IsFullFor D.state body self.now) }
+    {
+        if let Err(full) = self.twin.fits(body) {
+            return Err(full);
+        }
+        if self.machine.acts(&self.memory) == u32::MAX {
+            return Err(Full {
+                needed: u64::MAX,
+                size: u64::MAX,
+            });
+        }
+        Ok(())
+    }
+
+    /// Takes in a record that may come: the disks have it behind what they held, and the memory knows it.
+    ///
+    /// `Full` and `NoMemory` come before any call of a disk. After `Failed` the store is down, and is to be restarted; its
+    /// memory then has the record, and the disks may have it.
+    pub fn add(&mut self, alloc: Global, item: &M::Record, body: &[u8]) -> Result<(), StoreError>
+        requires up { is_down self.old ≡ false }
+        requires allowed { (M.meaning (machine_of self.old)).may_come (memory_of self.old) item.now ≡ true }
+        requires is { (M.meaning (machine_of self.old)).record_of body.now ≡ Some item.now }
+        requires small { length body.now ≤ BODY_BYTES }
+
+        ensures keeps { OnOk result ((found : Found) → Keeps D.state (M.meaning (machine_of self.old)) found self.old →
+            Keeps D.state (M.meaning (machine_of self.old)) (with_record found body.now) self.new) }
+        ensures memory { ChangesMemory (M.meaning (machine_of self.old)) item.now result self.old self.new }
+
+        // A crash at any moment of the call, however it ends, leaves what was there, with the new record or without.
+        ensures any_moment { (found : Found) → KeepsPair D.state found (twin_of self.old) →
+            LeavesPairs (disks D.state (twin_of self.old)) (disks D.state (twin_of self.new)) (Either found (with_record found body.now)) }
+        // Where a stop lets fewer calls pass than the first write with its sync, no image has the new record.
+        ensures not_begun { (found : Found) → KeepsPair D.state found (twin_of self.old) →
+            (calls : ℕ) → (D.state (active_disk (twin_of self.old))).counts.left ≡ Some calls → calls < 2 →
+            LeavesPairs (disks D.state (twin_of self.old)) (disks D.state (twin_of self.new)) (PairStandsFor found) }
+
+        ensures took { OnOk result (Takes D.state (twin_of self.old) (twin_of self.new)) }
+        ensures failed { result ≡ Err StoreError.Failed → Falls D.state (twin_of self.old) (twin_of self.new) }
+        ensures full { (full : Full) → result ≡ Err (StoreError.Full full) →
+            IsFullFor D.state (length body.now) self.old full ⊎ IsAtEnd (M.meaning (machine_of self.old)) self.old }
+        ensures exact { (found : Found) (full : Full) → Keeps D.state (M.meaning (machine_of self.old)) found self.old →
+            result ≡ Err (StoreError.Full full) → IsFullFor D.state (length body.now) self.old full }
+        ensures down { IsTrue (is_down self.new) ↔ (result ≡ Err StoreError.Failed) }
+        ensures machine { machine_of self.new ≡ machine_of self.old }
+        ensures found { found_of self.new ≡ found_of self.old }
+    {
+        if let Err(full) = self.fits(body.len()) {
+            return Err(StoreError::Full(full));
+        }
+        if let Err(NoMemory) = self.machine.apply(alloc, &mut self.memory, item) {
+            return Err(StoreError::NoMemory);
+        }
+        match self.append(body) {
+            Ok(()) => Ok(()),
+            Err(Failed) => Err(StoreError::Failed),
+        }
+    }
+
+    /// Puts a record on the disks that the memory knows already, by a call of the owner's own: `fits`, then a change through
+    /// `memory_mut`, then this. After `Failed` the store is down, and is to be restarted.
+    pub fn append(&mut self, body: &[u8]) -> Result<(), Failed>
+        requires up { is_down self.old ≡ false }
+        requires small { length body.now ≤ BODY_BYTES }
+        requires fits { needed_for (twin_of self.old) (length body.now) ≤ (D.state (active_disk (twin_of self.old))).size }
+
+        ensures acknowledged { OnOk result ((found : Found) → KeepsPair D.state found (twin_of self.old) →
+            KeepsPair D.state (with_record found body.now) (twin_of self.new)) }
+        ensures any_moment { (found : Found) → KeepsPair D.state found (twin_of self.old) →
+            LeavesPairs (disks D.state (twin_of self.old)) (disks D.state (twin_of self.new)) (Either found (with_record found body.now)) }
+        ensures not_begun { (found : Found) → KeepsPair D.state found (twin_of self.old) →
+            (calls : ℕ) → (D.state (active_disk (twin_of self.old))).counts.left ≡ Some calls → calls < 2 →
+            LeavesPairs (disks D.state (twin_of self.old)) (disks D.state (twin_of self.new)) (PairStandsFor found) }
+
+        ensures took { OnOk result (Takes D.state (twin_of self.old) (twin_of self.new)) }
+        ensures failed { OnErr result (Falls D.state (twin_of self.old) (twin_of self.new)) }
+        ensures down { is_down self.new ≡ is_err result }
+        ensures memory { memory_of self.new ≡ memory_of self.old }
+        ensures machine { machine_of self.new ≡ machine_of self.old }
+        ensures found { found_of self.new ≡ found_of self.old }
+    {
+        match self.twin.append(body) {
+            Ok(()) => Ok(()),
+            Err(_) => Err(Failed),
+        }
+    }
+
+    /// Takes no more records until it is restarted, as after a crash.
+    pub fn fall(&mut self)
+        ensures first { first_disk (twin_of self.new) ≡ first_disk (twin_of self.old) }
+        ensures second { second_disk (twin_of self.new) ≡ second_disk (twin_of self.old) }
+        ensures down { is_down self.new ≡ true }
+        ensures memory { memory_of self.new ≡ memory_of self.old }
+        ensures machine { machine_of self.new ≡ machine_of self.old }
+        ensures found { found_of self.new ≡ found_of self.old }
+    {
+        self.twin.fall();
+    }
+
+    /// Comes back after a crash, in place: both disks restart with this pick and are read, and a snapshot is put in place of
+    /// the records as by `open`. After an error it is down, with the memory from before.
+    pub fn restart(&mut self, alloc: Global, pick: u16) -> Result<(), OpenError>
+        requires { pick ≤ LAST_PICK }
+
+        // What it knows is exactly what the pair of images that came back holds.
+        ensures back { OnOk result (IsTold (D.state (first_disk (twin_of self.old))) → IsTold (D.state (second_disk (twin_of self.old))) →
+            IsBack D.state (M.meaning (machine_of self.old)) pick self.old self.new) }
+        ensures damaged { IfErr result (λ error. (a b : List ℕ) → present (D.state (first_disk (twin_of self.new))) ≡ Some a → present (D.state (second_disk (twin_of self.new))) ≡ Some b →
+            IsDamage (M.meaning (machine_of self.old)) a b error) }
+        // A crash after it, however it ended, leaves what a pair of images from before holds, as it was or as a snapshot.
+        ensures images { (c d : List ℕ) → (D.state (first_disk (twin_of self.new))).may_leave c → (D.state (second_disk (twin_of self.new))).may_leave d →
+            ((a b : List ℕ) × (D.state (first_disk (twin_of self.old))).may_leave a × (D.state (second_disk (twin_of self.old))).may_leave b
+            × GoesOn (M.meaning (machine_of self.old)) a b c d) }
+        ensures failed { result ≡ Err OpenError.Failed →
+            FailsItself (D.state (first_disk (twin_of self.old))).counts (D.state (first_disk (twin_of self.new))).counts
+            ⊎ FailsItself (D.state (second_disk (twin_of self.old))).counts (D.state (second_disk (twin_of self.new))).counts }
+        ensures not_full { IfErr result IsNotFull }
+        ensures first { ComesUp (is_ok result) pick (D.state (first_disk (twin_of self.old))) (D.state (first_disk (twin_of self.new))) }
+        ensures second { ComesUp (is_ok result) pick (D.state (second_disk (twin_of self.old))) (D.state (second_disk (twin_of self.new))) }
+
+        ensures memory { OnErr result (memory_of self.new ≡ memory_of self.old) }
+        ensures up { is_down self.new ≡ is_err result }
+        ensures machine { machine_of self.new ≡ machine_of self.old }
+        ensures found { found_of self.new ≡ found_of self.old }
+    {
+        let found = match self.twin.restart(alloc, pick) {
+            Ok(found) => found,
+            Err(error) => return Err(store_error(error)),
+        };
+        match self.recover(alloc, &found) {
+            Ok(()) => Ok(()),
+            Err(error) => {
+                self.twin.fall();
+                Err(error)
+            }
+        }
+    }
+
+    // Takes over what its disks hold, as they were read.
+    fn recover(&mut self, alloc: Global, found: &Found) -> Result<(), OpenError>
+        requires up { is_down self.old ≡ false }
+        ensures ok { OnOk result ((a b : List ℕ) → present (D.state (first_disk (twin_of self.old))) ≡ Some a → present (D.state (second_disk (twin_of self.old))) ≡ Some b →
+            PairStandsFor found.now a b → KeepsPair D.state found.now (twin_of self.old) → IsOf D.state (M.meaning (machine_of self.old)) a b self.new) }
+        ensures damaged { IfErr result (λ error. IsSettlingError error ⊎ ((twin_of self.new ≡ twin_of self.old) × ((a b : List ℕ) →
+            present (D.state (first_disk (twin_of self.old))) ≡ Some a → present (D.state (second_disk (twin_of self.old))) ≡ Some b →
+            PairStandsFor found.now a b → KeepsPair D.state found.now (twin_of self.old) → IsDamage (M.meaning (machine_of self.old)) a b error))) }
+        ensures images { (a b c d : List ℕ) → present (D.state (first_disk (twin_of self.old))) ≡ Some a → present (D.state (second_disk (twin_of self.old))) ≡ Some b →
+            PairStandsFor found.now a b → KeepsPair D.state found.now (twin_of self.old) →
+            (D.state (first_disk (twin_of self.new))).may_leave c → (D.state (second_disk (twin_of self.new))).may_leave d → GoesOn (M.meaning (machine_of self.old)) a b c d }
+        ensures failed { result ≡ Err OpenError.Failed →
+            HasCause (D.state (first_disk (twin_of self.old))).counts (D.state (first_disk (twin_of self.new))).counts
+            ⊎ HasCause (D.state (second_disk (twin_of self.old))).counts (D.state (second_disk (twin_of self.new))).counts }
+        ensures first { RunsOn (D.state (first_disk (twin_of self.old))) (D.state (first_disk (twin_of self.new))) }
+        ensures second { RunsOn (D.state (second_disk (twin_of self.old))) (D.state (second_disk (twin_of self.new))) }
+        ensures not_full { IfErr result IsNotFull }
+        ensures memory { OnErr result (memory_of self.new ≡ memory_of self.old) }
+        ensures up { OnOk result (is_down self.new ≡ false) }
+        ensures machine { machine_of self.new ≡ machine_of self.old }
+        ensures found { found_of self.new ≡ found_of self.old }
+    {
+        let second = self.twin.is_second();
+        let memory = match read_found(alloc, &self.machine, second, found) {
+            Ok(memory) => memory,
+            Err(error) => return Err(error),
+        };
+        match settle(alloc, &self.machine, &mut self.twin, &memory) {
+            Ok(()) => {
+                self.memory = memory;
+                Ok(())
+            }
+            Err(error) => Err(error),
+        }
+    }
+
+    /// Whether a call failed, or `fall` was called. Then it takes no more records until it is restarted.
+    pub fn is_down(&self) -> bool
+        ensures { result ≡ is_down self.now }
+    {
+        self.twin.is_down()
+    }
+
+    /// What it knows.
+    pub fn memory(&self) -> &K
+        ensures { result.now ≡ memory_of self.now }
+    {
+        &self.memory
+    }
+
+    /// What it knows, to be changed by a record that `append` then puts on the disks.
+    pub fn memory_mut(&mut self) -> &mut K
+        ensures* lends { sem 𝓛 (LendsMemory M.row K.row D.row self.entry result) }
+        ensures memory { result.now ≡ memory_of self.old }
+    {
+        &mut self.memory
+    }
+
+    /// The settings of its memory.
+    pub fn machine(&self) -> &M
+        ensures { result.now ≡ machine_of self.now }
+    {
+        &self.machine
+    }
+
+    /// How many records were read and added, the acts of the snapshot included.
+    pub fn records(&self) -> u32
+        ensures { result ≡ (M.meaning (machine_of self.now)).acts (memory_of self.now) }
+    {
+        self.machine.acts(&self.memory)
+    }
+
+    /// The first record that the opening read, if there was one: whether it stands on the second disk, and its offset, which
+    /// is that of a snapshot too.
+    pub fn found(&self) -> Option<(bool, u64)>
+        ensures { result ≡ found_of self.now }
+    {
+        self.found
+    }
+
+    /// The active disk, to arm it or to read its counts. The store keeps what its disks hold only where no call changes the
+    /// images.
+    pub fn active_mut(&mut self) -> &mut D
+        ensures* lends { sem 𝓛 (LendsActive M.row K.row D.row self.entry result) }
+        ensures disk { result.now ≡ active_disk (twin_of self.old) }
+    {
+        self.twin.active_mut()
+    }
+
+    /// The two disks, in their order.
+    pub fn into_disks(self) -> (D, D)
+        ensures { result ≡ (first_disk (twin_of self), second_disk (twin_of self)) }
+    {
+        let Store { twin, .. } = self;
+        twin.into_disks()
+    }
+}
