@@ -1,17 +1,10 @@
 //! The fence's table, and the list of all fences.
-use seata_types::{BranchId, Leg, Xid};
+use crate::samples::leg;
 use std::alloc::Global;
 use std::test::Fail;
 use tcc_fence::FenceAnswer::{Already, Refuse, Run, Suspend};
 use tcc_fence::FenceStatus::{Committed, Rollbacked, Suspended, Tried};
 use tcc_fence::{Fence, FenceAnswer, FenceStatus};
-
-fn leg(xid: u64, branch: u64) -> Leg {
-    Leg {
-        xid: Xid(xid),
-        branch: BranchId(branch),
-    }
-}
 
 /// A row of the table: a branch's status, and what a Try, a Confirm and a Cancel are answered.
 #[derive(Clone, Copy)]

@@ -1,15 +1,9 @@
 //! Entries put, found by branch and by call, listed, and taken out.
-use seata_types::{BranchId, Image, Leg, List, ReadRow, Row, RowKey, Text, Value, Xid};
+use crate::samples::leg;
+use seata_types::{Image, Leg, List, ReadRow, Row, RowKey, Text, Value, Xid};
 use std::alloc::Global;
 use std::test::Fail;
 use undo_log::{UndoEntry, UndoError, UndoLog, UndoRecord};
-
-fn leg(xid: u64, branch: u64) -> Leg {
-    Leg {
-        xid: Xid(xid),
-        branch: BranchId(branch),
-    }
-}
 
 /// The row with this number as key and only cell, of the table `acc`.
 fn key(alloc: Global, number: i64) -> Result<RowKey, Fail> {
@@ -63,13 +57,29 @@ fn put(log: &mut UndoLog, leg: Leg, entry: UndoEntry) -> Result<(), Fail> {
     }
 }
 
+/// Whether a branch has an entry already; else its record of call 1 is put in.
+fn is_taken(alloc: Global, log: &mut UndoLog, leg: Leg) -> Result<bool, Fail> {
+    let record = record(alloc, leg, 1)?;
+    Ok(log.put(leg, UndoEntry::Normal(record)) == Err(UndoError::Taken))
+}
+
+fn log_status(log: &UndoLog, leg: Leg) -> Option<u8> {
+    match log.find(leg) {
+        Some(entry) => Some(entry.log_status()),
+        None => None,
+    }
+}
+
 #[test]
-fn refuses_a_second_entry(rt: HostRuntime) -> Result<(), Fail> {
+fn a_marked_branch_takes_no_record(rt: HostRuntime) -> Result<(), Fail> {
     let mut log = filled(rt.alloc())?;
-    let taken = log.put(leg(1, 5), UndoEntry::Finished);
-    assert!(rt; taken == Err(UndoError::Taken));
-    let free = log.put(leg(5, 1), UndoEntry::Finished);
-    assert!(rt; free == Ok(()));
+    assert!(rt; is_taken(rt.alloc(), &mut log, leg(1, 5))?);
+    assert!(rt; !is_taken(rt.alloc(), &mut log, leg(5, 1))?);
+    assert_eq!(rt; log_status(&log, leg(1, 5)), Some(1));
+    assert_eq!(rt; log_status(&log, leg(5, 1)), Some(0));
+    assert_eq!(rt; log_status(&log, leg(5, 2)), None);
+    let again = log.put(leg(5, 1), UndoEntry::Finished);
+    assert!(rt; again == Err(UndoError::Taken));
     Ok(())
 }
 

@@ -2,7 +2,11 @@
 #![tactic(auto)]
 
 #[cfg(test)]
+mod loaded_memories;
+#[cfg(test)]
 mod locks;
+#[cfg(test)]
+mod memories;
 #[cfg(test)]
 mod records;
 #[cfg(test)]

@@ -1,0 +1,130 @@
+//! A resource's records as bytes, also in the layout of earlier programs.
+ghost use Rattle.resource_log.specs.Records.{FitsRecord};
+
+use crate::samples::{IMAGES, LEG, OLD_IMAGES, joined};
+use durable_records::ResourceRecord;
+use resource_log::*;
+use std::alloc::Global;
+use std::test::*;
+
+// The row with key 1 was read as (1).
+const READS: [u8; 30] = [
+    0, 1, 0, 1, 0, 3, 97, 99, 99, 1, 0, 0, 0, 0, 0, 0, 0, 0, 1, 0, 1, 0, 0, 0, 0, 0, 0, 0, 0, 1,
+];
+
+const OLD_READS: [u8; 29] = [
+    0, 1, 0, 1, 0, 3, 97, 99, 99, 0, 0, 0, 0, 0, 0, 0, 0, 1, 0, 1, 0, 0, 0, 0, 0, 0, 0, 0, 1,
+];
+
+// The bytes that the record of these bytes is written as: none where they are no record.
+pub fn again(alloc: Global, bytes: &[u8]) -> Option<Vec<u8>> {
+    match read_record(alloc, bytes) {
+        Ok(record) => written(alloc, record),
+        Err(_) => None,
+    }
+}
+
+fn written(alloc: Global, item: ResourceRecord) -> Option<Vec<u8>>
+    requires { FitsRecord item }
+{
+    match write_record(alloc, &item) {
+        Ok(bytes) => Some(bytes),
+        Err(_) => None,
+    }
+}
+
+// Whether these bytes are refused as no record.
+fn is_refused(alloc: Global, bytes: &[u8]) -> bool {
+    match read_record(alloc, bytes) {
+        Ok(record) => {
+            drop(record);
+            false
+        }
+        Err(error) => error == RecordError::BadRecord,
+    }
+}
+
+// Whether these parts are a record that is written as the others.
+fn is_written_as(alloc: Global, read: &[&[u8]], written: &[&[u8]]) -> Result<bool, Fail> {
+    let bytes = joined(alloc, read)?;
+    let wanted = joined(alloc, written)?;
+    Ok(match again(alloc, &bytes) {
+        Some(found) => found == wanted,
+        None => false,
+    })
+}
+
+#[test]
+fn a_record_of_a_boot(rt: HostRuntime) -> Result<(), Fail> {
+    let boot = ResourceRecord::Boot { number: 1 };
+    let Ok(bytes) = write_record(rt.alloc(), &boot) else {
+        return Err(Fail::from("no memory"));
+    };
+    assert_eq!(rt; bytes.as_slice(), [1, 0, 0, 0, 1].as_slice());
+    Ok(())
+}
+
+#[test]
+fn each_record_is_written_as_it_is_read(rt: HostRuntime) -> Result<(), Fail> {
+    for parts in [
+        [[1].as_slice(), &[0, 0, 0, 2], &[], &[], &[]],
+        [&[18], &LEG, &[0, 1], &IMAGES, &READS],
+        [&[3], &LEG, &[], &[], &[]],
+        [&[4], &LEG, &[], &[], &[]],
+        [&[5], &LEG, &[], &[], &[]],
+        [&[22], &LEG, &[0, 1], &IMAGES, &[]],
+        [&[23], &LEG, &IMAGES, &[], &[]],
+        [&[24], &LEG, &IMAGES, &[], &[]],
+        [&[9], &LEG, &[], &[], &[]],
+        [&[26], &[0, 1], &IMAGES, &[], &[]],
+        [&[27], &[0, 1], &IMAGES, &[], &[]],
+    ] {
+        assert!(rt; is_written_as(rt.alloc(), &parts, &parts)?);
+    }
+    Ok(())
+}
+
+#[test]
+fn records_of_earlier_programs_are_written_anew(rt: HostRuntime) -> Result<(), Fail> {
+    for (old, new) in [
+        (
+            [[2].as_slice(), &LEG, &[0, 1], &OLD_IMAGES, &[0, 0]],
+            [[18].as_slice(), &LEG, &[0, 1], &IMAGES, &[0, 0]],
+        ),
+        (
+            [&[2], &LEG, &[0, 1], &OLD_IMAGES, &OLD_READS],
+            [&[18], &LEG, &[0, 1], &IMAGES, &READS],
+        ),
+        (
+            [&[6], &LEG, &[0, 1], &OLD_IMAGES, &[]],
+            [&[22], &LEG, &[0, 1], &IMAGES, &[]],
+        ),
+        (
+            [&[7], &LEG, &OLD_IMAGES, &[], &[]],
+            [&[23], &LEG, &IMAGES, &[], &[]],
+        ),
+        (
+            [&[8], &LEG, &OLD_IMAGES, &[], &[]],
+            [&[24], &LEG, &IMAGES, &[], &[]],
+        ),
+    ] {
+        assert!(rt; is_written_as(rt.alloc(), &old, &new)?);
+    }
+    Ok(())
+}
+
+#[test]
+fn bytes_that_are_no_record(rt: HostRuntime) -> Result<(), Fail> {
+    for parts in [
+        [[].as_slice(), &[], &[]],
+        [&[10], &LEG, &[]],
+        [&[3], &LEG[..15], &[]],
+        [&[3], &LEG, &[0]],
+        [&[23], &LEG, &OLD_IMAGES],
+        [&[7], &LEG, &IMAGES],
+    ] {
+        let bytes = joined(rt.alloc(), &parts)?;
+        assert!(rt; is_refused(rt.alloc(), &bytes));
+    }
+    Ok(())
+}
