@@ -1,3 +1,5 @@
 pub mod Served
 mod Texts
 pub mod Worlds
+mod DurableExamples
+pub mod DurableImages

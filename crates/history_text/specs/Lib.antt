@@ -5,3 +5,4 @@ pub mod Worlds
 pub mod History
 pub mod Lines
 pub mod Report
+pub mod Durable

@@ -1,0 +1,89 @@
+-- What two disks stand for, as the records of the node that they are of, and what a node's entries leave on its disks. Lists
+-- of records stand newest first.
+use Rattle.std.specs.Prelude.{◌≡◌, ◌⊎◌, ◌≤◌, ◌+◌, ◌-◌, ◌^◌, ℕ, min, Bool, true, false, if◌then◌else◌, List, [], ◌∷◌, Option, Some, None, option_and_then}
+use Rattle.disk_model.specs.Disk.{DiskState, last_pick}
+use Rattle.journal_checkpoint.specs.declared.types.Found.{Found}
+use Rattle.journal_checkpoint.specs.Images.{Pair, PairStandsFor}
+use Rattle.local_tables.specs.Rows.{Database}
+use Rattle.durable_records.specs.declared.coordinators.SessionRecord.{SessionRecord}
+use Rattle.durable_records.specs.declared.resources.ResourceRecord.{ResourceRecord}
+use Rattle.session_log.specs.declared.sessions.Snapshot.{Snapshot}
+use Rattle.session_log.specs.Records as session_bytes
+use Rattle.session_log.specs.Snapshots as session_snapshots
+use Rattle.session_log.specs.SnapshotOf as sessions_now
+use Rattle.resource_log.specs.declared.states.ResourceSnapshot.{ResourceSnapshot}
+use Rattle.resource_log.specs.Records as resource_bytes
+use Rattle.resource_log.specs.Snapshots as resource_snapshots
+use Rattle.resource_log.specs.SnapshotOf as resource_now
+use Rattle.history_rules.specs.Own.{Own, Left}
+use Rattle.history_rules.specs.Devices.{calls_left, fault_entries, may_stand, last_pick as picked_last}
+use Rattle.history_rules.specs.CoordinatorMemory.{sessions_left}
+use Rattle.history_rules.specs.ResourceMemory.{Setup, memory, opening_tables}
+
+-- ---- what bytes are read as
+
+-- how the disks of a node are read: the record that bytes are, the snapshot that bytes are, in any of their layouts, and the
+-- snapshot that a list of records has
+pub record Reading (R S : Type 0) : Type 0 where
+  pub record_of : List ℕ → Option R
+  pub snapshot_in : List ℕ → Option S
+  pub snapshot_of : List R → S
+
+abbrev pub of_coordinator : Reading SessionRecord Snapshot
+of_coordinator = record { record_of = session_bytes.record_of; snapshot_in = session_snapshots.snapshot_in_bytes; snapshot_of = sessions_now.snapshot_of }
+
+-- over its tables at the opening
+abbrev pub of_resource : Database → Reading ResourceRecord ResourceSnapshot
+of_resource opening = record { record_of = resource_bytes.record_of; snapshot_in = resource_snapshots.snapshot_in_bytes; snapshot_of = resource_now.snapshot_of opening }
+
+-- the records that these bodies are, on top of others
+abbrev pub records_on : {R : Type 0} → (List ℕ → Option R) → List R → List (List ℕ) → Option (List R)
+records_on record_of before [] = Some before
+records_on record_of before (body ∷ bodies) = option_and_then (λ r. records_on record_of (r ∷ before) bodies) (record_of body)
+
+-- the bodies are these records, over none; or behind a snapshot, over those that have it
+abbrev pub AreRecords : {R S : Type 0} → Reading R S → Option (List ℕ) → List (List ℕ) → List R → Type 0
+AreRecords reading None bodies rs = records_on reading.record_of [] bodies ≡ Some rs
+AreRecords {R} reading (Some bytes) bodies rs =
+    (first : List R) × (reading.snapshot_in bytes ≡ Some (reading.snapshot_of first)) × (records_on reading.record_of first bodies ≡ Some rs)
+
+-- the bytes of two disks stand for these records
+pub record StandsForRecords {R S : Type 0} (reading : Reading R S) (rs : List R) (a b : List ℕ) : Type 0 where
+  pub found : Found
+  pub pair : PairStandsFor found a b
+  pub records : AreRecords reading found.snapshot found.records rs
+
+-- ---- what a node's entries leave on its disks
+
+-- the record in flight, where it may be on the disks
+abbrev pub keepable : {R : Type 0} → (boots : Bool) → List Own → Left R → Option R
+keepable boots os left = if may_stand (calls_left boots os) then left.flight else None
+
+-- the bytes of two disks stand for the records that stand, or for these with the one that may be kept
+abbrev pub StandsForLeft : {R S : Type 0} → Reading R S → Left R → Option R → (a b : List ℕ) → Type 0
+StandsForLeft {R} reading left kept a b =
+    StandsForRecords reading left.records a b ⊎ ((r : R) × (kept ≡ Some r) × StandsForRecords reading (r ∷ left.records) a b)
+
+-- a node's own faults: those of its two disks together, up to the end of the count
+abbrev pub own_faults : Pair → ℕ
+own_faults disks = min (disks.first.counts.own + disks.second.counts.own) (2 ^ 64 - 1)
+
+-- where a disk tells its last pick, it is this one
+abbrev pub TellsPick : ℕ → DiskState → Type 0
+TellsPick pick disk = (told : Option ℕ) → last_pick disk ≡ Some told → told ≡ Some pick
+
+-- Of two disks after the entries of their node, which had counted so many own faults before: each pair of images stands for
+-- the records, or for these with the one in flight that may be kept; an own fault was counted for each entry that a fault of
+-- the disks took down, up to the end of the count; and both have the pick of the last restart.
+pub record AreDisksOf {R S : Type 0} (reading : Reading R S) (boots : Bool) (os : List Own) (left : Left R) (before : ℕ) (disks : Pair) : Type 0 where
+  pub images : (a b : List ℕ) → disks.first.may_leave a → disks.second.may_leave b → StandsForLeft reading left (keepable boots os left) a b
+  pub counted : min (before + fault_entries boots os) (2 ^ 64 - 1) ≤ own_faults disks
+  pub picked : (pick : ℕ) → picked_last os ≡ Some pick → TellsPick pick disks.first × TellsPick pick disks.second
+
+-- the disks of the coordinator, over the records that they had before its first entry
+abbrev pub AreCoordinatorDisks : List SessionRecord → List Own → ℕ → Pair → Type 0
+AreCoordinatorDisks past os before disks = AreDisksOf of_coordinator false os (sessions_left past os) before disks
+
+-- the disks of a resource
+abbrev pub AreResourceDisks : Setup → List ResourceRecord → List Own → ℕ → Pair → Type 0
+AreResourceDisks s past os before disks = AreDisksOf (of_resource (opening_tables s)) true os (memory s past os).left before disks
