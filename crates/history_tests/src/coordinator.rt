@@ -1,10 +1,10 @@
 //! What the coordinator answers, one input after the other, as its entries' lines.
 ghost use Rattle.std.specs.Prelude.{◌≤◌, ◌^◌};
 
+use crate::steps::line_of;
 use coordinator_core::Coordinator;
-use history_text::{Cause, Entry, Names, Node, Sent, note_of, write_entry};
-use seata_types::{Input, List, Message, NoMemory, Outgoing, Place, Step, Xid};
-use std::alloc::Global;
+use history_text::Node;
+use seata_types::{Input, Message, Place, Xid};
 use std::test::Fail;
 
 const XID: Xid = Xid(1);
@@ -65,38 +65,6 @@ fn input(given: Given) -> Input {
     }
 }
 
-fn sent_of(sent: Option<Outgoing>) -> Option<Sent> {
-    match sent {
-        Some(Outgoing { to, message }) => Some(Sent {
-            to,
-            note: note_of(message),
-        }),
-        None => None,
-    }
-}
-
-fn entry_of(step: Step) -> Entry {
-    let Step { act, sent } = step;
-    Entry {
-        stamp: 1,
-        place: Place::Tc,
-        now: 0,
-        cause: Cause::Turn,
-        act,
-        sent: sent_of(sent),
-    }
-}
-
-/// The line of a step of the coordinator.
-fn line_of(alloc: Global, step: Step) -> Result<String, NoMemory> {
-    let names = Names {
-        resources: List::of(Vec::new(alloc)),
-        managers: List::of(Vec::new(alloc)),
-    };
-    let entry = entry_of(step);
-    write_entry(alloc, &entry, &names)
-}
-
 #[test]
 fn answers_in_turn(rt: HostRuntime) -> Result<(), Fail> {
     let mut tc = Coordinator::new(rt.alloc(), 1000);
@@ -107,7 +75,7 @@ fn answers_in_turn(rt: HostRuntime) -> Result<(), Fail> {
         let Ok(step) = tc.step(rt.alloc(), input(given), 0) else {
             return Err(Fail::from("no memory"));
         };
-        let Ok(line) = line_of(rt.alloc(), step) else {
+        let Ok(line) = line_of(rt.alloc(), Place::Tc, step) else {
             return Err(Fail::from("no memory"));
         };
         assert_eq!(rt; line.as_str(), wanted);

@@ -1,4 +1,4 @@
-//! Tests of histories' lines, written and read, and of the coordinator, over their public calls.
+//! Tests of histories' lines, written and read, and of the coordinator and a manager, over their public calls.
 #![tactic(auto)]
 
 #[cfg(test)]
@@ -6,4 +6,8 @@ mod coordinator;
 #[cfg(test)]
 mod lines;
 #[cfg(test)]
+mod manager;
+#[cfg(test)]
 mod reading;
+#[cfg(test)]
+mod steps;

@@ -1,5 +1,5 @@
 -- What the trait `Node` promises, in the words of the rules of all nodes.
-use Rattle.std.specs.Prelude.{◌≡◌, ℕ, Bool, true, false, List, [], ◌∷◌, Some, None, Result, Ok, Err}
+use Rattle.std.specs.Prelude.{◌≡◌, ℕ, Bool, true, false, List, ◌∷◌, Some, None, Result, Ok, Err}
 use Rattle.seata_types.specs.declared.acts.Act.TheVariants as act
 use Rattle.seata_types.specs.declared.acts.Durable.{Durable}
 use Rattle.seata_types.specs.declared.errors.Full.{Full}
@@ -35,20 +35,9 @@ IsAboutNoBranch (message.BranchRollbacked xid branch status stmt) = ⊥
 IsAboutNoBranch (message.LockQuery resource ticket check) = ⊥
 IsAboutNoBranch _ = Unit {0}
 
--- no status that was asked for
-abbrev pub TellsNoStatus : Message → Type 0
-TellsNoStatus (message.StatusAnswer xid status) = ⊥
-TellsNoStatus _ = Unit {0}
-
-abbrev pub IsServedByManager : Input → Type 0
-IsServedByManager (input.Message from heard) = TellsNoStatus heard
-IsServedByManager _ = Unit {0}
-
--- what the nodes of today answer by the rules: the coordinator has no branches; a manager has no calls, and doesn't ask
--- for the status at its end
+-- what the nodes of today answer by the rules: the coordinator has no branches, and a manager answers every input
 abbrev pub IsServed : Role → Input → Type 0
 IsServed (Coordinator times past) (input.Message from heard) = IsAboutNoBranch heard
-IsServed (Manager settings) given = (settings.calls ≡ []) × (settings.poll ≡ false) × IsServedByManager given
 IsServed _ given = Unit {0}
 
 -- ---- what a step of a node promises

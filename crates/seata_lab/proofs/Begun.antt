@@ -1,18 +1,18 @@
 -- A run before its first step, and its steps one after another.
 use Rattle.coordinator_core.specs.declared.nodes.TheConstants.{NODE_STEPS}
+use Rattle.manager_core.specs.declared.nodes.Manager.{Manager}
 use Rattle.std.proofs.Common.{◌≡◌, ◌+◌, ◌<◌, ℕ, nat_lt, Bool, true, false, List, [], ◌∷◌, ◌++◌, length, slice_get, Some, refl, ap, sym, subst, ◌∙◌, arith, length-append}
 use Rattle.std.proofs.lemmas.Bool.Decides.{nat_tests}
 use Rattle.std.proofs.lemmas.List.{length-map}
 use Rattle.std.proofs.lemmas.Option.{same_Some, slice_get_within}
 use Rattle.scenario_reader.specs.declared.scenarios.ManagerDef.{ManagerDef}
-use Rattle.seata_lab.specs.declared.managers.Manager.{Manager}
 use Rattle.scenario_reader.specs.declared.scenarios.Scenario.{Scenario}
 use Rattle.coordinator_core.specs.Standing.{StandsFor, retry_of, steps_of}
 use Rattle.history_rules.specs.Histories.{Moment}
 use Rattle.history_text.specs.History.{IsRun}
-use Rattle.history_text.specs.Worlds.{item_of, settings_of}
+use Rattle.history_text.specs.Worlds.{item_of}
 use Rattle.seata_lab.specs.declared.runner.Run.{Run}
-use Rattle.seata_lab.specs.Runs.{AreManagers, CanRun, IsNew, IsManagerOf, Plays, quiet_settings}
+use Rattle.seata_lab.specs.Runs.{AreManagers, CanRun, IsNew, IsManagerOf, Plays}
 use Rattle.seata_lab.proofs.Histories.{snoc_below, snoc_end}
 
 -- the first managers are those of the first definitions
@@ -53,7 +53,7 @@ plays_nothing s r can fresh retry steps managers letters entries time = record {
     retry = retry;
     able = omega (arith, steps);
     count = managers.count;
-    managed = λ k def at. new k def (can.quiet k def at) (managers.each k def at);
+    managed = λ k def at. new k def (managers.each k def at);
   };
   printed = entries;
   sent = letters;
@@ -64,14 +64,9 @@ plays_nothing s r can fresh retry steps managers letters entries time = record {
   post = tt;
 }
   where
-    as_is : (k : ℕ) (def : ManagerDef) → def.calls ≡ [] → def.poll ≡ false → quiet_settings s.lock_tries (k + 1) def ≡ settings_of s.lock_tries (k + 1) def
-    as_is k def calls poll =
-        ap (λ c. record { number = k + 1; timeout = def.timeout; tries = s.lock_tries; calls = c; ending = def.ending; silent = def.silent; poll = false }) (sym calls)
-        ∙ ap (λ p. record { number = k + 1; timeout = def.timeout; tries = s.lock_tries; calls = def.calls; ending = def.ending; silent = def.silent; poll = p }) (sym poll)
-
-    new : (k : ℕ) (def : ManagerDef) → (def.calls ≡ []) × (def.poll ≡ false) → (m : Manager) × (slice_get r.managers.items k ≡ Some m) × IsNew s.lock_tries (k + 1) def m
+    new : (k : ℕ) (def : ManagerDef) → (m : Manager) × (slice_get r.managers.items k ≡ Some m) × IsNew s.lock_tries (k + 1) def m
         → (m : Manager) × (slice_get r.managers.items k ≡ Some m) × IsManagerOf s [] (k + 1) def m
-    new k def (calls, poll) (m, at, is) = (m, at, record { stands = is.stands; same = is.same ∙ as_is k def calls poll; able = let able = is.able in omega (arith, able) })
+    new k def (m, at, is) = (m, at, record { stands = is.stands; same = is.same; able = let able = is.able in omega (arith, able) })
 
 -- a run of the whole schedule made a run of the scenario
 pub whole_run : (s : Scenario) (r : Run) (ms : List Moment) → Plays s r ms → length ms ≡ length s.schedule → IsRun s ms

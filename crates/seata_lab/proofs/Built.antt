@@ -1,8 +1,8 @@
 -- What holds of a scenario all of which can be run, and that no other scenario has the same bytes.
-use Rattle.std.proofs.Common.{◌≡◌, ◌≤◌, ◌<◌, ◌+◌, ℕ, zero, suc, Bool, true, false, List, [], ◌∷◌, ◌++◌, length, slice_get, get_or, map, All, position, Option, Some, None, option_map, Result, Ok, Err, refl, ap, sym, subst, ◌∙◌, arith}
+use Rattle.std.proofs.Common.{◌≡◌, ◌≤◌, ℕ, zero, suc, Bool, true, false, List, [], ◌∷◌, length, slice_get, get_or, map, All, position, Option, Some, None, option_map, Result, Ok, Err, refl, ap, sym, subst, ◌∙◌, arith}
 use Rattle.std.proofs.lemmas.Grind.{common_steps}
 use Rattle.std.proofs.lemmas.List.Sums.{fails_before_first}
-use Rattle.std.proofs.lemmas.Option.{same_Some, slice_get_within, get_or_from_slice_get}
+use Rattle.std.proofs.lemmas.Option.{same_Some, slice_get_within, slice_get-get_or, get_or_from_slice_get}
 use Rattle.std.specs.List.{position_or_len}
 use Rattle.std.specs.Option.{option_or}
 use Rattle.seata_types.specs.declared.statements.Stmt.{Stmt}
@@ -17,14 +17,14 @@ use Rattle.scenario_reader.specs.declared.scenarios.ResourceDef.{ResourceDef}
 use Rattle.scenario_reader.specs.declared.scenarios.Scenario.{Scenario}
 use Rattle.scenario_reader.specs.declared.scenarios.ScheduleItem.{ScheduleItem}
 use Rattle.scenario_reader.specs.Runnable.{FitsNodes, IsManager, IsRunnable}
-use Rattle.history_rules.specs.Schedules.{Item, singles, singles_of}
+use Rattle.history_rules.specs.Schedules.{singles, singles_of}
 use Rattle.history_text.proofs.Worlds.{resources_of-none}
-use Rattle.history_text.specs.Worlds.{item_of, items_of}
+use Rattle.history_text.specs.Worlds.{item_of}
 use Rattle.seata_lab.specs.declared.unbuilt.Unbuilt.{Unbuilt}
 use Rattle.seata_lab.specs.declared.unbuilt.Unbuilt.TheVariants as part
 use Rattle.seata_lab.specs.declared.runner.Run.{Run}
-use Rattle.seata_lab.specs.Unbuilt.{first_unbuilt, forget_part, resource_part, manager_part, managers_part, call_part, poll_part, local_part, step_part, is_unbuilt, IsBuilt}
-use Rattle.seata_lab.specs.Runs.{CanRun, Fits}
+use Rattle.seata_lab.specs.Unbuilt.{first_unbuilt, forget_part, resource_part, managers_part, local_part, step_part, is_unbuilt, IsBuilt}
+use Rattle.seata_lab.specs.Runs.{CanRun, Fits, HasNoCalls}
 
 -- ---- a scenario all of which can be run
 
@@ -35,19 +35,6 @@ neither (Some p) b e = absurd (let no : Some p ≡ None = e in cc)
 no_forgetting : (ticks : ℕ) → forget_part ticks ≡ None → ticks ≡ 0
 no_forgetting zero e = refl
 no_forgetting (suc ticks) e = absurd (let no : Some part.Forget ≡ None = e in cc)
-
-no_poll : (k : ℕ) (poll : Bool) → poll_part k poll ≡ None → poll ≡ false
-no_poll k false e = refl
-no_poll k true e = absurd (let no : Some (part.Poll k) ≡ None = e in cc)
-
--- the same of each manager
-no_polls : (n : ℕ) (defs : List ManagerDef) → managers_part n defs ≡ None → (k : ℕ) (def : ManagerDef) → slice_get defs k ≡ Some def → def.poll ≡ false
-no_polls n [] e k def at = absurd (let no : None ≡ Some def = at in cc)
-no_polls n (first ∷ defs) e zero def at =
-    let same = same_Some first def at in
-    let here = neither (manager_part n first) (managers_part (n + 1) defs) e in
-    ap (λ (d : ManagerDef). d.poll) (sym same) ∙ no_poll n first.poll (neither (call_part n first.calls) (poll_part n first.poll) here.0).1
-no_polls n (first ∷ defs) e (suc k) def at = no_polls (n + 1) defs (neither (manager_part n first) (managers_part (n + 1) defs) e).1 k def at
 
 -- where there are no resources, there are no calls
 no_calls : (calls : List (ℕ × Work)) → All (IsCall []) calls → calls ≡ []
@@ -84,7 +71,6 @@ all_built items e = position-None is_unbuilt items (none_found (position is_unbu
 record HasParts (s : Scenario) : Type 0 where
   pub forget : s.forget ≡ 0
   pub resources : length s.resources ≡ 0
-  pub polls : (k : ℕ) (def : ManagerDef) → slice_get s.managers k ≡ Some def → def.poll ≡ false
   pub locals : length s.locals ≡ 0
   pub steps : All (λ item. is_unbuilt item ≡ false) s.schedule
 
@@ -101,7 +87,6 @@ has_parts s built =
     record {
       forget = no_forgetting s.forget some.0;
       resources = no_resources s.resources more.0;
-      polls = no_polls 0 s.managers users.0;
       locals = no_locals s.locals rest.0;
       steps = all_built s.schedule rest.1;
     }
@@ -131,6 +116,9 @@ single_items (i ∷ items) built =
     rw (single_item i first, single_items items rest) refl
 
 -- the nodes of today can run it
+pub all_uncalled : (defs : List ManagerDef) → ((k : ℕ) (def : ManagerDef) → slice_get defs k ≡ Some def → HasNoCalls def) → All HasNoCalls defs
+all_uncalled defs each k d below = each k (get_or defs k d) (slice_get-get_or defs k d below)
+
 pub can_run : (s : Scenario) → IsRunnable s → IsBuilt s → CanRun s
 can_run s runnable built =
     let has = has_parts s built in
@@ -138,7 +126,7 @@ can_run s runnable built =
     record {
       keeps = has.forget;
       alone = resources_of-none s none;
-      quiet = λ k def at. (calls none k def at, has.polls k def at);
+      uncalled = calls none;
       single = single_items s.schedule has.steps;
     }
   where

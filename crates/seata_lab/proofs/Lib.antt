@@ -11,5 +11,4 @@ mod Played
 mod Replayed
 mod Reported
 mod Safe
-mod Spoken
 mod Stepped

@@ -18,8 +18,6 @@ use Rattle.seata_types.specs.declared.messages.Step.{Step}
 use Rattle.seata_types.specs.declared.statuses.Ending.{Ending}
 use Rattle.seata_types.specs.declared.statuses.Ending.TheVariants as ending
 use Rattle.seata_types.specs.declared.statuses.Decision.TheVariants as how
-use Rattle.seata_types.specs.declared.statuses.GlobalStatus.{GlobalStatus}
-use Rattle.seata_types.specs.declared.statuses.GlobalStatus.TheVariants as status
 use Rattle.scenario_reader.specs.declared.scenarios.ManagerDef.{ManagerDef}
 use Rattle.scenario_reader.specs.declared.scenarios.Scenario.{Scenario}
 use Rattle.durable_records.specs.declared.coordinators.SessionRecord.{SessionRecord}
@@ -30,23 +28,23 @@ use Rattle.history_rules.specs.Own.{Event, Given, Own, still, sends}
 use Rattle.history_rules.specs.Devices.{is_down, calls_left}
 use Rattle.history_rules.specs.CoordinatorMemory.{is_past, late_one, due_one, old_one}
 use Rattle.history_rules.specs.CoordinatorRules.{xid_of, turn_answer, due_answer, old_answer, begin_answer, commit_answer, rollback_answer, message_answer, coordinator_answer, decided_status, next_asked}
-use Rattle.history_rules.specs.ManagerRules.{Settings, is_silent, speaks, end_message, receiver, turn_answer as manager_turn, waiting_answer, message_answer as manager_hears, closed_answer, ended_by, goes_on, if_same, manager_answer, sent_count, busy_count, is_closed, last_sent, sent_after}
+use Rattle.history_rules.specs.ManagerRules.{Settings, is_silent, speaks, end_message, receiver, turn_answer as manager_turn, closed_turn, waiting_answer, message_answer as manager_hears, closed_answer, ended_by, goes_on, if_same, manager_answer, sent_count, busy_count, is_closed, last_sent, sent_after}
 use Rattle.history_rules.specs.Nodes.{Role, Happens, no_past, role_at, happens}
 use Rattle.history_rules.specs.Nodes.{Coordinator as CoordinatorRole, Manager as ManagerRole}
 use Rattle.history_rules.specs.Histories.{Moment, HappensAt, own, own_if, same_place}
 use Rattle.history_rules.specs.Histories.{Cause as Reason}
 use Rattle.history_text.proofs.Worlds.{slice_get-managers}
-use Rattle.history_text.specs.Promises.{TakesStep, IsServed, IsAboutNoBranch, TellsNoStatus}
+use Rattle.history_text.specs.Promises.{TakesStep, IsServed, IsAboutNoBranch}
 use Rattle.history_text.specs.Worlds.{settings_of, times_of, world_of}
 use Rattle.history_text.proofs.Served.{happens_plain}
 use Rattle.coordinator_core.proofs.Facts.{IsPlain, stands_plain, none_asked}
 use Rattle.coordinator_core.specs.Tracks.{AreSimple, records}
 use Rattle.coordinator_core.specs.Standing.{StandsFor, retry_of, role_of, steps_of}
 use Rattle.coordinator_core.specs.declared.nodes.Coordinator.{Coordinator}
-use Rattle.seata_lab.specs.ManagerStanding.{StandsFor as ManagerStandsFor, settings, steps_of as manager_steps_of}
-use Rattle.seata_lab.specs.declared.managers.Manager.{Manager}
-use Rattle.seata_lab.proofs.Spoken.{manager_plain}
-use Rattle.seata_lab.specs.Runs.{AllPost, CanRun, HasHappened, StepsManager, IsGiven, IsNode, NamesNode, IsPost, IsManagerOf, Nodes, next}
+use Rattle.manager_core.specs.Standing.{StandsFor as ManagerStandsFor, settings, steps_of as manager_steps_of}
+use Rattle.manager_core.specs.declared.nodes.Manager.{Manager}
+use Rattle.manager_core.proofs.Facts.{manager_plain}
+use Rattle.seata_lab.specs.Runs.{AllPost, HasHappened, StepsManager, IsGiven, IsNode, NamesNode, IsPost, IsManagerOf, Nodes, next}
 
 module _ (s : Scenario) (c : Coordinator) (managers : List Manager) (ms : List Moment) where
   -- nothing happened at a node
@@ -98,9 +96,9 @@ module _ (s : Scenario) (c : Coordinator) (managers : List Manager) (ms : List M
   -- a manager took a step
   pub nodes_manager : (k : ℕ) (def : ManagerDef) (m m' : Manager) (given : Input) (now : ℕ) (why : Reason) (step : Step) → Nodes s c managers ms
       → slice_get s.managers k ≡ Some def → slice_get managers k ≡ Some m → IsManagerOf s ms (k + 1) def m
-      → TakesStep ManagerStandsFor (ManagerRole (settings m)) m m' given now step → IsServed (ManagerRole (settings m)) given → settings m' ≡ settings m → manager_steps_of m' + 1 ≡ manager_steps_of m
+      → TakesStep ManagerStandsFor (ManagerRole (settings m)) m m' given now step → settings m' ≡ settings m → manager_steps_of m' + 1 ≡ manager_steps_of m
       → Nodes s c (set managers k m') (next ms (place.Man (k + 1)) now why (Some (Given given)) step ∷ ms)
-  nodes_manager k def m m' given now why step t here at is takes served same left = record {
+  nodes_manager k def m m' given now why step t here at is takes same left = record {
     can = t.can;
     coordinated = t.coordinated;
     retry = t.retry;
@@ -116,7 +114,7 @@ module _ (s : Scenario) (c : Coordinator) (managers : List Manager) (ms : List M
       mine = grind (arith, nat_tests)
 
       here_now : ManagerStandsFor m' (own (place.Man (k + 1)) whole)
-      here_now = rw mine ((takes (own (place.Man (k + 1)) ms) is.stands served).1)
+      here_now = rw mine ((takes (own (place.Man (k + 1)) ms) is.stands tt).1)
 
       this : (j : ℕ) (other : ManagerDef) → slice_get s.managers j ≡ Some other → j ≡ k
           → (n : Manager) × (slice_get (set managers k m') j ≡ Some n) × IsManagerOf s whole (j + 1) other n
@@ -205,6 +203,8 @@ module _ (s : Scenario) where
     heard_posts now from (message.CommitStatus xid st) node named = none_posts place.Tc
     heard_posts now from (message.GlobalRollback xid) node named = rollback_posts from xid (may_decide rs xid.0) node
     heard_posts now from (message.RollbackStatus xid st) node named = none_posts place.Tc
+    heard_posts now from (message.GlobalStatus xid) node named = tells from (message.StatusAnswer xid (status_of rs xid.0)) node tt
+    heard_posts now from (message.StatusAnswer xid st) node named = none_posts place.Tc
     heard_posts now from _ node named = absurd named
 
   -- what the coordinator sends goes to nodes
@@ -228,26 +228,13 @@ module _ (s : Scenario) where
       by (message.CommitStatus xid st) named = tt
       by (message.GlobalRollback xid) named = tt
       by (message.RollbackStatus xid st) named = tt
+      by (message.GlobalStatus xid) named = tt
+      by (message.StatusAnswer xid st) named = tt
       by _ named = absurd named
   coordinator_served retry (input.Local number) g = tt
   coordinator_served retry (input.Outside number) g = tt
 
-  manager_served : (m : Settings) (given : Input) → m.calls ≡ [] → m.poll ≡ false → IsGiven s given → IsServed (ManagerRole m) given
-  manager_served m input.Turn calls poll g = (calls, poll, tt)
-  manager_served m (input.Message from heard) calls poll g = (calls, poll, by heard g.1)
-    where
-      by : (heard : Message) → NamesNode s heard → TellsNoStatus heard
-      by (message.Begin m timeout) named = tt
-      by (message.Begun xid) named = tt
-      by (message.GlobalCommit xid) named = tt
-      by (message.CommitStatus xid st) named = tt
-      by (message.GlobalRollback xid) named = tt
-      by (message.RollbackStatus xid st) named = tt
-      by _ named = absurd named
-  manager_served m (input.Local number) calls poll g = (calls, poll, tt)
-  manager_served m (input.Outside number) calls poll g = (calls, poll, tt)
-
-  -- a manager without calls and questions
+  -- a manager without calls
   module _ (m : Settings) (node : IsNode s (place.Man m.number)) (count busy : ℕ) where
     speaks_posts : (done : Act) (msg : Message) → NamesNode s msg → receiver msg ≡ place.Tc → SendsPost (place.Man m.number) (speaks m count busy done msg)
     speaks_posts done msg named to = by (is_silent m.silent count)
@@ -264,55 +251,62 @@ module _ (s : Scenario) where
     goes_to (message.CommitStatus xid st) named = refl
     goes_to (message.GlobalRollback xid) named = refl
     goes_to (message.RollbackStatus xid st) named = refl
+    goes_to (message.GlobalStatus xid) named = refl
+    goes_to (message.StatusAnswer xid st) named = refl
     goes_to _ named = absurd named
 
     ending_named : (ends : Ending) (xid : Xid) → NamesNode s (end_message ends xid)
     ending_named ending.Commit xid = tt
     ending_named ending.Rollback xid = tt
 
-    turns_post : (closed : Bool) (last : Option Message) → m.poll ≡ false → ((msg : Message) → last ≡ Some msg → NamesNode s msg)
+    polls_post : (asks : Bool) (asked : Option Xid) → SendsPost (place.Man m.number) (closed_turn m count busy asks asked)
+    polls_post true (Some xid) = speaks_posts act.Polls (message.GlobalStatus xid) tt refl
+    polls_post true None = none_posts (place.Man m.number)
+    polls_post false asked = none_posts (place.Man m.number)
+
+    turns_post : (closed : Bool) (last : Option Message) → ((msg : Message) → last ≡ Some msg → NamesNode s msg)
         → SendsPost (place.Man m.number) (manager_turn m count busy closed last)
-    turns_post true last poll named = rw poll (none_posts (place.Man m.number))
-    turns_post false None poll named = speaks_posts act.Starts (message.Begin m.number m.timeout) node refl
-    turns_post false (Some msg) poll named = speaks_posts act.Repeats msg (named msg refl) (goes_to msg (named msg refl))
+    turns_post true last named = polls_post m.poll (ended_by last)
+    turns_post false None named = speaks_posts act.Starts (message.Begin m.number m.timeout) node refl
+    turns_post false (Some msg) named = speaks_posts act.Repeats msg (named msg refl) (goes_to msg (named msg refl))
 
     begun_posts : (xid : Xid) → m.calls ≡ [] → SendsPost (place.Man m.number) (goes_on m count busy xid 0)
     begun_posts xid calls = rw calls (speaks_posts act.GoesOn (end_message m.ending xid) (ending_named m.ending xid) (goes_to (end_message m.ending xid) (ending_named m.ending xid)))
 
-    same_posts : (b : Bool) (now_status : GlobalStatus) → SendsPost (place.Man m.number) (if_same m count busy b (still (act.Closes now_status)))
-    same_posts true now_status = none_posts (place.Man m.number)
-    same_posts false now_status = none_posts (place.Man m.number)
+    same_posts : (b : Bool) (done : Act) → SendsPost (place.Man m.number) (if_same m count busy b (still done))
+    same_posts true done = none_posts (place.Man m.number)
+    same_posts false done = none_posts (place.Man m.number)
 
-    learned_posts : (asked : Option Xid) (heard : Message) → NamesNode s heard → SendsPost (place.Man m.number) (closed_answer m count busy asked heard)
-    learned_posts None heard named = none_posts (place.Man m.number)
-    learned_posts (Some asked) (message.StatusAnswer xid st) named = absurd named
-    learned_posts (Some asked) _ named = none_posts (place.Man m.number)
+    learned_posts : (asked : Option Xid) (heard : Message) → SendsPost (place.Man m.number) (closed_answer m count busy asked heard)
+    learned_posts None heard = none_posts (place.Man m.number)
+    learned_posts (Some asked) (message.StatusAnswer xid st) = same_posts (asked.0 == xid.0) (act.Learns st)
+    learned_posts (Some asked) _ = none_posts (place.Man m.number)
 
     waiting_posts : (last : Option Message) (heard : Message) → m.calls ≡ [] → ((msg : Message) → last ≡ Some msg → NamesNode s msg)
         → SendsPost (place.Man m.number) (waiting_answer m count busy last heard)
     waiting_posts None heard calls named = none_posts (place.Man m.number)
     waiting_posts (Some (message.Begin number timeout)) (message.Begun xid) calls named = begun_posts xid calls
     waiting_posts (Some (message.Begin number timeout)) _ calls named = none_posts (place.Man m.number)
-    waiting_posts (Some (message.GlobalCommit asked)) (message.CommitStatus xid st) calls named = same_posts (asked.0 == xid.0) st
+    waiting_posts (Some (message.GlobalCommit asked)) (message.CommitStatus xid st) calls named = same_posts (asked.0 == xid.0) (act.Closes st)
     waiting_posts (Some (message.GlobalCommit asked)) _ calls named = none_posts (place.Man m.number)
-    waiting_posts (Some (message.GlobalRollback asked)) (message.RollbackStatus xid st) calls named = same_posts (asked.0 == xid.0) st
+    waiting_posts (Some (message.GlobalRollback asked)) (message.RollbackStatus xid st) calls named = same_posts (asked.0 == xid.0) (act.Closes st)
     waiting_posts (Some (message.GlobalRollback asked)) _ calls named = none_posts (place.Man m.number)
     waiting_posts (Some (message.Call xid number resource c w)) heard calls named = absurd (named (message.Call xid number resource c w) refl)
     waiting_posts (Some _) heard calls named = none_posts (place.Man m.number)
 
-    heards_post : (closed : Bool) (last : Option Message) (heard : Message) → m.calls ≡ [] → NamesNode s heard
+    heards_post : (closed : Bool) (last : Option Message) (heard : Message) → m.calls ≡ []
         → ((msg : Message) → last ≡ Some msg → NamesNode s msg) → SendsPost (place.Man m.number) (manager_hears m count busy closed last heard)
-    heards_post true last heard calls is named = learned_posts (ended_by last) heard is
-    heards_post false last heard calls is named = waiting_posts last heard calls named
+    heards_post true last heard calls named = learned_posts (ended_by last) heard
+    heards_post false last heard calls named = waiting_posts last heard calls named
 
   -- what a manager sends goes to the coordinator
-  pub manager_posts : (m : Settings) → IsNode s (place.Man m.number) → m.calls ≡ [] → m.poll ≡ false → (os : List Own) (given : Input) → IsGiven s given
+  pub manager_posts : (m : Settings) → IsNode s (place.Man m.number) → m.calls ≡ [] → (os : List Own) (given : Input)
       → ((msg : Message) → last_sent os ≡ Some msg → NamesNode s msg) → SendsPost (place.Man m.number) (manager_answer m os given)
-  manager_posts m node calls poll os input.Turn g named = turns_post m node (sent_count os) (busy_count os) (is_closed os) (last_sent os) poll named
-  manager_posts m node calls poll os (input.Message from heard) g named =
-      heards_post m node (sent_count os) (busy_count os) (is_closed os) (last_sent os) heard calls g.1 named
-  manager_posts m node calls poll os (input.Local number) g named = none_posts (place.Man m.number)
-  manager_posts m node calls poll os (input.Outside number) g named = none_posts (place.Man m.number)
+  manager_posts m node calls os input.Turn named = turns_post m node (sent_count os) (busy_count os) (is_closed os) (last_sent os) named
+  manager_posts m node calls os (input.Message from heard) named =
+      heards_post m node (sent_count os) (busy_count os) (is_closed os) (last_sent os) heard calls named
+  manager_posts m node calls os (input.Local number) named = none_posts (place.Man m.number)
+  manager_posts m node calls os (input.Outside number) named = none_posts (place.Man m.number)
 
 -- two managers of one role have the same settings
 abbrev role_settings : Settings → Role → Settings
@@ -431,21 +425,15 @@ module _ (s : Scenario) (c : Coordinator) (managers : List Manager) (ms : List M
           takes : TakesStep ManagerStandsFor (ManagerRole (settings m)) m st.after given now step
           takes = subst (λ b. TakesStep ManagerStandsFor (ManagerRole (settings b)) b st.after given now step) same_manager st.takes
 
-          quiet : (def.calls ≡ []) × (def.poll ≡ false)
-          quiet = t.can.quiet k def here
-
-          served : IsServed (ManagerRole (settings m)) given
-          served = manager_served s (settings m) given refl refl g
-
           answered : step ≡ happens (ManagerRole wanted) owns now false false (Given given)
-          answered = (takes owns is.stands served).0 ∙ ap (λ w. happens (ManagerRole w) owns now false false (Given given)) is.same
+          answered = (takes owns is.stands tt).0 ∙ ap (λ w. happens (ManagerRole w) owns now false false (Given given)) is.same
 
           happened : Happens (ManagerRole wanted) owns now (Given given) step
           happened = record { fault = false; keeps = false; comes = tt; done = answered }
 
           nodes : Nodes s c managers' (next ms (place.Man (k + 1)) now why (Some (Given given)) step ∷ ms)
           nodes = subst (λ l. Nodes s c l (next ms (place.Man (k + 1)) now why (Some (Given given)) step ∷ ms)) (sym st.changed)
-              (nodes_manager s c managers ms k def m st.after given now why step t here there is takes served (st.same ∙ ap settings same_manager) (st.counted ∙ ap manager_steps_of same_manager))
+              (nodes_manager s c managers ms k def m st.after given now why step t here there is takes (st.same ∙ ap settings same_manager) (st.counted ∙ ap manager_steps_of same_manager))
 
           self : IsNode s (place.Man (k + 1))
           self = (ManagerRole wanted, role_of_manager s k def here)
@@ -454,7 +442,7 @@ module _ (s : Scenario) (c : Coordinator) (managers : List Manager) (ms : List M
           plain = manager_plain m owns is.stands
 
           posts : AllPost s ms → (out : Outgoing) → step.sent ≡ Some out → IsPost s (place.Man (k + 1)) out.to out.message
-          posts post out e = manager_posts s wanted self quiet.0 quiet.1 owns given g
+          posts post out e = manager_posts s wanted self (t.can.uncalled k def here) owns given
               (λ msg last. last_named s ms post (place.Man (k + 1)) msg last) out
               (ap (λ (d : Step). d.sent) (sym (answered ∙ happens_plain (ManagerRole wanted) owns now given plain.0 plain.1)) ∙ e)
 

@@ -1,6 +1,4 @@
 pub mod Unbuilt
-pub mod Talks
-pub mod ManagerStanding
 pub mod Streams
 pub mod Runs
 pub mod Sessions

@@ -16,40 +16,45 @@ use Rattle.scenario_reader.specs.declared.scenarios.ScheduleItem.{ScheduleItem}
 use Rattle.scenario_reader.specs.Runnable.{FitsNodes}
 use Rattle.seata_lab.specs.Unbuilt.{is_unbuilt}
 use Rattle.history_rules.specs.Own.{Event, Given}
-use Rattle.history_rules.specs.ManagerRules.{Settings}
 use Rattle.history_rules.specs.Nodes.{Role, no_past, role_at}
 use Rattle.history_rules.specs.Nodes.{Manager as ManagerRole}
 use Rattle.history_rules.specs.Histories.{Moment, own, HappensAt, Legal}
 use Rattle.history_rules.specs.Histories.{Cause as Reason}
 use Rattle.history_rules.specs.Schedules.{Follows, clock, singles}
+use Rattle.history_law.specs.Safety.{IsSafeHistory}
 use Rattle.history_text.specs.declared.entries.Cause.{Cause}
 use Rattle.history_text.specs.declared.entries.Entry.{Entry}
 use Rattle.history_text.specs.Notes.{sent_of}
-use Rattle.history_text.specs.History.{cause_of, entries}
+use Rattle.history_text.specs.History.{entries}
 use Rattle.history_text.specs.Promises.{TakesStep}
 use Rattle.history_text.specs.Worlds.{items_of, resources_of, settings_of, world_of}
 use Rattle.frame_codec.specs.Limits.{IsFramable}
 use Rattle.coordinator_core.specs.Standing.{StandsFor, retry_of, steps_of}
 use Rattle.coordinator_core.specs.declared.nodes.Coordinator.{Coordinator}
-use Rattle.seata_lab.specs.ManagerStanding.{StandsFor as ManagerStandsFor, settings, steps_of as manager_steps_of}
-use Rattle.seata_lab.specs.declared.managers.Manager.{Manager}
+use Rattle.manager_core.specs.Standing.{StandsFor as ManagerStandsFor, settings, steps_of as manager_steps_of}
+use Rattle.manager_core.specs.declared.nodes.Manager.{Manager}
+use Rattle.manager_core.specs.declared.nodes.TheConstants.{NODE_STEPS as MANAGER_STEPS}
 use Rattle.seata_lab.specs.declared.runner.Delivery.{Delivery}
 use Rattle.seata_lab.specs.declared.runner.Letter.{Letter}
 use Rattle.seata_lab.specs.declared.runner.Run.{Run}
 
+-- a manager that makes no calls
+abbrev pub HasNoCalls : ManagerDef → Type 0
+HasNoCalls def = def.calls ≡ []
+
 -- what the nodes of today can run of a scenario: the coordinator forgets no transaction, there are no resources, no manager
--- makes calls or asks for the status at its end, and each member of the schedule is one step
+-- makes calls, and each member of the schedule is one step
 pub record CanRun (s : Scenario) : Type 0 where
   pub keeps : s.forget ≡ 0
   pub alone : resources_of s ≡ []
-  pub quiet : (k : ℕ) (def : ManagerDef) → slice_get s.managers k ≡ Some def → (def.calls ≡ []) × (def.poll ≡ false)
+  pub uncalled : (k : ℕ) (def : ManagerDef) → slice_get s.managers k ≡ Some def → HasNoCalls def
   pub single : singles (items_of s) ≡ items_of s
 
 -- a node stands at this place
 abbrev pub IsNode : Scenario → Place → Type 0
 IsNode s p = (role : Role) × (role_at (world_of s) no_past p ≡ Some role)
 
--- a Begin names a manager of the scenario, and no message is about branches, calls or a status that was asked for
+-- a Begin names a manager of the scenario, and no message is about branches or calls
 abbrev pub NamesNode : Scenario → Message → Type 0
 NamesNode s (message.Begin manager timeout) = IsNode s (place.Man manager)
 NamesNode s (message.Begun xid) = Unit {0}
@@ -57,6 +62,8 @@ NamesNode s (message.GlobalCommit xid) = Unit {0}
 NamesNode s (message.CommitStatus xid status) = Unit {0}
 NamesNode s (message.GlobalRollback xid) = Unit {0}
 NamesNode s (message.RollbackStatus xid status) = Unit {0}
+NamesNode s (message.GlobalStatus xid) = Unit {0}
+NamesNode s (message.StatusAnswer xid status) = Unit {0}
 NamesNode s _ = ⊥
 
 -- a message between nodes of the scenario
@@ -102,7 +109,7 @@ AllPost s (m ∷ ms) = AllPost s ms × ((out : Outgoing) → m.step.sent ≡ Som
 pub record IsManagerOf (s : Scenario) (ms : List Moment) (n : ℕ) (def : ManagerDef) (m : Manager) : Type 0 where
   pub stands : ManagerStandsFor m (own (place.Man n) ms)
   pub same : settings m ≡ settings_of s.lock_tries n def
-  pub able : NODE_STEPS ≤ manager_steps_of m + length ms
+  pub able : MANAGER_STEPS ≤ manager_steps_of m + length ms
 
 -- the k-th manager of a list is that of the scenario
 abbrev pub HasManager : Scenario → List Moment → ℕ → List Manager → Type 0
@@ -208,22 +215,20 @@ abbrev pub PlaysOn : Run → Run → ScheduleItem → Type 0
 PlaysOn old new step =
     (s : Scenario) (ms : List Moment) → Plays s old ms → slice_get s.schedule (length ms) ≡ Some step → (m : Moment) × Plays s new (m ∷ ms)
 
--- a manager of this number that makes no calls and doesn't ask for the status at its end
-abbrev pub quiet_settings : (tries number : ℕ) → ManagerDef → Settings
-quiet_settings tries n def =
-    record { number = n; timeout = def.timeout; tries = tries; calls = []; ending = def.ending; silent = def.silent; poll = false }
-
 -- the manager of this number, before it does anything, with these tries for a call
 pub record IsNew (tries n : ℕ) (def : ManagerDef) (m : Manager) : Type 0 where
   pub stands : ManagerStandsFor m []
-  pub same : settings m ≡ quiet_settings tries n def
-  pub able : manager_steps_of m ≡ NODE_STEPS
+  pub same : settings m ≡ settings_of tries n def
+  pub able : manager_steps_of m ≡ MANAGER_STEPS
 
 -- the managers of these definitions, before they do anything
 pub record AreManagers (tries : ℕ) (defs : List ManagerDef) (managers : List Manager) : Type 0 where
   pub count : length managers ≡ length defs
   pub each : (k : ℕ) (def : ManagerDef) → slice_get defs k ≡ Some def → (m : Manager) × (slice_get managers k ≡ Some m) × IsNew tries (k + 1) def m
 
--- the run made a history of the whole schedule
-abbrev pub HasPlayed : Scenario → Run → Type 0
-HasPlayed s r = (ms : List Moment) × Plays s r ms × (length ms ≡ length s.schedule)
+-- the run made a history of the whole schedule, which is safe
+pub record HasPlayed (s : Scenario) (r : Run) : Type 0 where
+  pub history : List Moment
+  pub plays : Plays s r history
+  pub whole : length history ≡ length s.schedule
+  pub safe : IsSafeHistory (world_of s) no_past history

@@ -1,5 +1,5 @@
 -- What of a scenario the program can't run yet, in the order in which a scenario is read.
-use Rattle.std.specs.Prelude.{◌≡◌, ℕ, zero, suc, ◌+◌, Bool, true, false, if◌then◌else◌, List, [], ◌∷◌, ◌++◌, position, Option, Some, None, option_map, codes}
+use Rattle.std.specs.Prelude.{◌≡◌, ℕ, zero, suc, ◌+◌, Bool, true, false, List, [], ◌∷◌, ◌++◌, position, Option, Some, None, option_map, codes}
 use Rattle.std.specs.Option.{option_or}
 use Rattle.std.specs.Fmt.{decimal}
 use Rattle.seata_types.specs.declared.statements.Stmt.{Stmt}
@@ -18,7 +18,6 @@ abbrev pub path_of : Unbuilt → List ℕ
 path_of part.Forget = codes "/forget"
 path_of part.Resources = codes "/resources"
 path_of (part.Call manager call) = codes "/managers/" ++ (decimal manager ++ (codes "/calls/" ++ decimal call))
-path_of (part.Poll manager) = codes "/managers/" ++ (decimal manager ++ codes "/poll")
 path_of part.Locals = codes "/locals"
 path_of (part.Step place) = codes "/schedule/" ++ decimal place
 
@@ -41,19 +40,10 @@ is_action (resource, work.Tcc action) = true
 abbrev pub call_part : ℕ → List (ℕ × Work) → Option Unbuilt
 call_part k calls = option_map (part.Call k) (position is_action calls)
 
--- a manager doesn't ask for the status of what it closed
-abbrev pub poll_part : ℕ → Bool → Option Unbuilt
-poll_part k true = Some (part.Poll k)
-poll_part k false = None
-
--- the k-th manager, counted from 0
-abbrev pub manager_part : ℕ → ManagerDef → Option Unbuilt
-manager_part k def = option_or (call_part k def.calls) (poll_part k def.poll)
-
 -- the managers from the k-th one on
 abbrev pub managers_part : ℕ → List ManagerDef → Option Unbuilt
 managers_part k [] = None
-managers_part k (def ∷ defs) = option_or (manager_part k def) (managers_part (k + 1) defs)
+managers_part k (def ∷ defs) = option_or (call_part k def.calls) (managers_part (k + 1) defs)
 
 -- there are no local transactions
 abbrev pub local_part : List (ℕ × List Stmt) → Option Unbuilt

@@ -10,7 +10,6 @@ mod frames;
 mod kept;
 mod laws;
 mod listings;
-mod managers;
 mod memory;
 mod replays;
 mod reports;

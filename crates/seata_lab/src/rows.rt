@@ -1,4 +1,4 @@
-//! The scenarios of `examples/` with their outputs, and two more; inputs that are refused, with their line.
+//! The scenarios of `examples/` with their outputs, and three more; inputs that are refused, with their line.
 
 pub const REPEATED_MESSAGES: [&str; 2] = [
     r#"{
@@ -136,6 +136,28 @@ pub const NOTHING: [&str; 2] = [
     r#"{"resources":[],"managers":[],"schedule":[]}"#,
     r#"entries
 sessions
+locks
+tables
+fences
+reads
+"#,
+];
+
+/// A manager that asks for the status once its transaction is closed.
+pub const POLLS: [&str; 2] = [
+    r#"{"resources":[],"managers":[{"name":"m1","calls":[],"end":"commit","poll":true}],"schedule":["turn m1","deliver 1","deliver 2","deliver 3","deliver 4","turn tc","turn m1","deliver 7","deliver 8"]}"#,
+    r#"entries
+1 m1 0 turn | starts | begin m1 60000 to tc
+2 tc 0 deliver 1 m1 | begun tc:1 | begun tc:1 to m1
+3 m1 0 deliver 2 tc | goes on | commit tc:1 to tc
+4 tc 0 deliver 3 m1 | decided tc:1 commit | commit-status tc:1 8 to m1
+5 m1 0 deliver 4 tc | closes 8 | -
+6 tc 0 turn | finished tc:1 9 | -
+7 m1 0 turn | polls | status-ask tc:1 to tc
+8 tc 0 deliver 7 m1 | told tc:1 9 | status tc:1 9 to m1
+9 m1 0 deliver 8 tc | learns 9 | -
+sessions
+tc:1 m1 9 Committed
 locks
 tables
 fences
@@ -329,8 +351,8 @@ pub const UNBUILT: [[&str; 2]; 9] = [
         "/resources",
     ],
     [
-        r#"{"resources":[],"managers":[{"name":"m1","calls":[],"end":"commit","poll":false},{"name":"m2","calls":[],"end":"commit","poll":true}],"schedule":["crash tc"]}"#,
-        "/managers/1/poll",
+        r#"{"resources":[],"managers":[{"name":"m1","calls":[],"end":"commit","poll":true}],"schedule":["turn m1","crash tc"]}"#,
+        "/schedule/1",
     ],
     [
         r#"{"resources":[],"managers":[],"locals":[],"stops":[["tc",1,0]],"schedule":["stop tc 1"]}"#,

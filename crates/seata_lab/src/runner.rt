@@ -4,10 +4,10 @@ ghost use Rattle.frame_codec.specs.Limits.{IsFramable};
 ghost use Rattle.history_text.specs.Notes as notes;
 ghost use Rattle.seata_lab.specs.Runs.{delivery_of};
 
-use crate::managers::Manager;
 use coordinator_core::Coordinator;
 use frame_codec::{Packet, encode};
 use history_text::{Cause, Entry, Node, Sent, note_of, still};
+use manager_core::Manager;
 use scenario_reader::ScheduleItem;
 use seata_types::{Act, Input, Message, NoMemory, NodeError, Outgoing, Place, Step};
 use std::alloc::Global;
@@ -55,7 +55,7 @@ impl Run {
     ghost use Rattle.seata_types.specs.declared.limits.TheConstants.{STEPS};
     ghost use Rattle.std.specs.Prelude.{◌≡◌, ◌+◌, ◌++◌, ◌∷◌, [], ◌<◌, ◌≤◌, ◌^◌, ℕ, List, length, slice_get, Option, Some, None, IfOk, OnOk, IfSome, option_map};
     ghost use Rattle.coordinator_core.specs.Standing.{StandsFor, retry_of, role_of, steps_of};
-    ghost use Rattle.seata_lab.specs.ManagerStanding.{steps_of as manager_steps_of};
+    ghost use Rattle.manager_core.specs.Standing.{steps_of as manager_steps_of};
     ghost use Rattle.history_text.specs.Promises.{TakesStep};
     ghost use Rattle.seata_types.specs.declared.acts.Act.TheVariants as acts;
     ghost use Rattle.seata_types.specs.declared.ids.Place.TheVariants as places;

@@ -17,8 +17,6 @@ pub enum Unbuilt {
     Resources,
     /// A call of the TCC mode.
     Call { manager: usize, call: usize },
-    /// A manager that asks for the status of what it closed.
-    Poll { manager: usize },
     /// Local transactions.
     Locals,
     /// A step other than a turn, a delivery and a wait.
@@ -33,7 +31,6 @@ pub fn put_path(out: &mut String, part: Unbuilt) -> Result<(), AllocError>
         Unbuilt::Forget => write!(out, "/forget"),
         Unbuilt::Resources => write!(out, "/resources"),
         Unbuilt::Call { manager, call } => write!(out, "/managers/{manager}/calls/{call}"),
-        Unbuilt::Poll { manager } => write!(out, "/managers/{manager}/poll"),
         Unbuilt::Locals => write!(out, "/locals"),
         Unbuilt::Step { place } => write!(out, "/schedule/{place}"),
     }
@@ -63,25 +60,12 @@ fn call_part(manager: usize, calls: &[(u16, Work)]) -> Option<Unbuilt>
     }
 }
 
-/// What can't be run of the manager at this place.
-fn manager_part(manager: usize, def: &ManagerDef) -> Option<Unbuilt>
-    ensures { result ≡ parts.manager_part manager def.now }
-{
-    if let Some(part) = call_part(manager, def.calls.as_slice()) {
-        return Some(part);
-    }
-    if def.poll {
-        return Some(Unbuilt::Poll { manager });
-    }
-    None
-}
-
 /// What can't be run of the managers.
 fn managers_part(managers: &[ManagerDef]) -> Option<Unbuilt>
     ensures { result ≡ parts.managers_part 0 managers.now }
 {
     for (k, def) in managers.iter().enumerate() {
-        if let Some(part) = manager_part(k, def) {
+        if let Some(part) = call_part(k, def.calls.as_slice()) {
             return Some(part);
         }
     }

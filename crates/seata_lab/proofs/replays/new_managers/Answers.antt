@@ -6,11 +6,11 @@ use Rattle.seata_lab.proofs.replays.new_managers.Goals as goal
 
 pub loop-k-preserved : goal.loop-k-preserved
 loop-k-preserved c =
-    let pushed : c.push.new.self.items ≡ c.loop-k.made.items ++ c.new-manager.result ∷ [] = grind (arith, common_steps) in
+    let pushed : c.push.new.self.items ≡ c.loop-k.made.items ++ c.in_ok-manager.manager ∷ [] = grind (arith, common_steps) in
     subst (λ l. AreFirst c.args.tries c.args.managers.now l (c.loop-k.k + 1)) (sym pushed)
-    (first_more c.args.tries c.args.managers.now c.loop-k.made.items c.loop-k.k c.index-managers-k.result c.new-manager.result c.loop-k.invariant
+    (first_more c.args.tries c.args.managers.now c.loop-k.made.items c.loop-k.k c.index-managers-k.result c.in_ok-manager.manager c.loop-k.invariant
     (slice_get_read c.args.managers.now _ c.loop-k.k _ refl c.loop-k-test.true c.index-managers-k.is)
-    (record { stands = c.new-manager.ensures.fresh; same = c.new-manager.ensures.settings; able = c.new-manager.ensures.steps }))
+    c.in_ok-manager.ensures)
 
 pub returns : goal.returns
 returns c =

@@ -1,8 +1,13 @@
-use Rattle.std.proofs.Common.{refl, subst}
-use Rattle.seata_lab.specs.Runs.{AreManagers}
+use Rattle.std.proofs.Common.{refl, subst, sym, All}
+use Rattle.seata_lab.specs.Runs.{AreManagers, HasNoCalls}
 use Rattle.seata_lab.proofs.Begun.{plays_nothing}
-use Rattle.seata_lab.proofs.Built.{can_run}
+use Rattle.seata_lab.proofs.Built.{can_run, all_uncalled}
 use Rattle.seata_lab.proofs.replays.new_run.Goals as goal
+
+pub new_managers-requires-clause-uncalled : goal.new_managers-requires-clause-uncalled
+new_managers-requires-clause-uncalled c =
+    let can = can_run c.args.scenario.now c.requires.runnable c.requires.built in
+    subst (All HasNoCalls) (sym c.as_slice.ensures) (all_uncalled c.args.scenario.now.managers can.uncalled)
 
 pub returns : goal.returns
 returns c =

@@ -2,6 +2,7 @@ use Rattle.std.proofs.Common.{◌∷◌, length, slice_get, sym, ap, ◌∙◌, 
 use Rattle.std.proofs.lemmas.Option.{slice_get-get_or}
 use Rattle.seata_lab.proofs.Built.{step_fits}
 use Rattle.seata_lab.proofs.Played.{size}
+use Rattle.seata_lab.proofs.Safe.{run_is_safe}
 use Rattle.seata_lab.proofs.replays.replay.Goals as goal
 
 pub play-requires-clause-short : goal.play-requires-clause-short
@@ -29,3 +30,15 @@ loop-step-preserved c =
     ∙ slice_get-get_or c.as_slice-step-items.result.now c.loop-step.step-index _ c.loop-step-test.true in
     let (m, more) = c.in_ok-play.ensures.plays c.args.scenario.now ms t at in
     (m ∷ ms, more, omega (arith, count))
+
+pub returns : goal.returns
+returns c =
+    let (ms, t, count) = c.loop-step.invariant in
+    let whole = ap length c.as_slice-step-items.ensures in
+    let end = c.loop-step.auto.step-index-end in
+    record {
+      history = ms;
+      plays = t;
+      whole = omega (arith, count, whole, end, c.loop-step-test.false);
+      safe = run_is_safe c.args.scenario.now ms c.requires.runnable t.legal;
+    }

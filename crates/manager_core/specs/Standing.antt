@@ -1,12 +1,12 @@
--- What the runner sees of a manager.
+-- What crates above see of a manager.
 use Rattle.std.specs.Prelude.{ℕ, List}
 use Rattle.history_rules.specs.Own.{Own}
 use Rattle.history_rules.specs.ManagerRules.{Settings}
-use Rattle.seata_lab.specs.declared.managers.Manager.{Manager}
-use Rattle.seata_lab.specs.Talks.{Tracks, settings_of}
+use Rattle.manager_core.specs.Tracks.{Tracks}
+use Rattle.manager_core.specs.declared.nodes.Manager.{Manager}
 
 abbrev pub settings : Manager → Settings
-settings m = settings_of m.talk
+settings m = m.talk.settings
 
 -- how many steps it can still make
 abbrev pub steps_of : Manager → ℕ

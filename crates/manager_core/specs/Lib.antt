@@ -1,0 +1,5 @@
+pub mod Within
+pub mod Calls
+pub mod Tracks
+pub mod Answers
+pub mod Standing
