@@ -1,0 +1,361 @@
+-- What the calls of a store say of lists of records.
+use Rattle.std.proofs.Common.{◌≡◌, ◌≢◌, ◌⊎◌, inl, inr, ◌==◌, ◌&&◌, ◌<◌, ◌+◌, ◌^◌, ℕ, Bool, true, false, if◌then◌else◌, List, [], ◌∷◌, ◌++◌, length, Option, Some, None, is_none, Result, Ok, Err, refl, sym, ap, subst, ◌∙◌, IsTrue, ◌↔◌, arith}
+use Rattle.std.specs.Prelude.{OnOk}
+use Rattle.disk_model.specs.Disk.{DiskState}
+use Rattle.seata_types.specs.declared.errors.Full.{Full}
+use Rattle.seata_types.specs.declared.errors.OpenError.{OpenError}
+use Rattle.seata_types.specs.declared.errors.OpenError.TheVariants as open_error
+use Rattle.seata_types.specs.declared.errors.StoreError.{StoreError}
+use Rattle.seata_types.specs.declared.errors.StoreError.TheVariants as store_error
+use Rattle.seata_types.specs.declared.ids.Xid.{Xid}
+use Rattle.seata_types.specs.declared.rows.RowKey.{RowKey}
+use Rattle.journal_checkpoint.specs.declared.types.Found.{Found}
+use Rattle.journal_checkpoint.specs.Pairs.{pair_reading}
+use Rattle.journal_checkpoint.specs.Images.{PairStandsFor, LeavesPairs, Either, with_record}
+use Rattle.journal_checkpoint.specs.Keeping.{KeepsPair, active_disk, first_disk, second_disk, disks}
+use Rattle.memory_store.specs.Meanings.{Meaning}
+use Rattle.memory_store.specs.Holdings.{held_in as held_by_found, memory_on, second_in, on_disk, of_pair}
+use Rattle.memory_store.specs.Settling.{IsWritable, settled, GoesOn, StandsOrSettled}
+use Rattle.memory_store.specs.Keeping.{Keeps, Takes, Falls, IsFullFor, ChangesMemory, IsDamage, IsRead, IsOf, IsBack, IsTold, machine_of, with_memory, found_of as store_found_of}
+use Rattle.memory_store.proofs.Replaying.{few_acts, rows_are_long}
+use Rattle.memory_store.proofs.TwinFacts.{end_is_small, pairs_weaker}
+use Rattle.durable_records.specs.declared.coordinators.SessionRecord.{SessionRecord}
+use Rattle.durable_records.specs.SessionOrder.{is_within}
+use Rattle.session_log.specs.declared.layouts.SnapshotLayout.TheVariants as layout
+use Rattle.session_log.specs.declared.keys.TheConstants.{ACTS}
+use Rattle.session_log.specs.declared.sessions.RegisterPlace.{RegisterPlace}
+use Rattle.session_log.specs.declared.sessions.Snapshot.{Snapshot}
+use Rattle.session_log.specs.Records.{FitsRecord, record_of, record_bytes}
+use Rattle.session_log.specs.SnapshotOf.{snapshot_of}
+use Rattle.session_log.proofs.SnapshotLaws.{snapshots_are_of_layouts}
+use Rattle.lock_table.specs.Locks.{Locks, locks, locked, if_other, first_locked, first_held}
+use Rattle.lock_table.specs.Answers.{FindsConflict}
+use Rattle.lock_table.specs.declared.errors.HoldError.{HoldError}
+use Rattle.lock_table.specs.declared.errors.HoldError.TheVariants as hold_error
+use Rattle.lock_table.proofs.Firsts.{found_first, none_first}
+use Rattle.session_memory.specs.Answers.{Grants}
+use Rattle.session_memory.specs.Holding.{held_in}
+use Rattle.session_memory.specs.Lookups.{status_in}
+use Rattle.session_memory.specs.Changes.{is_begin, is_new, are_free, after, may_come, granted_record}
+use Rattle.session_memory.proofs.Small.{and_both, nat_same}
+use Rattle.session_memory.proofs.StepLaws.{snapshot_after}
+use Rattle.session_memory.proofs.WritingLaws.{snapshot_written}
+use Rattle.session_store.specs.declared.errors.RegisterError.{RegisterError}
+use Rattle.session_store.specs.declared.errors.RegisterError.TheVariants as register_error
+use Rattle.session_store.specs.declared.machine.SessionMachine.{SessionMachine}
+use Rattle.session_store.specs.declared.sessions.Sessions.{Sessions}
+use Rattle.session_store.specs.Refusals.{of_hold}
+use Rattle.session_store.specs.Meaning.{acts_of, meaning_of, lawful}
+use Rattle.session_store.specs.Standing.{IsListOf, StandsForSessions}
+use Rattle.session_store.specs.Keeping.{managers_of, resources_of, known, twin, is_down, meaning, StandsFor, SameOpening, KeepsRecords, WithOrWithout, Adds, Loses, Makes, register_record, AreFree, Registers, IsRefused, IsNoDamage, GoesOnAs, BringsBack}
+use Rattle.session_store.proofs.ListLaws.{held_of_list, list_more, written_back}
+
+-- ---- small
+
+one_ok : {A E : Type 0} (r : Result A E) (x y : A) → r ≡ Ok x → r ≡ Ok y → x ≡ y
+one_ok r x y p q = cc
+
+-- what is known, as an answer
+abbrev known_ok : Snapshot → Result Snapshot ℕ
+known_ok s = Ok s
+
+pub same_opening : {D : Type 0} (old new : Sessions D) → machine_of new.store ≡ machine_of old.store → store_found_of new.store ≡ store_found_of old.store → SameOpening old new
+same_opening old new same place = record {
+  managers = ap (λ (k : SessionMachine). k.managers) same;
+  resources = ap (λ (k : SessionMachine). k.resources) same;
+  found = place;
+}
+
+pub same_sessions : {D : Type 0} (old new : Sessions D) → new.store ≡ old.store → new ≡ old
+same_sessions old new same = λ i. record { store = same i }
+
+-- ---- what is kept
+
+-- the parts of what is kept, in the words of the machine that it had before
+pub keeps_by : {D : Type 0} (state : D → DiskState) (k : SessionMachine) (rs : List SessionRecord) (s : Sessions D) (found : Found) → machine_of s.store ≡ k →
+    KeepsPair state found (twin s) → held_by_found (meaning_of k.managers k.resources) found ≡ Ok (known s) → IsListOf k.managers k.resources rs found → known s ≡ snapshot_of rs → KeepsRecords state rs s
+keeps_by state k rs s found same pair held list knows = record {
+  found = found;
+  store = record { pair = pair; held = subst (λ (q : SessionMachine). held_by_found (meaning_of q.managers q.resources) found ≡ known_ok (known s)) (sym same) held };
+  list = subst (λ (q : SessionMachine). IsListOf q.managers q.resources rs found) (sym same) list;
+  knows = knows;
+}
+
+-- one record more can be counted, since no disk has room for as many as can't be
+counts_more : {D : Type 0} (state : D → DiskState) (rs : List SessionRecord) (s : Sessions D) → KeepsRecords state rs s → length rs + 1 < 2 ^ 32
+counts_more state rs s k =
+    omega (
+      arith,
+      few_acts (meaning s) (lawful (managers_of s) (resources_of s)) k.found (known s) k.store.held,
+      rows_are_long k.found.records,
+      end_is_small state k.found (twin s) k.store.pair,
+      ap acts_of k.knows,
+    )
+
+-- ---- one record more
+
+module _ {D : Type 0} (state : D → DiskState) (old new : Sessions D) (r : SessionRecord) (body : List ℕ)
+    (fits : FitsRecord r) (is : body ≡ record_bytes r) (allowed : may_come (known old) r ≡ true) (within : is_within (managers_of old) (resources_of old) r ≡ true)
+    (machine : machine_of new.store ≡ machine_of old.store) (place : store_found_of new.store ≡ store_found_of old.store)
+    (any_moment : (found : Found) → KeepsPair state found (twin old) → LeavesPairs (disks state (twin old)) (disks state (twin new)) (Either found (with_record found body)))
+    (not_begun : (found : Found) → KeepsPair state found (twin old) → (calls : ℕ) → (state (active_disk (twin old))).counts.left ≡ Some calls → calls < 2 →
+    LeavesPairs (disks state (twin old)) (disks state (twin new)) (PairStandsFor found)) where
+  body_is : record_of body ≡ Some r
+  body_is = ap record_of is ∙ written_back r fits
+
+  module _ (rs : List SessionRecord) (k : KeepsRecords state rs old) where
+    more : IsListOf (managers_of old) (resources_of old) (r ∷ rs) (with_record k.found body)
+    more =
+        list_more (managers_of old) (resources_of old) rs k.found r body k.list (ap (λ (s : Snapshot). may_come s r) (sym k.knows) ∙ allowed) within body_is
+        (counts_more state rs old k)
+
+    -- the same in the words of what it is now
+    now_stands : (ls : List SessionRecord) (a b : List ℕ) → StandsFor old ls a b → StandsFor new ls a b
+    now_stands ls a b = subst (λ (q : SessionMachine). StandsForSessions q.managers q.resources ls a b) (sym machine)
+
+    stands_either : (a b : List ℕ) → Either k.found (with_record k.found body) a b → WithOrWithout new r rs a b
+    stands_either a b (inl pair) = inl (now_stands rs a b (record { found = k.found; pair = pair; list = k.list }))
+    stands_either a b (inr pair) = inr (now_stands (r ∷ rs) a b (record { found = with_record k.found body; pair = pair; list = more }))
+
+    leaves_either : LeavesPairs (disks state (twin old)) (disks state (twin new)) (WithOrWithout new r rs)
+    leaves_either = pairs_weaker (any_moment k.found k.store.pair) stands_either
+
+    leaves_old : (calls : ℕ) → (state (active_disk (twin old))).counts.left ≡ Some calls → calls < 2 → LeavesPairs (disks state (twin old)) (disks state (twin new)) (StandsFor new rs)
+    leaves_old calls left few =
+        pairs_weaker (not_begun k.found k.store.pair calls left few) (λ a b pair. now_stands rs a b (record { found = k.found; pair = pair; list = k.list }))
+
+    knows_more : known new ≡ after r (known old) → known new ≡ snapshot_of (r ∷ rs)
+    knows_more now = now ∙ ap (after r) k.knows ∙ sym (snapshot_after rs more.made.allowed.0 r more.made.allowed.1)
+
+    keeps_more : KeepsPair state (with_record k.found body) (twin new) → known new ≡ after r (known old) → KeepsRecords state (r ∷ rs) new
+    keeps_more pair now =
+        keeps_by state (machine_of old.store) (r ∷ rs) new (with_record k.found body) machine pair
+        (held_of_list (managers_of old) (resources_of old) (r ∷ rs) (with_record k.found body) more ∙ ap known_ok (sym (knows_more now))) more (knows_more now)
+
+  -- the disks have it, and it is known
+  pub adds : ((found : Found) → Keeps state (meaning old) found old.store → KeepsPair state (with_record found body) (twin new)) → known new ≡ after r (known old) → Takes state (twin old) (twin new) →
+      is_down new ≡ false → Adds state r old new
+  adds pair now took up = record {
+    knows = now;
+    keeps = λ rs k. keeps_more rs k (pair k.found k.store) now;
+    any_moment = leaves_either;
+    took = took;
+    up = up;
+    opening = same_opening old new machine place;
+  }
+
+  -- the disks failed
+  pub loses : known new ≡ after r (known old) → Falls state (twin old) (twin new) → is_down new ≡ true → Loses state r old new
+  loses now falls down = record {
+    knows = now;
+    any_moment = leaves_either;
+    not_begun = leaves_old;
+    falls = falls;
+    down = down;
+    opening = same_opening old new machine place;
+  }
+
+  -- ---- what adding a record answers
+
+  not_down : {A : Type 0} (b : Bool) → IsTrue b ↔ A → (A → ⊥) → b ≡ false
+  not_down true both never = absurd (never (both.0 refl))
+  not_down false both never = refl
+
+  pub makes : (result : Result (Unit {0}) StoreError) →
+      OnOk result ((found : Found) → Keeps state (meaning old) found old.store → Keeps state (meaning old) (with_record found body) new.store) →
+      ChangesMemory (meaning old) r result old.store new.store → OnOk result (Takes state (twin old) (twin new)) → (result ≡ Err store_error.Failed → Falls state (twin old) (twin new)) →
+      ((found : Found) (full : Full) → Keeps state (meaning old) found old.store → result ≡ Err (store_error.Full full) → IsFullFor state (length body) old.store full) →
+      IsTrue (is_down new) ↔ (result ≡ Err store_error.Failed) → Makes state r result old new
+  makes (Ok done) keeps memory took falls exact down =
+      adds (λ found kept. (keeps found kept).pair) memory took (not_down (is_down new) down (λ e. cc))
+  makes (Err store_error.Failed) keeps memory took falls exact down = loses memory (falls refl) (down.1 refl)
+  makes (Err (store_error.Full full)) keeps memory took falls exact down =
+      (same_sessions old new memory, λ found kept. subst (λ (bytes : List ℕ). IsFullFor state (length bytes) old.store full) is (exact found full kept refl))
+  makes (Err store_error.NoMemory) keeps memory took falls exact down = same_sessions old new memory
+
+-- ---- registrations
+
+-- of rows to hold and rows to check, where all are free the first ones are
+free_first_by : (ls : Locks) (x : Xid) (k : RowKey) (o : Option Xid) (all rest : Option (RowKey × Xid)) → if_other k x o all ≡ None → (all ≡ None → rest ≡ None) → if_other k x o rest ≡ None
+free_first_by ls x k None all rest e below = below e
+free_first_by ls x k (Some y) all rest e below = by (y.0 == x.0) e
+  where
+    by : (b : Bool) → (if b then all else Some (k, y)) ≡ None → (if b then rest else Some (k, y)) ≡ None
+    by true e = below e
+    by false e = e
+
+free_first : (ls : Locks) (x : Xid) (hold check : List RowKey) → first_locked ls x (hold ++ check) ≡ None → first_locked ls x hold ≡ None
+free_first ls x [] check e = refl
+free_first ls x (k ∷ ks) check e = free_first_by ls x k (locked ls k) (first_locked ls x (ks ++ check)) (first_locked ls x ks) e (free_first ls x ks check)
+
+-- a registration whose rows are free may come
+pub may_register : (s : Snapshot) (x : Xid) (place : RegisterPlace) (hold check : List RowKey) → is_begin (status_in s x.0) ≡ true → is_new s x place.resource place.call place.ticket place.kind ≡ true →
+    first_held (held_in s) x (hold ++ check) ≡ None → may_come s (register_record s x place hold) ≡ true
+may_register s x place hold check begin new free =
+    and_both (is_begin (status_in s x.0)) ((s.granted + 1 == s.granted + 1) && (is_new s x place.resource place.call place.ticket place.kind && are_free s x hold)) begin
+    (and_both (s.granted + 1 == s.granted + 1) (is_new s x place.resource place.call place.ticket place.kind && are_free s x hold) (nat_same (s.granted + 1) (s.granted + 1) refl)
+    (and_both (is_new s x place.resource place.call place.ticket place.kind) (are_free s x hold) new (ap is_none (free_first (locks (held_in s)) x hold check free))))
+
+-- the rows are taken, and the record of the branch goes to the disks
+module _ {D : Type 0} (state : D → DiskState) (old new : Sessions D) (x : Xid) (place : RegisterPlace) (hold check : List RowKey) (branch : ℕ) (body : List ℕ) (taken : Snapshot)
+    (numbered : branch ≡ (known old).granted + 1) (fits : FitsRecord (granted_record x branch place hold)) (is : body ≡ record_bytes (granted_record x branch place hold))
+    (begin : is_begin (status_in (known old) x.0) ≡ true) (fresh : is_new (known old) x place.resource place.call place.ticket place.kind ≡ true)
+    (within : is_within (managers_of old) (resources_of old) (register_record (known old) x place hold) ≡ true)
+    (grants : Grants (register_record (known old) x place hold) x hold check (known old) (Ok tt) taken) (now : known new ≡ taken)
+    (machine : machine_of new.store ≡ machine_of old.store) (opened : store_found_of new.store ≡ store_found_of old.store)
+    (any_moment : (found : Found) → KeepsPair state found (twin old) → LeavesPairs (disks state (twin old)) (disks state (twin new)) (Either found (with_record found body)))
+    (not_begun : (found : Found) → KeepsPair state found (twin old) → (calls : ℕ) → (state (active_disk (twin old))).counts.left ≡ Some calls → calls < 2 →
+    LeavesPairs (disks state (twin old)) (disks state (twin new)) (PairStandsFor found)) where
+  same_record : granted_record x branch place hold ≡ register_record (known old) x place hold
+  same_record = ap (λ (n : ℕ). granted_record x n place hold) numbered
+
+  next_fits : FitsRecord (register_record (known old) x place hold)
+  next_fits = subst (λ (r : SessionRecord). FitsRecord r) same_record fits
+
+  next_is : body ≡ record_bytes (register_record (known old) x place hold)
+  next_is = is ∙ ap (λ (r : SessionRecord). record_bytes r) same_record
+
+  may : may_come (known old) (register_record (known old) x place hold) ≡ true
+  may = may_register (known old) x place hold check begin fresh grants.0
+
+  pub branch_added : ((found : Found) → KeepsPair state found (twin old) → KeepsPair state (with_record found body) (twin new)) → Takes state (twin old) (twin new) → is_down new ≡ false →
+      AreFree old x (hold ++ check) × Adds state (register_record (known old) x place hold) old new
+  branch_added kept took up =
+      (grants.0, adds state old new (register_record (known old) x place hold) body next_fits next_is may within machine opened any_moment not_begun (λ found keeps. kept found keeps.pair) (now ∙ grants.1) took up)
+
+  pub branch_lost : Falls state (twin old) (twin new) → is_down new ≡ true →
+      (store_error.Failed ≢ store_error.NoMemory → AreFree old x (hold ++ check)) × Loses state (register_record (known old) x place hold) old new
+  branch_lost falls down =
+      (λ other. grants.0, loses state old new (register_record (known old) x place hold) body next_fits next_is may within machine opened any_moment not_begun (now ∙ grants.1) falls down)
+
+-- nothing changed
+module _ {D : Type 0} (state : D → DiskState) (s : Sessions D) (r : SessionRecord) (x : Xid) (rows : List RowKey) where
+  pub no_memory : Registers state r x rows (Err (register_error.Store store_error.NoMemory)) s s
+  no_memory = (λ other. absurd (other refl), refl)
+
+  pub refused : (body : List ℕ) (full : Full) (e : RegisterError) → body ≡ record_bytes r → ((found : Found) → Keeps state (meaning s) found s.store → IsFullFor state (length body) s.store full) →
+      IsRefused (known s) x rows full e → Registers state r x rows (Err e) s s
+  refused body full (register_error.Held key by) is exact why = (why, refl)
+  refused body full (register_error.Store (store_error.Full other)) is exact why =
+      (λ some. why.0, (refl, λ found kept. subst (λ (f : Full). IsFullFor state (length (record_bytes r)) s.store f) (sym why.1) (subst (λ (bytes : List ℕ). IsFullFor state (length bytes) s.store full) is (exact found kept))))
+  refused body full (register_error.Store store_error.NoMemory) is exact why = no_memory
+  refused body full (register_error.Store store_error.Failed) is exact why = absurd why
+
+-- rows of which another transaction holds one, or that can't be looked up
+pub first_refused : (s : Snapshot) (x : Xid) (hold check : List RowKey) (full : Full) (e : HoldError) → FindsConflict (locks (held_in s)) x hold (Err e) → IsRefused s x (hold ++ check) full (of_hold e)
+first_refused s x hold check full (hold_error.Held key by) found = found_first (locks (held_in s)) x hold check (key, by) found
+first_refused s x hold check full hold_error.NoMemory found = tt
+
+pub then_refused : (s : Snapshot) (x : Xid) (hold check : List RowKey) (full : Full) (e : HoldError) → first_held (held_in s) x hold ≡ None → FindsConflict (locks (held_in s)) x check (Err e) → IsRefused s x (hold ++ check) full (of_hold e)
+then_refused s x hold check full (hold_error.Held key by) none found = none_first (locks (held_in s)) x hold check none ∙ found
+then_refused s x hold check full hold_error.NoMemory none found = tt
+
+-- a branch that isn't granted changes nothing
+with_same : {D : Type 0} (s : Sessions D) (k : Snapshot) → k ≡ known s → s ≡ record { store = with_memory s.store k }
+with_same s k same = ap (λ (q : Snapshot). record { store = with_memory s.store q }) (sym same)
+
+pub not_granted : {D : Type 0} (state : D → DiskState) (s : Sessions D) (r : SessionRecord) (x : Xid) (hold check : List RowKey) (e : HoldError) (k : Snapshot) → Grants r x hold check (known s) (Err e) k →
+    Registers state r x (hold ++ check) (Err (of_hold e)) s (record { store = with_memory s.store k })
+not_granted state s r x hold check (hold_error.Held key by) k grants =
+    subst (Registers state r x (hold ++ check) (Err (register_error.Held key by)) s) (with_same s k grants.1) (grants.0, refl)
+not_granted state s r x hold check hold_error.NoMemory k grants =
+    subst (Registers state r x (hold ++ check) (Err (register_error.Store store_error.NoMemory)) s) (with_same s k grants) (no_memory state s r x (hold ++ check))
+
+-- ---- openings
+
+module _ (managers resources : ℕ) where
+  abbrev of : Meaning Snapshot SessionRecord
+  of = meaning_of managers resources
+
+  -- a list of records that two disks stand for is what is known of them
+  knows_list : (rs : List SessionRecord) (found : Found) (s : Snapshot) → IsListOf managers resources rs found → held_by_found of found ≡ Ok s → s ≡ snapshot_of rs
+  knows_list rs found s l held = one_ok (held_by_found of found) s (snapshot_of rs) held (held_of_list managers resources rs found l)
+
+  -- a snapshot that can be written is read back
+  settled_list : (rs : List SessionRecord) (found : Found) (s : Snapshot) → IsListOf managers resources rs found → held_by_found of found ≡ Ok s → IsWritable of s → IsListOf managers resources rs (settled of s)
+  settled_list rs found s l held w =
+      let knows = knows_list rs found s l held in
+      let back = snapshots_are_of_layouts.back layout.WithForgotten s (snapshot_written s w.can w.few w.sound) in record {
+        records = (rs, back ∙ ap (λ (t : Snapshot). Some t) knows, refl);
+        made = l.made;
+        few = λ t read. let same : s ≡ t = cc in subst (λ (u : Snapshot). u.acts < ACTS) same w.few;
+      }
+
+  module _ {D : Type 0} (state : D → DiskState) (a b : List ℕ) (s : Sessions D) (machine : machine_of s.store ≡ record { managers = managers; resources = resources }) where
+    pub read_keeps : IsRead state of a b s.store → (rs : List SessionRecord) → StandsForSessions managers resources rs a b → KeepsRecords state rs s
+    read_keeps is rs stands =
+        let same = one_ok (pair_reading a b) is.found stands.found is.stands stands.pair in
+        let list = subst (IsListOf managers resources rs) (sym same) stands.list in
+        keeps_by state (record { managers = managers; resources = resources }) rs s is.found machine is.keeps.pair is.keeps.held list (knows_list rs is.found (known s) list is.keeps.held)
+
+    kept_by : (found : Found) (rs : List SessionRecord) → IsListOf managers resources rs found → held_by_found of found ≡ Ok (known s) → KeepsPair state found (twin s) ⊎ (IsWritable of (known s) × KeepsPair state (settled of (known s)) (twin s)) →
+        KeepsRecords state rs s
+    kept_by found rs list held (inl pair) =
+        keeps_by state (record { managers = managers; resources = resources }) rs s found machine pair held list (knows_list rs found (known s) list held)
+    kept_by found rs list held (inr both) =
+        let knows = knows_list rs found (known s) list held in
+        let more = settled_list rs found (known s) list held both.0 in
+        keeps_by state (record { managers = managers; resources = resources }) rs s (settled of (known s)) machine both.1
+        (held_of_list managers resources rs (settled of (known s)) more ∙ ap known_ok (sym knows)) more knows
+
+    pub open_keeps : IsOf state of a b s.store → (rs : List SessionRecord) → StandsForSessions managers resources rs a b → KeepsRecords state rs s
+    open_keeps is rs stands =
+        let same = one_ok (pair_reading a b) is.found stands.found is.stands stands.pair in
+        kept_by is.found rs (subst (IsListOf managers resources rs) (sym same) stands.list) is.held is.kept
+
+  -- bytes that stand for records aren't damaged
+  memory_is : (a b : List ℕ) (rs : List SessionRecord) → StandsForSessions managers resources rs a b → memory_on of a b ≡ Ok (snapshot_of rs)
+  unfolding memory_on
+  memory_is a b rs stands =
+      ap (of_pair of (second_in a b)) stands.pair ∙ ap (on_disk (second_in a b)) (held_of_list managers resources rs stands.found stands.list)
+
+  pub not_damaged : (a b : List ℕ) (e : OpenError) → IsDamage of a b e → (rs : List SessionRecord) → StandsForSessions managers resources rs a b → IsNoDamage e
+  not_damaged a b (open_error.Damaged second at) damage rs stands = let no : Ok (snapshot_of rs) ≡ Err (open_error.Damaged second at) = sym (memory_is a b rs stands) ∙ damage in absurd (cc)
+  not_damaged a b open_error.Failed damage rs stands = tt
+  not_damaged a b (open_error.Full full) damage rs stands = damage
+  not_damaged a b open_error.NoMemory damage rs stands = tt
+
+  stands_by : (found : Found) (s : Snapshot) (c d : List ℕ) (rs : List SessionRecord) → IsListOf managers resources rs found → held_by_found of found ≡ Ok s → StandsOrSettled of found s c d → StandsForSessions managers resources rs c d
+  stands_by found s c d rs list held (inl is) = record { found = found; pair = is; list = list }
+  stands_by found s c d rs list held (inr both) = record { found = settled of s; pair = both.1; list = settled_list rs found s list held both.0 }
+
+  -- what goes on stands for the same records
+  pub goes_on : (a b c d : List ℕ) → GoesOn of a b c d → GoesOnAs managers resources a b c d
+  goes_on a b c d (inl same) rs stands =
+      subst (λ z. StandsForSessions managers resources rs c z) (sym same.1) (subst (λ z. StandsForSessions managers resources rs z b) (sym same.0) stands)
+  goes_on a b c d (inr g) rs stands =
+      let is = one_ok (pair_reading a b) g.0 stands.found g.1.1 stands.pair in
+      stands_by g.0 g.1.0 c d rs (subst (IsListOf managers resources rs) (sym is) stands.list) g.1.2 g.1.3
+
+-- ---- restarts
+
+module _ {D : Type 0} (state : D → DiskState) (pick : ℕ) (old new : Sessions D) (machine : machine_of new.store ≡ machine_of old.store) where
+  is_now : (a b : List ℕ) → IsOf state (meaning old) a b new.store → IsOf state (meaning new) a b new.store
+  is_now a b = subst (λ (q : SessionMachine). IsOf state (meaning_of q.managers q.resources) a b new.store) (sym machine)
+
+  pub brings_back : IsBack state (meaning old) pick old.store new.store → BringsBack state pick old new
+  brings_back back = record {
+    a = back.a;
+    b = back.b;
+    first = back.first;
+    second = back.second;
+    is = is_now back.a back.b back.is;
+    keeps = λ rs stands. open_keeps (managers_of new) (resources_of new) state back.a back.b new refl (is_now back.a back.b back.is) rs stands;
+  }
+
+  pub backs : (result : Result (Unit {0}) OpenError) →
+      OnOk result (IsTold (state (first_disk (twin old))) → IsTold (state (second_disk (twin old))) → IsBack state (meaning old) pick old.store new.store) →
+      OnOk result (IsTold (state (first_disk (twin old))) → IsTold (state (second_disk (twin old))) → BringsBack state pick old new)
+  backs (Ok done) back = λ one two. brings_back (back one two)
+  backs (Err e) back = tt
+
+-- which of two lists of records came back
+pub came_back : {D : Type 0} (state : D → DiskState) (pick : ℕ) (old new : Sessions D) (rs : List SessionRecord) (kept : Option SessionRecord) → BringsBack state pick old new →
+    ((a b : List ℕ) → (state (first_disk (twin old))).may_leave a → (state (second_disk (twin old))).may_leave b → StandsFor new rs a b ⊎ ((r : SessionRecord) × (kept ≡ Some r) × StandsFor new (r ∷ rs) a b)) →
+    KeepsRecords state rs new ⊎ ((r : SessionRecord) × (kept ≡ Some r) × KeepsRecords state (r ∷ rs) new)
+came_back {D} state pick old new rs kept back images = by (images back.a back.b back.first.0 back.second.0)
+  where
+    by : StandsFor new rs back.a back.b ⊎ ((r : SessionRecord) × (kept ≡ Some r) × StandsFor new (r ∷ rs) back.a back.b) →
+        KeepsRecords state rs new ⊎ ((r : SessionRecord) × (kept ≡ Some r) × KeepsRecords state (r ∷ rs) new)
+    by (inl stands) = inl (back.keeps rs stands)
+    by (inr more) = inr (more.0, more.1, back.keeps (more.0 ∷ rs) more.2)

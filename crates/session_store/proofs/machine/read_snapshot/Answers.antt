@@ -1,0 +1,9 @@
+use Rattle.std.proofs.Common.{◌<◌, arith}
+use Rattle.std.proofs.lemmas.List.Elements.{All-from_get_or}
+use Rattle.session_memory.proofs.WritingLaws.{places_found}
+use Rattle.session_store.proofs.machine.read_snapshot.Goals as goal
+
+pub load-requires : goal.load-requires
+load-requires c =
+    let places = places_found c.args.managers c.args.resources c.args.bytes.now c.in-Ok.snapshot (All-from_get_or (λ b. b < 256) c.args.bytes.now 0 (λ i lt. omega (arith, c.type_inv.bytes i))) c.in-Ok.ensures.exact in
+    places.counted

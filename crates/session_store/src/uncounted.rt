@@ -1,0 +1,82 @@
+//! Calls of a memory whose comparisons nobody counts.
+ghost use Rattle.std.specs.Prelude.{◌≡◌, ◌<◌, ◌+◌, ◌^◌, true, OnOk, OnErr};
+ghost use Rattle.session_memory.specs.Changes.{after, may_come};
+ghost use Rattle.session_memory.specs.Loading.{LoadsSnapshot};
+ghost use Rattle.session_memory.specs.Order.{IsCounted};
+
+use durable_records::SessionRecord;
+use lock_table::Steps;
+use seata_types::NoMemory;
+use session_log::Snapshot;
+use session_memory::{LoadError, Memory};
+use std::alloc::Global;
+use std::marker::Brand;
+use std::sync::ledger::{Blank, Ledger};
+
+fn allows_by<L: Ledger>(memory: &Memory, item: &SessionRecord, blank: Blank) -> bool
+    requires name { blank.name ≡ L.name }
+    requires parts { blank.parts ≡ L.parts }
+    requires some { 0 < blank.parts }
+    ensures { result ≡ may_come memory.now item.now }
+{
+    let mut steps = Steps::<L>::new(blank);
+    memory.allows(item, &mut steps)
+}
+
+/// Whether a record may come.
+pub(crate) fn allows(memory: &Memory, item: &SessionRecord) -> bool
+    ensures { result ≡ may_come memory.now item.now }
+{
+    allows_by::<Brand>(memory, item, Blank::new(1))
+}
+
+fn apply_by<L: Ledger>(
+    alloc: Global,
+    memory: &mut Memory,
+    item: &SessionRecord,
+    blank: Blank,
+) -> Result<(), NoMemory>
+    requires name { blank.name ≡ L.name }
+    requires parts { blank.parts ≡ L.parts }
+    requires some { 0 < blank.parts }
+    requires allowed { may_come memory.old item.now ≡ true }
+    requires room { memory.old.acts + 1 < 2 ^ 32 }
+    ensures ok { OnOk result (memory.new ≡ after item.now memory.old) }
+    ensures err { OnErr result (memory.new ≡ memory.old) }
+{
+    let mut steps = Steps::<L>::new(blank);
+    memory.apply(alloc, item, &mut steps)
+}
+
+/// Takes in one more record that may come. After an error all is as before.
+pub(crate) fn apply(
+    alloc: Global,
+    memory: &mut Memory,
+    item: &SessionRecord,
+) -> Result<(), NoMemory>
+    requires allowed { may_come memory.old item.now ≡ true }
+    requires room { memory.old.acts + 1 < 2 ^ 32 }
+    ensures ok { OnOk result (memory.new ≡ after item.now memory.old) }
+    ensures err { OnErr result (memory.new ≡ memory.old) }
+{
+    apply_by::<Brand>(alloc, memory, item, Blank::new(1))
+}
+
+fn load_by<L: Ledger>(alloc: Global, snapshot: Snapshot, blank: Blank) -> Result<Memory, LoadError>
+    requires name { blank.name ≡ L.name }
+    requires parts { blank.parts ≡ L.parts }
+    requires some { 0 < blank.parts }
+    requires counted { IsCounted snapshot }
+    ensures { LoadsSnapshot snapshot result }
+{
+    let mut steps = Steps::<L>::new(blank);
+    Memory::load(alloc, snapshot, &mut steps)
+}
+
+/// A memory of a snapshot, unless a row has two holders in it.
+pub(crate) fn load(alloc: Global, snapshot: Snapshot) -> Result<Memory, LoadError>
+    requires { IsCounted snapshot }
+    ensures { LoadsSnapshot snapshot result }
+{
+    load_by::<Brand>(alloc, snapshot, Blank::new(1))
+}
