@@ -1,0 +1,5 @@
+pub mod Grants
+pub mod Conflicts
+pub mod SecondPhase
+pub mod UndoEntries
+pub mod Steps

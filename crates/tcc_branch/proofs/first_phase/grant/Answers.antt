@@ -1,0 +1,20 @@
+use Rattle.resource_store.specs.Keeping.{known}
+use Rattle.tcc_branch.proofs.FenceLaws.{few_statements, tries_places, try_gives, of_no_call}
+use Rattle.tcc_branch.proofs.first_phase.grant.Goals as goal
+
+pub run_try-requires-clause-statements : goal.run_try-requires-clause-statements
+run_try-requires-clause-statements g c = few_statements c.args.txn.now c.in-Tcc.action c.in-Tcc.is c.requires.may.of_kind _ c.as_slice.ensures c.requires.may.statements
+
+pub run_try-requires-clause-places : goal.run_try-requires-clause-places
+run_try-requires-clause-places g c =
+    tries_places c.args.txn.now c.in-Tcc.action c.in-Tcc.is c.requires.may.of_kind _ c.as_slice.ensures (known c.args.store.now).tables c.args.leg c.requires.may.places
+
+pub returns-in-Tcc-clause-gives : goal.returns-in-Tcc-clause-gives
+returns-in-Tcc-clause-gives g c =
+    try_gives c.args.txn.now c.in-Tcc.action c.in-Tcc.is c.requires.may.of_kind _ c.as_slice.ensures g.D.Disk.state c.args.store.now c.run_try.new.store c.args.leg _ c.run_try.ensures.gives
+
+pub returns-in-At-clause-gives : goal.returns-in-At-clause-gives
+returns-in-At-clause-gives g c = of_no_call c.args.txn.now _ c.in-At.is c.requires.may.of_kind
+
+pub returns-in-At-clause-leaves : goal.returns-in-At-clause-leaves
+returns-in-At-clause-leaves g c = of_no_call c.args.txn.now _ c.in-At.is c.requires.may.of_kind

@@ -1,0 +1,4 @@
+pub mod Tries
+pub mod SecondPhase
+pub mod Failures
+pub mod Steps
