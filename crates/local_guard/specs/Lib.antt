@@ -1,0 +1,4 @@
+pub mod Asked
+pub mod Locals
+pub mod Outside
+pub mod Steps
