@@ -1,10 +1,17 @@
-//! The transaction coordinator: it begins, decides and finishes global transactions.
-//! `Coordinator` is a node of `history_text`; its rules stand in that crate's specs.
+//! The transaction coordinator: it begins, decides and finishes global transactions, registers their branches and has them
+//! committed or rolled back. `Coordinator` is a node of `history_text`; its rules stand in `history_rules`.
 #![tactic(auto)]
 
+mod answering;
+mod choosing;
+mod deciding;
+mod kinds;
+mod moments;
 pub mod nodes;
-pub mod sessions;
+mod questions;
+mod registering;
+mod rests;
 mod table;
+mod turning;
 
 pub use nodes::{Coordinator, NODE_STEPS};
-pub use sessions::Session;

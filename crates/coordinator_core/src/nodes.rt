@@ -1,12 +1,15 @@
 //! The coordinator as a node.
 ghost use Rattle.std.specs.Prelude.{◌+◌, ◌<◌, ◌^◌};
-ghost use Rattle.indexmap.specs.IndexMap.{index_map_len};
 
-use crate::sessions::Session;
+use crate::choosing;
 use crate::table::Table;
 use history_text::Node;
-use seata_types::{Input, NoMemory, NodeError, Place, Step, Xid};
+use lock_table::Steps;
+use seata_types::{Input, NoMemory, NodeError, Place, Step};
+use session_memory::Memory;
 use std::alloc::Global;
+use std::marker::Brand;
+use std::sync::ledger::{Blank, Ledger};
 
 /// How many steps a node can make in all, this project's own.
 pub const NODE_STEPS: u32 = 4_294_967_294;
@@ -16,51 +19,108 @@ pub const NODE_STEPS: u32 = 4_294_967_294;
 pub struct Coordinator {
     table: Table,
     left: u32,
-    ghost room: { index_map_len table.sessions + left < 2 ^ 32 },
+    ghost room: { table.memory.acts + left < 2 ^ 32 },
 }
 
 impl Coordinator {
-    ghost use Rattle.std.specs.Prelude.{◌≡◌, [], List, ℕ, Option, Some, None, IsSome, ◌↔◌, ◌<◌, ◌≤◌};
+    ghost use Rattle.std.specs.Prelude.{◌≡◌, ◌<◌, ◌≤◌, ◌^◌, [], List};
     ghost use Rattle.history_rules.specs.Own.{Own};
     ghost use Rattle.coordinator_core.specs.declared.nodes.TheConstants.{NODE_STEPS};
-    ghost use Rattle.coordinator_core.specs.Standing.{StandsFor, retry_of, steps_of};
-    ghost use Rattle.coordinator_core.specs.Tracks.{begun, records, session_of};
+    ghost use Rattle.coordinator_core.specs.Standing.{StandsFor, times_of, steps_of, unended_sessions, held_rows, InputCosts};
+    ghost use Rattle.coordinator_core.specs.Stepping.{StepsBy};
+    ghost use Rattle.coordinator_core.specs.Tracks.{records};
+    ghost use Rattle.session_log.specs.SnapshotOf.{snapshot_of};
 
-    /// A coordinator that asks again after so many ticks; takes no memory.
+    /// A coordinator that asks again after `retry` ticks and forgets a finished transaction after `forget`, or never where
+    /// that is 0; takes no memory.
     #[tactic(auto, unfolding(crate::specs::Standing::StandsFor))]
-    pub fn new(alloc: Global, retry: u64) -> Coordinator
+    pub fn new(alloc: Global, retry: u64, forget: u64) -> Coordinator
         ensures fresh { StandsFor result [] }
-        ensures retry { retry_of result ≡ retry }
+        ensures times { times_of result ≡ record { retry = retry; forget = forget } }
         ensures steps { steps_of result ≡ NODE_STEPS }
     {
         Coordinator {
-            table: Table::new(alloc, retry),
+            table: Table::new(alloc, retry, forget),
             left: NODE_STEPS,
         }
     }
 
-    /// The session of a transaction; none where it never began.
+    /// What is known of all transactions; takes no memory.
     #[tactic(auto, unfolding(crate::specs::Standing::StandsFor))]
-    pub fn session(&self, xid: Xid) -> Option<Session>
-        ensures { (owns : List Own) → StandsFor self.now owns → result ≡ session_of (retry_of self.now) owns xid.0 }
+    pub fn memory(&self) -> &Memory
+        ensures { (owns : List Own) → StandsFor self.now owns → result.now ≡ snapshot_of (records owns) }
     {
-        self.table.session(xid)
+        &self.table.memory
     }
 
-    /// How many transactions began: they are numbered from 1 to this.
+    /// How many transactions began and are neither finished nor failed; takes no memory.
     #[tactic(auto, unfolding(crate::specs::Standing::StandsFor))]
-    pub fn begun(&self) -> usize
-        ensures { (owns : List Own) → StandsFor self.now owns → result ≡ begun (records owns) }
+    pub fn unended(&self) -> usize
+        ensures { (owns : List Own) → StandsFor self.now owns → result ≡ unended_sessions (records owns) }
     {
-        self.table.len()
+        choosing::unended(self.table.memory.snapshot().sessions.as_slice())
+    }
+
+    /// Takes a step as `step` does, and counts the comparisons of keys that a registration takes.
+    #[tactic(auto, unfolding(crate::specs::Standing::StandsFor))]
+    pub fn step_counted<L: Ledger>(
+        &mut self,
+        alloc: Global,
+        input: Input,
+        now: u64,
+        steps: &mut Steps<L>,
+    ) -> Result<Step, NodeError>
+        requires able { 0 < steps_of self.old }
+        requires moment { now ≤ 2 ^ 63 }
+        ensures steps { StepsBy self.old self.new input now result }
+        ensures cost { InputCosts input (held_rows self.old.table) steps.old steps.new }
+    {
+        match self.table.answer(alloc, &input, now, steps) {
+            Ok(step) => {
+                drop(input);
+                self.left -= 1;
+                Ok(step)
+            }
+            Err(NoMemory) => {
+                drop(input);
+                Err(NodeError::NoMemory)
+            }
+        }
+    }
+
+    // The same, where nobody asks for the count.
+    fn step_with<L: Ledger>(
+        &mut self,
+        alloc: Global,
+        input: Input,
+        now: u64,
+        blank: Blank,
+    ) -> Result<Step, NodeError>
+        requires name { blank.name ≡ L.name }
+        requires parts { blank.parts ≡ L.parts }
+        requires some { 0 < blank.parts }
+        requires able { 0 < steps_of self.old }
+        requires moment { now ≤ 2 ^ 63 }
+        ensures { StepsBy self.old self.new input now result }
+    {
+        let mut steps = Steps::<L>::new(blank);
+        self.step_counted(alloc, input, now, &mut steps)
+    }
+
+    fn step_uncounted(&mut self, alloc: Global, input: Input, now: u64) -> Result<Step, NodeError>
+        requires able { 0 < steps_of self.old }
+        requires moment { now ≤ 2 ^ 63 }
+        ensures { StepsBy self.old self.new input now result }
+    {
+        self.step_with::<Brand>(alloc, input, now, Blank::new(1))
     }
 }
 
 impl Node for Coordinator {
     ghost use Rattle.std.specs.Prelude.{false};
-    ghost use Rattle.coordinator_core.specs.Standing.{StandsFor, retry_of, role_of, steps_of};
+    ghost use Rattle.coordinator_core.specs.Standing.{StandsFor, times_of, role_of, steps_of};
 
-    ghost role = { λ c. role_of (retry_of c) };
+    ghost role = { λ c. role_of (times_of c) };
 
     ghost stands_for = { StandsFor };
 
@@ -77,18 +137,8 @@ impl Node for Coordinator {
     }
 
     #[tactic(auto, unfolding(crate::specs::Standing::StandsFor))]
-    fn step(&mut self, _alloc: Global, input: Input, now: u64) -> Result<Step, NodeError> {
-        match self.table.answer(&input, now) {
-            Ok(step) => {
-                drop(input);
-                self.left -= 1;
-                Ok(step)
-            }
-            Err(NoMemory) => {
-                drop(input);
-                Err(NodeError::NoMemory)
-            }
-        }
+    fn step(&mut self, alloc: Global, input: Input, now: u64) -> Result<Step, NodeError> {
+        self.step_uncounted(alloc, input, now)
     }
 
     fn is_down(&self) -> bool {

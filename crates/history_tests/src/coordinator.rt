@@ -67,7 +67,7 @@ fn input(given: Given) -> Input {
 
 #[test]
 fn answers_in_turn(rt: HostRuntime) -> Result<(), Fail> {
-    let mut tc = Coordinator::new(rt.alloc(), 1000);
+    let mut tc = Coordinator::new(rt.alloc(), 1000, 0);
     for (given, wanted) in ROWS {
         if tc.steps_left() == 0 {
             return Err(Fail::from("no step is left"));

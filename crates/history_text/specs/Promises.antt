@@ -14,6 +14,7 @@ use Rattle.seata_types.specs.declared.messages.Message.TheVariants as message
 use Rattle.seata_types.specs.declared.messages.Step.{Step}
 use Rattle.history_rules.specs.Own.{Given, Own, still}
 use Rattle.history_rules.specs.Nodes.{Role, Coordinator, Resource, Manager, happens}
+use Rattle.history_text.specs.Framing.{ComesFramable}
 
 -- where a node stands
 abbrev pub place_of : Role → Place
@@ -27,17 +28,9 @@ own_step given now step = record { event = Given given; now = now; step = step }
 
 -- ---- what is served
 
--- no message about branches: their registration, the answers on their ends, and questions for the rows that they hold
-abbrev pub IsAboutNoBranch : Message → Type 0
-IsAboutNoBranch (message.Register xid resource call ticket kind hold check) = ⊥
-IsAboutNoBranch (message.BranchCommitted xid branch status stmt) = ⊥
-IsAboutNoBranch (message.BranchRollbacked xid branch status stmt) = ⊥
-IsAboutNoBranch (message.LockQuery resource ticket check) = ⊥
-IsAboutNoBranch _ = Unit {0}
-
--- what the nodes of today answer by the rules: the coordinator has no branches, and a manager answers every input
+-- what the nodes of today answer by the rules: the coordinator all that can be framed, and a manager every input
 abbrev pub IsServed : Role → Input → Type 0
-IsServed (Coordinator times past) (input.Message from heard) = IsAboutNoBranch heard
+IsServed (Coordinator times past) given = ComesFramable given
 IsServed _ given = Unit {0}
 
 -- ---- what a step of a node promises

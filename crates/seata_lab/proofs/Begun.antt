@@ -7,10 +7,11 @@ use Rattle.std.proofs.lemmas.List.{length-map}
 use Rattle.std.proofs.lemmas.Option.{same_Some, slice_get_within}
 use Rattle.scenario_reader.specs.declared.scenarios.ManagerDef.{ManagerDef}
 use Rattle.scenario_reader.specs.declared.scenarios.Scenario.{Scenario}
-use Rattle.coordinator_core.specs.Standing.{StandsFor, retry_of, steps_of}
+use Rattle.coordinator_core.specs.Standing.{StandsFor, steps_of}
+use Rattle.coordinator_core.specs.Standing.{times_of as times_kept}
 use Rattle.history_rules.specs.Histories.{Moment}
 use Rattle.history_text.specs.History.{IsRun}
-use Rattle.history_text.specs.Worlds.{item_of}
+use Rattle.history_text.specs.Worlds.{item_of, times_of}
 use Rattle.seata_lab.specs.declared.runner.Run.{Run}
 use Rattle.seata_lab.specs.Runs.{AreManagers, CanRun, IsNew, IsManagerOf, Plays}
 use Rattle.seata_lab.proofs.Histories.{snoc_below, snoc_end}
@@ -44,13 +45,14 @@ pub first_whole : (tries : ℕ) (defs : List ManagerDef) (managers : List Manage
 first_whole tries defs managers t = record { count = t.count_is; each = λ k def at. t.each k def (slice_get_within defs k def at) at }
 
 -- a run that made nothing plays the empty history
-pub plays_nothing : (s : Scenario) (r : Run) → CanRun s → StandsFor r.coordinator [] → retry_of r.coordinator ≡ s.retry → steps_of r.coordinator ≡ NODE_STEPS
+pub plays_nothing : (s : Scenario) (r : Run) → CanRun s → StandsFor r.coordinator [] → times_kept r.coordinator ≡ times_of s → steps_of r.coordinator ≡ NODE_STEPS
     → AreManagers s.lock_tries s.managers r.managers.items → r.letters.items ≡ [] → r.entries.items ≡ [] → r.clock ≡ 0 → Plays s r []
-plays_nothing s r can fresh retry steps managers letters entries time = record {
+plays_nothing s r can fresh timed steps managers letters entries time = record {
   nodes = record {
     can = can;
     coordinated = fresh;
-    retry = retry;
+    timed = timed;
+    unregistered = tt;
     able = omega (arith, steps);
     count = managers.count;
     managed = λ k def at. new k def (managers.each k def at);

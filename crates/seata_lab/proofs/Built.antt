@@ -23,7 +23,7 @@ use Rattle.history_text.specs.Worlds.{item_of}
 use Rattle.seata_lab.specs.declared.unbuilt.Unbuilt.{Unbuilt}
 use Rattle.seata_lab.specs.declared.unbuilt.Unbuilt.TheVariants as part
 use Rattle.seata_lab.specs.declared.runner.Run.{Run}
-use Rattle.seata_lab.specs.Unbuilt.{first_unbuilt, forget_part, resource_part, managers_part, local_part, step_part, is_unbuilt, IsBuilt}
+use Rattle.seata_lab.specs.Unbuilt.{first_unbuilt, resource_part, managers_part, local_part, step_part, is_unbuilt, IsBuilt}
 use Rattle.seata_lab.specs.Runs.{CanRun, Fits, HasNoCalls}
 
 -- ---- a scenario all of which can be run
@@ -31,10 +31,6 @@ use Rattle.seata_lab.specs.Runs.{CanRun, Fits, HasNoCalls}
 neither : (a b : Option Unbuilt) → option_or a b ≡ None → (a ≡ None) × (b ≡ None)
 neither None b e = (refl, e)
 neither (Some p) b e = absurd (let no : Some p ≡ None = e in cc)
-
-no_forgetting : (ticks : ℕ) → forget_part ticks ≡ None → ticks ≡ 0
-no_forgetting zero e = refl
-no_forgetting (suc ticks) e = absurd (let no : Some part.Forget ≡ None = e in cc)
 
 -- where there are no resources, there are no calls
 no_calls : (calls : List (ℕ × Work)) → All (IsCall []) calls → calls ≡ []
@@ -69,7 +65,6 @@ all_built items e = position-None is_unbuilt items (none_found (position is_unbu
 
 -- its parts
 record HasParts (s : Scenario) : Type 0 where
-  pub forget : s.forget ≡ 0
   pub resources : length s.resources ≡ 0
   pub locals : length s.locals ≡ 0
   pub steps : All (λ item. is_unbuilt item ≡ false) s.schedule
@@ -80,12 +75,10 @@ has_parts s built =
     let steps = step_part s.schedule in
     let from_locals = option_or (local_part s.locals) steps in
     let from_managers = option_or (managers_part 0 s.managers) from_locals in
-    let some = neither (forget_part s.forget) (option_or (resource_part s.resources) from_managers) built in
-    let more = neither (resource_part s.resources) from_managers some.1 in
+    let more = neither (resource_part s.resources) from_managers built in
     let users = neither (managers_part 0 s.managers) from_locals more.1 in
     let rest = neither (local_part s.locals) steps users.1 in
     record {
-      forget = no_forgetting s.forget some.0;
       resources = no_resources s.resources more.0;
       locals = no_locals s.locals rest.0;
       steps = all_built s.schedule rest.1;
@@ -115,16 +108,16 @@ single_items (i ∷ items) built =
     let rest : All (λ j. is_unbuilt j ≡ false) items = λ k d below. built (suc k) d (omega (arith, below)) in
     rw (single_item i first, single_items items rest) refl
 
--- the nodes of today can run it
+-- the same of all managers at once
 pub all_uncalled : (defs : List ManagerDef) → ((k : ℕ) (def : ManagerDef) → slice_get defs k ≡ Some def → HasNoCalls def) → All HasNoCalls defs
 all_uncalled defs each k d below = each k (get_or defs k d) (slice_get-get_or defs k d below)
 
+-- the nodes of today can run it
 pub can_run : (s : Scenario) → IsRunnable s → IsBuilt s → CanRun s
 can_run s runnable built =
     let has = has_parts s built in
     let none : s.resources ≡ [] = none_of s.resources has.resources in
     record {
-      keeps = has.forget;
       alone = resources_of-none s none;
       uncalled = calls none;
       single = single_items s.schedule has.steps;

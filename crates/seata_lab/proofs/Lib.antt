@@ -12,3 +12,4 @@ mod Replayed
 mod Reported
 mod Safe
 mod Stepped
+mod Ungranted

@@ -22,7 +22,7 @@ use Rattle.scenario_reader.specs.declared.scenarios.ManagerDef.{ManagerDef}
 use Rattle.scenario_reader.specs.declared.scenarios.Scenario.{Scenario}
 use Rattle.durable_records.specs.declared.coordinators.SessionRecord.{SessionRecord}
 use Rattle.durable_records.specs.Transactions.{Session, session, session_for, decided, is_commit, next_xid}
-use Rattle.durable_records.specs.Branches.{Grant}
+use Rattle.durable_records.specs.Branches.{Grant, grants}
 use Rattle.durable_records.specs.Progress.{may_decide, status_of}
 use Rattle.history_rules.specs.Own.{Event, Given, Own, still, sends}
 use Rattle.history_rules.specs.Devices.{is_down, calls_left}
@@ -34,17 +34,20 @@ use Rattle.history_rules.specs.Nodes.{Coordinator as CoordinatorRole, Manager as
 use Rattle.history_rules.specs.Histories.{Moment, HappensAt, own, own_if, same_place}
 use Rattle.history_rules.specs.Histories.{Cause as Reason}
 use Rattle.history_text.proofs.Worlds.{slice_get-managers}
-use Rattle.history_text.specs.Promises.{TakesStep, IsServed, IsAboutNoBranch}
+use Rattle.history_text.specs.Framing.{ComesFramable}
+use Rattle.history_text.specs.Promises.{TakesStep}
 use Rattle.history_text.specs.Worlds.{settings_of, times_of, world_of}
 use Rattle.history_text.proofs.Served.{happens_plain}
-use Rattle.coordinator_core.proofs.Facts.{IsPlain, stands_plain, none_asked}
-use Rattle.coordinator_core.specs.Tracks.{AreSimple, records}
-use Rattle.coordinator_core.specs.Standing.{StandsFor, retry_of, role_of, steps_of}
+use Rattle.coordinator_core.proofs.Facts.{coordinator_plain}
+use Rattle.coordinator_core.specs.Tracks.{records}
+use Rattle.coordinator_core.specs.Standing.{StandsFor, role_of, steps_of}
+use Rattle.coordinator_core.specs.Standing.{times_of as times_kept}
 use Rattle.coordinator_core.specs.declared.nodes.Coordinator.{Coordinator}
 use Rattle.manager_core.specs.Standing.{StandsFor as ManagerStandsFor, settings, steps_of as manager_steps_of}
 use Rattle.manager_core.specs.declared.nodes.Manager.{Manager}
 use Rattle.manager_core.proofs.Facts.{manager_plain}
-use Rattle.seata_lab.specs.Runs.{AllPost, HasHappened, StepsManager, IsGiven, IsNode, NamesNode, IsPost, IsManagerOf, Nodes, next}
+use Rattle.seata_lab.specs.Runs.{AllPost, HasHappened, StepsManager, IsGiven, IsNode, NamesNode, IsPost, IsManagerOf, Nodes, RegistersNothing, next}
+use Rattle.seata_lab.proofs.Ungranted.{no_grants, none_asked}
 
 module _ (s : Scenario) (c : Coordinator) (managers : List Manager) (ms : List Moment) where
   -- nothing happened at a node
@@ -52,7 +55,8 @@ module _ (s : Scenario) (c : Coordinator) (managers : List Manager) (ms : List M
   nodes_net now why step t = record {
     can = t.can;
     coordinated = t.coordinated;
-    retry = t.retry;
+    timed = t.timed;
+    unregistered = t.unregistered;
     able = let able = t.able in omega (arith, able);
     count = t.count;
     managed = λ k def at. later k def (t.managed k def at);
@@ -64,12 +68,14 @@ module _ (s : Scenario) (c : Coordinator) (managers : List Manager) (ms : List M
 
   -- the coordinator took a step
   pub nodes_coordinator : (c' : Coordinator) (given : Input) (now : ℕ) (why : Reason) (step : Step) → Nodes s c managers ms
-      → TakesStep StandsFor (role_of (retry_of c)) c c' given now step → IsServed (role_of (retry_of c)) given → retry_of c' ≡ retry_of c → steps_of c' + 1 ≡ steps_of c
+      → TakesStep StandsFor (role_of (times_kept c)) c c' given now step → ComesFramable given → RegistersNothing (Given given) → times_kept c' ≡ times_kept c
+      → steps_of c' + 1 ≡ steps_of c
       → Nodes s c' managers (next ms place.Tc now why (Some (Given given)) step ∷ ms)
-  nodes_coordinator c' given now why step t takes served same left = record {
+  nodes_coordinator c' given now why step t takes framable fresh same left = record {
     can = t.can;
-    coordinated = (takes (own place.Tc ms) t.coordinated served).1;
-    retry = same ∙ t.retry;
+    coordinated = (takes (own place.Tc ms) t.coordinated framable).1;
+    timed = same ∙ t.timed;
+    unregistered = (t.unregistered, fresh);
     able = let able = t.able in omega (arith, able, left);
     count = t.count;
     managed = λ k def at. later k def (t.managed k def at);
@@ -101,7 +107,8 @@ module _ (s : Scenario) (c : Coordinator) (managers : List Manager) (ms : List M
   nodes_manager k def m m' given now why step t here at is takes same left = record {
     can = t.can;
     coordinated = t.coordinated;
-    retry = t.retry;
+    timed = t.timed;
+    unregistered = t.unregistered;
     able = let able = t.able in omega (arith, able);
     count = length-set managers k m' ∙ t.count;
     managed = λ j other found. by j other found (nat_eq j k) refl (t.managed j other found);
@@ -178,10 +185,10 @@ module _ (s : Scenario) where
     due_posts x None none = none_posts place.Tc
     due_posts x (Some g) none = absurd (let no : Some g ≡ None = none in cc)
 
-    turn_posts : AreSimple rs → (late : Option ℕ) (due : Option (ℕ × ℕ)) (old : Option ℕ) → SendsPost place.Tc (turn_answer rs late due old)
-    turn_posts simple (Some x) due old = none_posts place.Tc
-    turn_posts simple None (Some (x, moment)) old = due_posts x (next_asked rs x (is_commit (decided rs x))) (none_asked rs simple x (is_commit (decided rs x)))
-    turn_posts simple None None old = old_posts old
+    turn_posts : grants rs ≡ [] → (late : Option ℕ) (due : Option (ℕ × ℕ)) (old : Option ℕ) → SendsPost place.Tc (turn_answer rs late due old)
+    turn_posts none (Some x) due old = none_posts place.Tc
+    turn_posts none None (Some (x, moment)) old = due_posts x (next_asked rs x (is_commit (decided rs x))) (none_asked rs x (is_commit (decided rs x)) none)
+    turn_posts none None None old = old_posts old
 
     begin_posts : (m : ℕ) (known : Option Session) → IsNode s (place.Man m) → SendsPost place.Tc (begin_answer rs m known)
     begin_posts m (Some x) node = tells (place.Man m) (message.Begun (xid_of x.xid)) node tt
@@ -208,31 +215,24 @@ module _ (s : Scenario) where
     heard_posts now from _ node named = absurd named
 
   -- what the coordinator sends goes to nodes
-  pub coordinator_posts : (os : List Own) (now : ℕ) (given : Input) → AreSimple (records os) → IsGiven s given
+  pub coordinator_posts : (os : List Own) (now : ℕ) (given : Input) → grants (records os) ≡ [] → IsGiven s given
       → SendsPost place.Tc (coordinator_answer (times_of s) [] os (records os) now given)
-  coordinator_posts os now input.Turn simple g =
-      turn_posts (records os) simple (late_one (times_of s) [] os (records os) now) (due_one (times_of s) [] os (records os) now) (old_one (times_of s) [] os (records os) now)
-  coordinator_posts os now (input.Message from heard) simple g = heard_posts (records os) now from heard g.0 g.1
-  coordinator_posts os now (input.Local number) simple g = none_posts place.Tc
-  coordinator_posts os now (input.Outside number) simple g = none_posts place.Tc
+  coordinator_posts os now input.Turn none g =
+      turn_posts (records os) none (late_one (times_of s) [] os (records os) now) (due_one (times_of s) [] os (records os) now) (old_one (times_of s) [] os (records os) now)
+  coordinator_posts os now (input.Message from heard) none g = heard_posts (records os) now from heard g.0 g.1
+  coordinator_posts os now (input.Local number) none g = none_posts place.Tc
+  coordinator_posts os now (input.Outside number) none g = none_posts place.Tc
 
-  -- what is given is served
-  coordinator_served : (retry : ℕ) (given : Input) → IsGiven s given → IsServed (role_of retry) given
-  coordinator_served retry input.Turn g = tt
-  coordinator_served retry (input.Message from heard) g = by heard g.1
+  -- what is given registers no branch
+  registers_nothing : (given : Input) → IsGiven s given → RegistersNothing (Given given)
+  registers_nothing input.Turn g = tt
+  registers_nothing (input.Message from heard) g = by heard g.1
     where
-      by : (heard : Message) → NamesNode s heard → IsAboutNoBranch heard
-      by (message.Begin m timeout) named = tt
-      by (message.Begun xid) named = tt
-      by (message.GlobalCommit xid) named = tt
-      by (message.CommitStatus xid st) named = tt
-      by (message.GlobalRollback xid) named = tt
-      by (message.RollbackStatus xid st) named = tt
-      by (message.GlobalStatus xid) named = tt
-      by (message.StatusAnswer xid st) named = tt
-      by _ named = absurd named
-  coordinator_served retry (input.Local number) g = tt
-  coordinator_served retry (input.Outside number) g = tt
+      by : (heard : Message) → NamesNode s heard → RegistersNothing (Given (input.Message from heard))
+      by (message.Register xid resource call ticket kind hold check) named = absurd named
+      by _ named = tt
+  registers_nothing (input.Local number) g = tt
+  registers_nothing (input.Outside number) g = tt
 
   -- a manager without calls
   module _ (m : Settings) (node : IsNode s (place.Man m.number)) (count busy : ℕ) where
@@ -377,33 +377,27 @@ StepsAt s c managers ms at given now why step =
     × (AllPost s ms → (out : Outgoing) → step.sent ≡ Some out → IsPost s at out.to out.message)
 
 module _ (s : Scenario) (c : Coordinator) (managers : List Manager) (ms : List Moment) (given : Input) (now : ℕ) (why : Reason) (step : Step) (t : Nodes s c managers ms) (g : IsGiven s given) where
-  pub coordinator_steps : (c' : Coordinator) → TakesStep StandsFor (role_of (retry_of c)) c c' given now step → retry_of c' ≡ retry_of c
+  pub coordinator_steps : (c' : Coordinator) → TakesStep StandsFor (role_of (times_kept c)) c c' given now step → ComesFramable given → times_kept c' ≡ times_kept c
       → steps_of c' + 1 ≡ steps_of c → StepsAt s c' managers ms place.Tc given now why step
-  coordinator_steps c' takes same left = (
+  coordinator_steps c' takes framable same left = (
     record { fault = false; keeps = false; comes = tt; done = answered },
-    nodes_coordinator s c managers ms c' given now why step t takes served same left,
+    nodes_coordinator s c managers ms c' given now why step t takes framable (registers_nothing s given g) same left,
     posts,
   )
     where
       owns : List Own
       owns = own place.Tc ms
 
-      served : IsServed (role_of (retry_of c)) given
-      served = coordinator_served s (retry_of c) given g
-
-      same_role : role_of (retry_of c) ≡ CoordinatorRole (times_of s) []
-      same_role = ap (λ r. role_of r) t.retry ∙ ap (λ f. CoordinatorRole (record { retry = s.retry; forget = f }) []) (sym t.can.keeps)
-
       answered : step ≡ happens (CoordinatorRole (times_of s) []) owns now false false (Given given)
-      answered = (takes owns t.coordinated served).0 ∙ ap (λ r. happens r owns now false false (Given given)) same_role
+      answered = (takes owns t.coordinated framable).0 ∙ ap (λ times. happens (CoordinatorRole times []) owns now false false (Given given)) t.timed
 
-      plain : IsPlain owns
-      plain = stands_plain c owns t.coordinated
+      plain : (is_down owns ≡ false) × (calls_left false owns ≡ None)
+      plain = coordinator_plain c owns t.coordinated
 
       posts : AllPost s ms → (out : Outgoing) → step.sent ≡ Some out → IsPost s place.Tc out.to out.message
       posts post out e =
-          coordinator_posts s owns now given plain.simple g out
-          (ap (λ (d : Step). d.sent) (sym (answered ∙ happens_plain (CoordinatorRole (times_of s) []) owns now given plain.up plain.unarmed)) ∙ e)
+          coordinator_posts s owns now given (no_grants owns t.unregistered) g out
+          (ap (λ (d : Step). d.sent) (sym (answered ∙ happens_plain (CoordinatorRole (times_of s) []) owns now given plain.0 plain.1)) ∙ e)
 
   pub manager_steps : (managers' : List Manager) (n : ℕ) → IsNode s (place.Man n) → StepsManager managers managers' (n - 1) given now step
       → StepsAt s c managers' ms (place.Man n) given now why step
@@ -455,11 +449,11 @@ module _ (s : Scenario) (c : Coordinator) (managers : List Manager) (ms : List M
 
 -- the same where the other nodes are said to be the same
 pub coordinator_steps_at : (s : Scenario) (c c' : Coordinator) (managers managers' : List Manager) (ms : List Moment) (p : Place) (given : Input) (now : ℕ) (why : Reason) (step : Step)
-    → Nodes s c managers ms → IsGiven s given → p ≡ place.Tc → TakesStep StandsFor (role_of (retry_of c)) c c' given now step → retry_of c' ≡ retry_of c
-    → steps_of c' + 1 ≡ steps_of c → managers' ≡ managers → StepsAt s c' managers' ms p given now why step
-coordinator_steps_at s c c' managers managers' ms p given now why step t g at takes same left others =
+    → Nodes s c managers ms → IsGiven s given → p ≡ place.Tc → TakesStep StandsFor (role_of (times_kept c)) c c' given now step → ComesFramable given
+    → times_kept c' ≡ times_kept c → steps_of c' + 1 ≡ steps_of c → managers' ≡ managers → StepsAt s c' managers' ms p given now why step
+coordinator_steps_at s c c' managers managers' ms p given now why step t g at takes framable same left others =
     subst (λ l. StepsAt s c' l ms p given now why step) (sym others)
-    (subst (λ q. StepsAt s c' managers ms q given now why step) (sym at) (coordinator_steps s c managers ms given now why step t g c' takes same left))
+    (subst (λ q. StepsAt s c' managers ms q given now why step) (sym at) (coordinator_steps s c managers ms given now why step t g c' takes framable same left))
 
 pub manager_steps_at : (s : Scenario) (c c' : Coordinator) (managers managers' : List Manager) (ms : List Moment) (p : Place) (n : ℕ) (given : Input) (now : ℕ) (why : Reason) (step : Step)
     → Nodes s c managers ms → IsGiven s given → IsNode s p → p ≡ place.Man n → StepsManager managers managers' (n - 1) given now step → c' ≡ c

@@ -15,7 +15,7 @@ use Rattle.scenario_reader.specs.declared.scenarios.Scenario.{Scenario}
 use Rattle.scenario_reader.specs.declared.scenarios.ScheduleItem.{ScheduleItem}
 use Rattle.scenario_reader.specs.Runnable.{FitsNodes}
 use Rattle.seata_lab.specs.Unbuilt.{is_unbuilt}
-use Rattle.history_rules.specs.Own.{Event, Given}
+use Rattle.history_rules.specs.Own.{Event, Given, Own}
 use Rattle.history_rules.specs.Nodes.{Role, no_past, role_at}
 use Rattle.history_rules.specs.Nodes.{Manager as ManagerRole}
 use Rattle.history_rules.specs.Histories.{Moment, own, HappensAt, Legal}
@@ -27,9 +27,11 @@ use Rattle.history_text.specs.declared.entries.Entry.{Entry}
 use Rattle.history_text.specs.Notes.{sent_of}
 use Rattle.history_text.specs.History.{entries}
 use Rattle.history_text.specs.Promises.{TakesStep}
-use Rattle.history_text.specs.Worlds.{items_of, resources_of, settings_of, world_of}
+use Rattle.history_text.specs.Framing.{ComesFramable}
+use Rattle.history_text.specs.Worlds.{items_of, resources_of, settings_of, times_of, world_of}
 use Rattle.frame_codec.specs.Limits.{IsFramable}
-use Rattle.coordinator_core.specs.Standing.{StandsFor, retry_of, steps_of}
+use Rattle.coordinator_core.specs.Standing.{StandsFor, steps_of}
+use Rattle.coordinator_core.specs.Standing.{times_of as times_kept}
 use Rattle.coordinator_core.specs.declared.nodes.Coordinator.{Coordinator}
 use Rattle.manager_core.specs.Standing.{StandsFor as ManagerStandsFor, settings, steps_of as manager_steps_of}
 use Rattle.manager_core.specs.declared.nodes.Manager.{Manager}
@@ -42,10 +44,9 @@ use Rattle.seata_lab.specs.declared.runner.Run.{Run}
 abbrev pub HasNoCalls : ManagerDef → Type 0
 HasNoCalls def = def.calls ≡ []
 
--- what the nodes of today can run of a scenario: the coordinator forgets no transaction, there are no resources, no manager
--- makes calls, and each member of the schedule is one step
+-- what the nodes of today can run of a scenario: there are no resources, no manager makes calls, and each member of the
+-- schedule is one step
 pub record CanRun (s : Scenario) : Type 0 where
-  pub keeps : s.forget ≡ 0
   pub alone : resources_of s ≡ []
   pub uncalled : (k : ℕ) (def : ManagerDef) → slice_get s.managers k ≡ Some def → HasNoCalls def
   pub single : singles (items_of s) ≡ items_of s
@@ -116,11 +117,22 @@ abbrev pub HasManager : Scenario → List Moment → ℕ → List Manager → Ty
 HasManager s ms k managers =
     (def : ManagerDef) → slice_get s.managers k ≡ Some def → (m : Manager) × (slice_get managers k ≡ Some m) × IsManagerOf s ms (k + 1) def m
 
+-- no branch is to be registered
+abbrev pub RegistersNothing : Event → Type 0
+RegistersNothing (Given (input.Message from (message.Register xid resource call ticket kind hold check))) = ⊥
+RegistersNothing _ = Unit {0}
+
+-- at none of these own entries one was
+abbrev pub RegisterNothing : List Own → Type 0
+RegisterNothing [] = Unit {0}
+RegisterNothing (o ∷ os) = RegisterNothing os × RegistersNothing o.event
+
 -- the nodes stand for their own entries
 pub record Nodes (s : Scenario) (coordinator : Coordinator) (managers : List Manager) (ms : List Moment) : Type 0 where
   pub can : CanRun s
   pub coordinated : StandsFor coordinator (own place.Tc ms)
-  pub retry : retry_of coordinator ≡ s.retry
+  pub timed : times_kept coordinator ≡ times_of s
+  pub unregistered : RegisterNothing (own place.Tc ms)
   pub able : NODE_STEPS ≤ steps_of coordinator + length ms
   pub count : length managers ≡ length s.managers
   pub managed : (k : ℕ) → HasManager s ms k managers
@@ -182,11 +194,11 @@ pub record StepsManager (old new : List Manager) (k : ℕ) (given : Input) (now 
 abbrev pub HasHappened : Scenario → List Moment → Place → Input → ℕ → Step → Type 0
 HasHappened s ms at given now step = HappensAt (role_at (world_of s) no_past at) (own at ms) now (Given given) step
 
--- said of each history that the run's nodes stand for: a node took the step that happens by the rules, and the nodes
--- then stand for the history with that moment
+-- said of each history that the run's nodes stand for, at an input that can be framed: a node took the step that happens by
+-- the rules, and the nodes then stand for the history with that moment
 abbrev pub IsStepOf : Run → Run → Place → Input → Step → Type 0
 IsStepOf old new at given step =
-    (s : Scenario) (ms : List Moment) (reason : Reason) → Nodes s old.coordinator old.managers.items ms → IsNode s at → IsGiven s given
+    (s : Scenario) (ms : List Moment) (reason : Reason) → Nodes s old.coordinator old.managers.items ms → IsNode s at → IsGiven s given → ComesFramable given
     → HasHappened s ms at given old.clock step
     × Nodes s new.coordinator new.managers.items (next ms at old.clock reason (Some (Given given)) step ∷ ms)
     × (AllPost s ms → (out : Outgoing) → step.sent ≡ Some out → IsPost s at out.to out.message)

@@ -1,5 +1,5 @@
 -- What of a scenario the program can't run yet, in the order in which a scenario is read.
-use Rattle.std.specs.Prelude.{◌≡◌, ℕ, zero, suc, ◌+◌, Bool, true, false, List, [], ◌∷◌, ◌++◌, position, Option, Some, None, option_map, codes}
+use Rattle.std.specs.Prelude.{◌≡◌, ℕ, ◌+◌, Bool, true, false, List, [], ◌∷◌, ◌++◌, position, Option, Some, None, option_map, codes}
 use Rattle.std.specs.Option.{option_or}
 use Rattle.std.specs.Fmt.{decimal}
 use Rattle.seata_types.specs.declared.statements.Stmt.{Stmt}
@@ -15,16 +15,10 @@ use Rattle.seata_lab.specs.declared.unbuilt.Unbuilt.TheVariants as part
 
 -- the path of a part: a JSON pointer, with places counted from 0
 abbrev pub path_of : Unbuilt → List ℕ
-path_of part.Forget = codes "/forget"
 path_of part.Resources = codes "/resources"
 path_of (part.Call manager call) = codes "/managers/" ++ (decimal manager ++ (codes "/calls/" ++ decimal call))
 path_of part.Locals = codes "/locals"
 path_of (part.Step place) = codes "/schedule/" ++ decimal place
-
--- sessions are not forgotten
-abbrev pub forget_part : ℕ → Option Unbuilt
-forget_part zero = None
-forget_part (suc ticks) = Some part.Forget
 
 -- there are no resources
 abbrev pub resource_part : List ResourceDef → Option Unbuilt
@@ -63,8 +57,7 @@ step_part items = option_map part.Step (position is_unbuilt items)
 -- the first part of a scenario that can't be run
 unfoldable pub first_unbuilt : Scenario → Option Unbuilt
 first_unbuilt s =
-    option_or (forget_part s.forget) (option_or (resource_part s.resources) (option_or (managers_part 0 s.managers)
-    (option_or (local_part s.locals) (step_part s.schedule))))
+    option_or (resource_part s.resources) (option_or (managers_part 0 s.managers) (option_or (local_part s.locals) (step_part s.schedule)))
 
 -- all of a scenario can be run
 abbrev pub IsBuilt : Scenario → Type 0

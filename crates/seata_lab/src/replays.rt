@@ -63,7 +63,7 @@ fn new_run(alloc: Global, scenario: &Scenario) -> Result<Run, NoMemory>
     ensures { IfOk result (λ made. Plays scenario.now made []) }
 {
     Ok(Run {
-        coordinator: Coordinator::new(alloc, scenario.retry),
+        coordinator: Coordinator::new(alloc, scenario.retry, scenario.forget),
         managers: new_managers(alloc, scenario.lock_tries, scenario.managers.as_slice())?,
         letters: Vec::new(alloc),
         entries: Vec::new(alloc),

@@ -4,16 +4,18 @@ ghost use Rattle.history_rules.specs.Own.{Own};
 ghost use Rattle.history_rules.specs.Histories.{Moment};
 ghost use Rattle.history_text.specs.Report as report;
 ghost use Rattle.history_text.specs.Lines.{entry_text};
+ghost use Rattle.session_log.specs.SnapshotOf.{snapshot_of};
 ghost use Rattle.coordinator_core.specs.Standing.{StandsFor};
-ghost use Rattle.coordinator_core.specs.Tracks.{begun, records};
+ghost use Rattle.coordinator_core.specs.Tracks.{records};
 ghost use Rattle.seata_lab.specs.Runs.{Plays};
-ghost use Rattle.seata_lab.specs.Sessions.{plain_text, lines_to, plain_report};
+ghost use Rattle.seata_lab.specs.Sessions.{failure_at, known_line, plain_report};
 
 use crate::runner::Run;
-use coordinator_core::{Coordinator, Session};
+use coordinator_core::Coordinator;
 use history_text::{Entry, Names, put_entry, put_place};
 use scenario_reader::{ManagerDef, ResourceDef, Scenario};
-use seata_types::{Duplicate, GlobalStatus, List, NoMemory, Place, Text, Xid};
+use seata_types::{BranchId, Duplicate, GlobalStatus, List, NoMemory, Place, Text};
+use session_log::SessionEntry;
 use std::alloc::{AllocError, Global};
 
 /// Seata's name of a session's status.
@@ -85,48 +87,68 @@ fn put_entries(out: &mut String, entries: &[Entry], names: &Names) -> Result<(),
     Ok(())
 }
 
-/// The line of a session.
-fn put_session(out: &mut String, x: u64, session: &Session, names: &Names) -> Result<(), AllocError>
-    ensures { OnOk result (string_bytes out.new ≡ string_bytes out.old ++ plain_text names.now x session.now.manager session.now.status) }
+/// The branch and the statement at which a session failed, if it did.
+fn put_failure(out: &mut String, failed: Option<(BranchId, u16)>) -> Result<(), AllocError>
+    ensures { OnOk result (string_bytes out.new ≡ string_bytes out.old ++ report.failed_text (failure_at failed)) }
 {
-    write!(out, "tc:{x} ")?;
+    match failed {
+        Some((branch, stmt)) => write!(out, " b{} stmt {stmt}", branch.0),
+        None => Ok(()),
+    }
+}
+
+/// The line of a session, without its line feed.
+fn put_session(out: &mut String, entry: &SessionEntry, names: &Names) -> Result<(), AllocError>
+    ensures { OnOk result (string_bytes out.new ≡ string_bytes out.old ++ report.session_text names.now (known_line entry.now)) }
+{
+    let session = &entry.session;
+    write!(out, "tc:{} ", entry.xid.0)?;
     put_place(out, Place::Man(session.manager), names)?;
     write!(
         out,
-        " {} {}\n",
+        " {} {}",
         session.status.code(),
         status_name(session.status)
-    )
+    )?;
+    put_failure(out, session.failed)
 }
 
 /// The lines of the sessions.
 fn put_sessions(
     out: &mut String,
-    coordinator: &Coordinator,
+    sessions: &[SessionEntry],
     names: &Names,
 ) -> Result<(), AllocError>
-    ensures { OnOk result ((owns : List Own) → StandsFor coordinator.now owns
-        → string_bytes out.new ≡ string_bytes out.old ++ lines_to names.now (records owns) (begun (records owns))) }
+    ensures { OnOk result (string_bytes out.new ≡ string_bytes out.old ++ report.lines (report.session_text names.now) (map known_line sessions.now)) }
 {
-    for k in 0..coordinator.begun() {
-        let x = k as u64 + 1;
-        if let Some(session) = coordinator.session(Xid(x)) {
-            put_session(out, x, &session, names)?;
-        }
+    for entry in sessions {
+        put_session(out, entry, names)?;
+        out.push_str("\n")?;
     }
     Ok(())
 }
 
+/// The sessions that a coordinator knows.
+fn sessions_of(coordinator: &Coordinator) -> &[SessionEntry]
+    ensures { (owns : List Own) → StandsFor coordinator.now owns → result.now ≡ (snapshot_of (records owns)).sessions }
+{
+    coordinator.memory().snapshot().sessions.as_slice()
+}
+
 /// The text of the report.
 #[tactic(auto, unfolding(crate::specs::Sessions::plain_report))]
-fn put_report(out: &mut String, run: &Run, names: &Names) -> Result<(), AllocError>
-    ensures { OnOk result ((owns : List Own) → StandsFor run.now.coordinator owns
-        → string_bytes out.new ≡ string_bytes out.old ++ plain_report names.now run.now.entries.items (records owns)) }
+fn put_report(
+    out: &mut String,
+    entries: &[Entry],
+    sessions: &[SessionEntry],
+    names: &Names,
+) -> Result<(), AllocError>
+    ensures { OnOk result (string_bytes out.new ≡ string_bytes out.old ++ plain_report names.now entries.now sessions.now) }
 {
     out.push_str("entries\n")?;
-    put_entries(out, run.entries.as_slice(), names)?;
+    put_entries(out, entries, names)?;
     out.push_str("sessions\n")?;
-    put_sessions(out, &run.coordinator, names)?;
+    put_sessions(out, sessions, names)?;
     out.push_str("locks\ntables\nfences\nreads\n")?;
     Ok(())
 }
@@ -137,7 +159,8 @@ pub fn write_report(alloc: Global, scenario: &Scenario, run: &Run) -> Result<Str
 {
     let names = node_names(alloc, scenario)?;
     let mut out = String::new(alloc);
-    match put_report(&mut out, run, &names) {
+    let sessions = sessions_of(&run.coordinator);
+    match put_report(&mut out, run.entries.as_slice(), sessions, &names) {
         Ok(()) => Ok(out),
         Err(AllocError) => Err(NoMemory),
     }

@@ -1,4 +1,4 @@
-//! The scenarios of `examples/` with their outputs, and three more; inputs that are refused, with their line.
+//! The scenarios of `examples/` with their outputs, and two more; inputs that are refused, with their line.
 
 pub const REPEATED_MESSAGES: [&str; 2] = [
     r#"{
@@ -144,8 +144,25 @@ reads
 ];
 
 /// A manager that asks for the status once its transaction is closed.
-pub const POLLS: [&str; 2] = [
-    r#"{"resources":[],"managers":[{"name":"m1","calls":[],"end":"commit","poll":true}],"schedule":["turn m1","deliver 1","deliver 2","deliver 3","deliver 4","turn tc","turn m1","deliver 7","deliver 8"]}"#,
+pub const POLLED: [&str; 2] = [
+    r#"{
+  "resources": [],
+  "managers": [
+    {"name": "m1", "calls": [], "end": "commit", "poll": true}
+  ],
+  "schedule": [
+    "turn m1",
+    "deliver 1",
+    "deliver 2",
+    "deliver 3",
+    "deliver 4",
+    "turn tc",
+    "turn m1",
+    "deliver 7",
+    "deliver 8"
+  ]
+}
+"#,
     r#"entries
 1 m1 0 turn | starts | begin m1 60000 to tc
 2 tc 0 deliver 1 m1 | begun tc:1 | begun tc:1 to m1
@@ -158,6 +175,56 @@ pub const POLLS: [&str; 2] = [
 9 m1 0 deliver 8 tc | learns 9 | -
 sessions
 tc:1 m1 9 Committed
+locks
+tables
+fences
+reads
+"#,
+];
+
+pub const FORGOTTEN: [&str; 2] = [
+    r#"{
+  "resources": [],
+  "forget": 100,
+  "managers": [
+    {"name": "m1", "calls": [], "end": "commit", "poll": true}
+  ],
+  "schedule": [
+    "turn m1",
+    "deliver 1",
+    "deliver 2",
+    "deliver 3",
+    "deliver 4",
+    "turn tc",
+    "turn m1",
+    "deliver 7",
+    "wait 99",
+    "turn tc",
+    "wait 1",
+    "turn tc",
+    "deliver 7",
+    "deliver 13",
+    "deliver 1"
+  ]
+}
+"#,
+    r#"entries
+1 m1 0 turn | starts | begin m1 60000 to tc
+2 tc 0 deliver 1 m1 | begun tc:1 | begun tc:1 to m1
+3 m1 0 deliver 2 tc | goes on | commit tc:1 to tc
+4 tc 0 deliver 3 m1 | decided tc:1 commit | commit-status tc:1 8 to m1
+5 m1 0 deliver 4 tc | closes 8 | -
+6 tc 0 turn | finished tc:1 9 | -
+7 m1 0 turn | polls | status-ask tc:1 to tc
+8 tc 0 deliver 7 m1 | told tc:1 9 | status tc:1 9 to m1
+9 net 99 wait 99 | none | -
+10 tc 99 turn | none | -
+11 net 100 wait 1 | none | -
+12 tc 100 turn | forgot tc:1 | -
+13 tc 100 deliver 7 m1 | told tc:1 15 | status tc:1 15 to m1
+14 m1 100 deliver 13 tc | learns 15 | -
+15 tc 100 deliver 1 m1 | known tc:1 | begun tc:1 to m1
+sessions
 locks
 tables
 fences
@@ -344,7 +411,7 @@ pub const FAULTS: [[&str; 2]; 14] = [
 pub const UNBUILT: [[&str; 2]; 9] = [
     [
         r#"{"forget":1,"resources":[{"name":"A","tables":[]}],"managers":[],"schedule":[]}"#,
-        "/forget",
+        "/resources",
     ],
     [
         r#"{"resources":[{"name":"A","tables":[]}],"managers":[{"name":"m1","calls":[],"end":"commit","poll":true}],"locals":[{"at":"A","do":[]}],"schedule":["local 1","outside 1"]}"#,

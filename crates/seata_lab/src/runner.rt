@@ -54,7 +54,7 @@ fn open(alloc: Global, letter: &Letter) -> Result<Delivery, NoMemory>
 impl Run {
     ghost use Rattle.seata_types.specs.declared.limits.TheConstants.{STEPS};
     ghost use Rattle.std.specs.Prelude.{◌≡◌, ◌+◌, ◌++◌, ◌∷◌, [], ◌<◌, ◌≤◌, ◌^◌, ℕ, List, length, slice_get, Option, Some, None, IfOk, OnOk, IfSome, option_map};
-    ghost use Rattle.coordinator_core.specs.Standing.{StandsFor, retry_of, role_of, steps_of};
+    ghost use Rattle.coordinator_core.specs.Standing.{StandsFor, times_of, role_of, steps_of};
     ghost use Rattle.manager_core.specs.Standing.{steps_of as manager_steps_of};
     ghost use Rattle.history_text.specs.Promises.{TakesStep};
     ghost use Rattle.seata_types.specs.declared.acts.Act.TheVariants as acts;
@@ -70,9 +70,9 @@ impl Run {
     fn step_coordinator(&mut self, alloc: Global, input: Input) -> Result<Step, NoMemory>
         requires able { 0 < steps_of self.old.coordinator }
         requires moment { self.old.clock ≤ 2 ^ 63 }
-        ensures takes { IfOk result (TakesStep StandsFor (role_of (retry_of self.old.coordinator)) self.old.coordinator self.new.coordinator input self.old.clock) }
+        ensures takes { IfOk result (TakesStep StandsFor (role_of (times_of self.old.coordinator)) self.old.coordinator self.new.coordinator input self.old.clock) }
         ensures framable { ComesFramable input → IfOk result SendsFramable }
-        ensures same { retry_of self.new.coordinator ≡ retry_of self.old.coordinator }
+        ensures same { times_of self.new.coordinator ≡ times_of self.old.coordinator }
         ensures counted { OnOk result (steps_of self.new.coordinator + 1 ≡ steps_of self.old.coordinator) }
         ensures managers { self.new.managers ≡ self.old.managers }
         ensures rest { (self.new.letters ≡ self.old.letters) × (self.new.entries ≡ self.old.entries) × (self.new.clock ≡ self.old.clock) }

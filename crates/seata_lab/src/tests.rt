@@ -3,8 +3,8 @@ ghost use Rattle.std.specs.Prelude.{◌<◌};
 
 use crate::memory::{MemSink, MemSource};
 use crate::rows::{
-    COMMIT_IN_TIME, FAULTS, FRAMES, LATE_ONES, NOTHING, POLLS, REPEATED_MESSAGES, ROLLBACK,
-    TIMEOUT, UNBUILT,
+    COMMIT_IN_TIME, FAULTS, FORGOTTEN, FRAMES, LATE_ONES, NOTHING, POLLED, REPEATED_MESSAGES,
+    ROLLBACK, TIMEOUT, UNBUILT,
 };
 use crate::tops::top;
 use seata_types::Text;
@@ -65,7 +65,8 @@ fn replays(rt: HostRuntime) -> Result<(), Fail> {
         TIMEOUT,
         ROLLBACK,
         LATE_ONES,
-        POLLS,
+        POLLED,
+        FORGOTTEN,
     ] {
         let ran = run(rt.alloc(), &["replay"], input.as_bytes(), SOUND)?;
         expect(&rt, &ran, 0, output);

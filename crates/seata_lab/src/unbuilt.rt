@@ -11,8 +11,6 @@ use std::alloc::AllocError;
 /// A part of a scenario that can't be run yet. Places are counted from 0.
 #[derive(Clone, Copy)]
 pub enum Unbuilt {
-    /// Sessions that are forgotten.
-    Forget,
     /// Databases.
     Resources,
     /// A call of the TCC mode.
@@ -28,7 +26,6 @@ pub fn put_path(out: &mut String, part: Unbuilt) -> Result<(), AllocError>
     ensures { OnOk result (string_bytes out.new ≡ string_bytes out.old ++ parts.path_of part) }
 {
     match part {
-        Unbuilt::Forget => write!(out, "/forget"),
         Unbuilt::Resources => write!(out, "/resources"),
         Unbuilt::Call { manager, call } => write!(out, "/managers/{manager}/calls/{call}"),
         Unbuilt::Locals => write!(out, "/locals"),
@@ -104,9 +101,6 @@ fn step_part(items: &[ScheduleItem]) -> Option<Unbuilt>
 pub fn first_unbuilt(scenario: &Scenario) -> Option<Unbuilt>
     ensures { result ≡ parts.first_unbuilt scenario.now }
 {
-    if scenario.forget != 0 {
-        return Some(Unbuilt::Forget);
-    }
     if !scenario.resources.as_slice().is_empty() {
         return Some(Unbuilt::Resources);
     }

@@ -1,9 +1,9 @@
-use Rattle.std.proofs.Common.{◌≡◌, ◌++◌, List, string_bytes}
-use Rattle.history_rules.specs.Own.{Own}
-use Rattle.coordinator_core.specs.Standing.{StandsFor}
-use Rattle.coordinator_core.specs.Tracks.{records}
-use Rattle.seata_lab.specs.Sessions.{lines_to}
+use Rattle.std.proofs.Common.{◌≡◌, ◌++◌, drop, map, string_bytes}
+use Rattle.history_text.specs.Report.{lines, session_text}
+use Rattle.seata_lab.specs.Sessions.{known_line}
 use Rattle.seata_lab.proofs.reports.put_sessions.Given as goal
 
-abbrev pub invariant-loop-k : goal.invariant-loop-k
-invariant-loop-k l = (owns : List Own) → StandsFor l.coordinator owns → string_bytes l.out ≡ string_bytes l.initial.out ++ lines_to l.names (records owns) l.k
+abbrev pub invariant-loop-entry : goal.invariant-loop-entry
+invariant-loop-entry l =
+    string_bytes l.out ++ lines (session_text l.names) (map known_line (drop l.entry-index l.sessions))
+    ≡ string_bytes l.initial.out ++ lines (session_text l.names) (map known_line l.sessions)

@@ -1,0 +1,155 @@
+//! The answers of branches in their second phase.
+use crate::kinds;
+use crate::table::{Table, may_come};
+use durable_records::SessionRecord;
+use history_text::still;
+use seata_types::{Act, BranchStatus, Durable, Leg, NoMemory, Place, Step};
+use std::alloc::Global;
+
+impl Table {
+    ghost use Rattle.std.specs.Prelude.{◌≡◌, ◌<◌, ◌≤◌, ◌+◌, ◌^◌, ◌&&◌, not, true};
+    ghost use Rattle.seata_types.specs.declared.acts.Act.TheVariants as act;
+    ghost use Rattle.seata_types.specs.declared.acts.Durable.TheVariants as durable;
+    ghost use Rattle.seata_types.specs.declared.messages.Input.TheVariants as input;
+    ghost use Rattle.seata_types.specs.declared.messages.Message.TheVariants as message;
+    ghost use Rattle.durable_records.specs.Progress.{may_retry};
+    ghost use Rattle.history_rules.specs.Own as own;
+    ghost use Rattle.history_rules.specs.CoordinatorRules.{end_answer, retry_answer};
+    ghost use Rattle.session_memory.specs.Changes.{is_begin, is_open};
+    ghost use Rattle.session_memory.specs.Holding.{keeps_rows};
+    ghost use Rattle.session_memory.specs.Lookups.{status_in};
+    ghost use Rattle.coordinator_core.specs.Answers.{Answers, AnswersAs};
+
+    /// Takes the answer of a branch that was asked to commit.
+    pub(crate) fn branch_committed(
+        &mut self,
+        alloc: Global,
+        from: Place,
+        leg: Leg,
+        status: BranchStatus,
+        stmt: u16,
+        now: u64,
+    ) -> Result<Step, NoMemory>
+        requires room { self.old.memory.acts + 1 < 2 ^ 32 }
+        requires moment { now ≤ 2 ^ 63 }
+        ensures { Answers self.old self.new (input.Message from (message.BranchCommitted leg.xid leg.branch status stmt)) now result }
+    {
+        if !self.may_commit(leg) {
+            return Ok(still(Act::Ignored));
+        }
+        self.end(alloc, leg, status, stmt, now)
+    }
+
+    /// Takes the answer of a branch that was asked to roll back.
+    pub(crate) fn branch_rollbacked(
+        &mut self,
+        alloc: Global,
+        from: Place,
+        leg: Leg,
+        status: BranchStatus,
+        stmt: u16,
+        now: u64,
+    ) -> Result<Step, NoMemory>
+        requires room { self.old.memory.acts + 1 < 2 ^ 32 }
+        requires moment { now ≤ 2 ^ 63 }
+        ensures { Answers self.old self.new (input.Message from (message.BranchRollbacked leg.xid leg.branch status stmt)) now result }
+    {
+        if !self.may_roll_back(leg) {
+            return Ok(still(Act::Ignored));
+        }
+        self.end(alloc, leg, status, stmt, now)
+    }
+
+    // Whether this is an unended branch of a transaction that commits.
+    fn may_commit(&self, leg: Leg) -> bool
+        ensures { result ≡ (not (keeps_rows (status_in self.now.memory leg.xid.0)) && is_open self.now.memory leg.xid.0 leg.branch.0) }
+    {
+        kinds::is_committing(self.memory.status(leg.xid)) && self.is_open(leg)
+    }
+
+    // Whether this is an unended branch of a transaction that rolls back.
+    fn may_roll_back(&self, leg: Leg) -> bool
+        ensures { result ≡ ((keeps_rows (status_in self.now.memory leg.xid.0) && not (is_begin (status_in self.now.memory leg.xid.0))) && is_open self.now.memory leg.xid.0 leg.branch.0) }
+    {
+        kinds::is_rolling(self.memory.status(leg.xid)) && self.is_open(leg)
+    }
+
+    // Whether this is an unended branch of a transaction in its second phase.
+    fn is_open(&self, leg: Leg) -> bool
+        ensures { result ≡ is_open self.now.memory leg.xid.0 leg.branch.0 }
+    {
+        let Leg { xid, branch } = leg;
+        let item = SessionRecord::Ended { xid, branch };
+        let open = may_come(&self.memory, &item);
+        drop(item);
+        open
+    }
+
+    // Goes by the status of an unended branch.
+    fn end(
+        &mut self,
+        alloc: Global,
+        leg: Leg,
+        status: BranchStatus,
+        stmt: u16,
+        now: u64,
+    ) -> Result<Step, NoMemory>
+        requires room { self.old.memory.acts + 1 < 2 ^ 32 }
+        requires moment { now ≤ 2 ^ 63 }
+        requires open { is_open self.old.memory leg.xid.0 leg.branch.0 ≡ true }
+        ensures { AnswersAs (λ rs. end_answer rs leg.xid leg.branch status stmt) self.old self.new now result }
+    {
+        match status {
+            BranchStatus::PhaseTwoCommitted => self.ended(alloc, leg, now),
+            BranchStatus::PhaseTwoRollbacked => self.ended(alloc, leg, now),
+            BranchStatus::PhaseTwoCommitFailedRetryable => self.retry_later(alloc, leg, now),
+            BranchStatus::PhaseTwoRollbackFailedRetryable => self.retry_later(alloc, leg, now),
+            BranchStatus::PhaseTwoCommitFailedUnretryable => self.failed(alloc, leg, stmt, now),
+            BranchStatus::PhaseTwoRollbackFailedUnretryable => self.failed(alloc, leg, stmt, now),
+            _ => Ok(still(Act::Ignored)),
+        }
+    }
+
+    // The branch is done.
+    fn ended(&mut self, alloc: Global, leg: Leg, now: u64) -> Result<Step, NoMemory>
+        requires room { self.old.memory.acts + 1 < 2 ^ 32 }
+        requires moment { now ≤ 2 ^ 63 }
+        requires open { is_open self.old.memory leg.xid.0 leg.branch.0 ≡ true }
+        ensures { AnswersAs (λ rs. own.still (act.Durable (durable.Ended leg.xid leg.branch))) self.old self.new now result }
+    {
+        let Leg { xid, branch } = leg;
+        if !self.make(alloc, SessionRecord::Ended { xid, branch }, now)? {
+            return Ok(still(Act::Ignored));
+        }
+        Ok(still(Act::Durable(Durable::Ended { xid, branch })))
+    }
+
+    // The branch failed for good, and with it the second phase of its transaction.
+    fn failed(&mut self, alloc: Global, leg: Leg, stmt: u16, now: u64) -> Result<Step, NoMemory>
+        requires room { self.old.memory.acts + 1 < 2 ^ 32 }
+        requires moment { now ≤ 2 ^ 63 }
+        requires open { is_open self.old.memory leg.xid.0 leg.branch.0 ≡ true }
+        ensures { AnswersAs (λ rs. own.still (act.Durable (durable.Failed leg.xid leg.branch stmt))) self.old self.new now result }
+    {
+        let Leg { xid, branch } = leg;
+        if !self.make(alloc, SessionRecord::Failed { xid, branch, stmt }, now)? {
+            return Ok(still(Act::Ignored));
+        }
+        Ok(still(Act::Durable(Durable::Failed { xid, branch, stmt })))
+    }
+
+    // The branch is to be asked again, which may change the status of its transaction.
+    fn retry_later(&mut self, alloc: Global, leg: Leg, now: u64) -> Result<Step, NoMemory>
+        requires room { self.old.memory.acts + 1 < 2 ^ 32 }
+        requires moment { now ≤ 2 ^ 63 }
+        requires open { is_open self.old.memory leg.xid.0 leg.branch.0 ≡ true }
+        ensures { AnswersAs (λ rs. retry_answer rs leg.xid leg.branch (may_retry rs leg.xid.0)) self.old self.new now result }
+    {
+        let Leg { xid, branch } = leg;
+        if self.make(alloc, SessionRecord::Retrying { xid }, now)? {
+            return Ok(still(Act::Durable(Durable::Retrying { xid, branch })));
+        }
+        self.plan_again(xid, now)?;
+        Ok(still(Act::Retry { xid, branch }))
+    }
+}

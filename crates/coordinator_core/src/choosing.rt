@@ -1,0 +1,138 @@
+//! Which transaction a turn takes, and which branch is asked.
+ghost use Rattle.std.specs.Prelude.{◌≡◌, ◌&&◌, ◌≤◌, nat_lt, nat_le, count_by, find, option_map, IfOk};
+ghost use Rattle.std.specs.Option.{option_copied};
+ghost use Rattle.lock_table.specs.Locks.{first_held};
+ghost use Rattle.session_log.specs.Soundness.{is_open_branch};
+ghost use Rattle.session_memory.specs.Lookups.{xid_of};
+ghost use Rattle.session_memory.specs.Changes.{is_begin};
+ghost use Rattle.coordinator_core.specs.Choices.{is_late_entry, is_old_entry, is_unended_entry, is_by, last_open, nobody, has_passed};
+
+use crate::kinds;
+use crate::rests::Rests;
+use lock_table::{LockTable, Steps};
+use seata_types::{Duplicate, NoMemory, RowKey, Xid};
+use session_log::{Branch, Session, SessionEntry};
+use std::alloc::Global;
+use std::sync::ledger::Ledger;
+
+/// Whether the timeout of a transaction is over.
+pub(crate) fn has_passed(session: &Session, now: u64) -> bool
+    ensures { result ≡ has_passed session.now now }
+{
+    now.saturating_sub(session.begun) > session.timeout
+}
+
+fn is_late(entry: &SessionEntry, now: u64) -> bool
+    ensures { result ≡ is_late_entry now entry.now }
+{
+    kinds::is_begin(entry.session.status) && has_passed(&entry.session, now)
+}
+
+/// The first transaction that isn't decided and whose timeout is over.
+pub(crate) fn least_late(sessions: &[SessionEntry], now: u64) -> Option<Xid>
+    ensures { result ≡ option_map xid_of (find (is_late_entry now) sessions.now) }
+{
+    for entry in sessions {
+        if is_late(entry, now) {
+            return Some(entry.xid);
+        }
+    }
+    None
+}
+
+// Whether `forget` ticks, which isn't 0, have gone by.
+fn is_by(since: Option<u64>, forget: u64, now: u64) -> bool
+    ensures { result ≡ (nat_lt 0 forget && is_by forget now since) }
+{
+    match since {
+        Some(since) => forget > 0 && now.saturating_sub(since) >= forget,
+        None => false,
+    }
+}
+
+fn is_old(entry: &SessionEntry, rests: &Rests, forget: u64, now: u64) -> bool
+    ensures { result ≡ is_old_entry rests.now forget now entry.now }
+{
+    kinds::is_finished(entry.session.status) && is_by(rests.since(entry.xid), forget, now)
+}
+
+/// The first transaction that rests for so long that it is forgotten; none where `forget` is 0.
+pub(crate) fn least_old(
+    sessions: &[SessionEntry],
+    rests: &Rests,
+    forget: u64,
+    now: u64,
+) -> Option<Xid>
+    ensures { result ≡ option_map xid_of (find (is_old_entry rests.now forget now) sessions.now) }
+{
+    for entry in sessions {
+        if is_old(entry, rests, forget, now) {
+            return Some(entry.xid);
+        }
+    }
+    None
+}
+
+#[tactic(auto, unfolding(crate::specs::Choices::is_unended_entry))]
+fn is_unended(entry: &SessionEntry) -> bool
+    ensures { result ≡ is_unended_entry entry.now }
+{
+    kinds::is_unended(entry.session.status)
+}
+
+/// How many transactions are neither finished nor failed.
+pub(crate) fn unended(sessions: &[SessionEntry]) -> usize
+    ensures { result ≡ count_by is_unended_entry sessions.now }
+{
+    let mut count = 0;
+    for entry in sessions {
+        if is_unended(entry) {
+            count += 1;
+        }
+    }
+    count
+}
+
+/// The first branch that isn't ended.
+pub(crate) fn first_open(branches: &[Branch]) -> Option<&Branch>
+    ensures { option_copied result ≡ find is_open_branch branches.now }
+{
+    for branch in branches {
+        if !branch.ended {
+            return Some(branch);
+        }
+    }
+    None
+}
+
+/// The last branch that isn't ended.
+pub(crate) fn last_open(branches: &[Branch]) -> Option<&Branch>
+    ensures { option_copied result ≡ last_open branches.now }
+{
+    let mut found = None;
+    for branch in branches {
+        if !branch.ended {
+            found = Some(branch);
+        }
+    }
+    found
+}
+
+/// The first of these rows that a transaction holds, with the transaction.
+pub(crate) fn first_held<L: Ledger>(
+    alloc: Global,
+    locks: &LockTable,
+    rows: &[RowKey],
+    steps: &mut Steps<L>,
+) -> Result<Option<(RowKey, Xid)>, NoMemory>
+    ensures { IfOk result (λ found. found ≡ first_held locks.now nobody rows.now) }
+{
+    for key in rows {
+        if let Some(by) = locks.holder(key, steps) {
+            if by.0 != 0 {
+                return Ok(Some((key.copy(alloc)?, by)));
+            }
+        }
+    }
+    Ok(None)
+}

@@ -1,0 +1,137 @@
+//! Transactions begin, and are decided.
+ghost use Rattle.std.specs.Prelude.{◌≡◌, if◌then◌else◌};
+ghost use Rattle.seata_types.specs.declared.acts.Act.TheVariants as act;
+ghost use Rattle.seata_types.specs.declared.acts.Durable.TheVariants as durable;
+ghost use Rattle.seata_types.specs.declared.ids.Place.TheVariants as place;
+ghost use Rattle.seata_types.specs.declared.messages.Message.TheVariants as message;
+ghost use Rattle.seata_types.specs.declared.statuses.Decision.TheVariants as decision;
+ghost use Rattle.history_rules.specs.Own as own;
+ghost use Rattle.history_text.specs.Framing.{SendsFramable};
+
+use crate::table::Table;
+use durable_records::SessionRecord;
+use history_text::{sends, still};
+use seata_types::{Act, Decision, Durable, GlobalStatus, Message, NoMemory, Place, Step, Xid};
+use std::alloc::Global;
+
+impl Table {
+    ghost use Rattle.std.specs.Prelude.{◌≡◌, ◌<◌, ◌≤◌, ◌+◌, ◌^◌, Ok};
+    ghost use Rattle.seata_types.specs.declared.messages.Input.TheVariants as input;
+    ghost use Rattle.seata_types.specs.declared.messages.Message.TheVariants as message;
+    ghost use Rattle.coordinator_core.specs.Answers.{Answers};
+
+    /// Begins a transaction for a manager, or tells the one that it has.
+    pub(crate) fn begin(
+        &mut self,
+        alloc: Global,
+        from: Place,
+        manager: u16,
+        timeout: u64,
+        now: u64,
+    ) -> Result<Step, NoMemory>
+        requires room { self.old.memory.acts + 1 < 2 ^ 32 }
+        requires moment { now ≤ 2 ^ 63 }
+        ensures { Answers self.old self.new (input.Message from (message.Begin manager timeout)) now result }
+    {
+        if let Some(xid) = self.memory.manager_xid(manager) {
+            return Ok(begun(Act::Known { xid }, manager, xid));
+        }
+        let xid = self.memory.next_xid();
+        let item = SessionRecord::Begun {
+            xid,
+            manager,
+            begun: now,
+            timeout,
+        };
+        if !self.make(alloc, item, now)? {
+            return Ok(still(Act::Ignored));
+        }
+        Ok(begun(Act::Durable(Durable::Begun { xid }), manager, xid))
+    }
+
+    /// Answers a GlobalCommit: past its timeout a transaction is rolled back.
+    pub(crate) fn commit(
+        &mut self,
+        alloc: Global,
+        from: Place,
+        xid: Xid,
+        now: u64,
+    ) -> Result<Step, NoMemory>
+        requires room { self.old.memory.acts + 1 < 2 ^ 32 }
+        requires moment { now ≤ 2 ^ 63 }
+        ensures { Answers self.old self.new (input.Message from (message.GlobalCommit xid)) now result }
+    {
+        let how = commit_or_timeout(self.is_past(xid, now));
+        let made = self.make(alloc, SessionRecord::Decided { xid, how }, now)?;
+        let status = self.memory.status(xid);
+        Ok(sends(
+            decided_or_told(made, xid, how, status),
+            from,
+            Message::CommitStatus { xid, status },
+        ))
+    }
+
+    /// Answers a GlobalRollback.
+    pub(crate) fn roll_back(
+        &mut self,
+        alloc: Global,
+        from: Place,
+        xid: Xid,
+        now: u64,
+    ) -> Result<Step, NoMemory>
+        requires room { self.old.memory.acts + 1 < 2 ^ 32 }
+        requires moment { now ≤ 2 ^ 63 }
+        ensures { Answers self.old self.new (input.Message from (message.GlobalRollback xid)) now result }
+    {
+        let how = Decision::Rollback;
+        let made = self.make(alloc, SessionRecord::Decided { xid, how }, now)?;
+        let status = self.memory.status(xid);
+        Ok(sends(
+            decided_or_told(made, xid, how, status),
+            from,
+            Message::RollbackStatus { xid, status },
+        ))
+    }
+
+    /// Answers a question for a status.
+    pub(crate) fn tell(&mut self, from: Place, xid: Xid, now: u64) -> Step
+        ensures { Answers self.old self.new (input.Message from (message.GlobalStatus xid)) now (Ok result) }
+    {
+        let status = self.memory.status(xid);
+        sends(
+            Act::Told { xid, status },
+            from,
+            Message::StatusAnswer { xid, status },
+        )
+    }
+}
+
+// Tells a manager its transaction.
+fn begun(act: Act, manager: u16, xid: Xid) -> Step
+    ensures value { result ≡ own.sends act (place.Man manager) (message.Begun xid) }
+    ensures framable { SendsFramable result }
+{
+    sends(act, Place::Man(manager), Message::Begun { xid })
+}
+
+// What a GlobalCommit decides.
+fn commit_or_timeout(past: bool) -> Decision
+    ensures { result ≡ (if past then decision.Timeout else decision.Commit) }
+{
+    if past {
+        Decision::Timeout
+    } else {
+        Decision::Commit
+    }
+}
+
+// The act of an answer to a manager: the decision that was made, or the status.
+fn decided_or_told(made: bool, xid: Xid, how: Decision, status: GlobalStatus) -> Act
+    ensures { result ≡ (if made then act.Durable (durable.Decided xid how) else act.Told xid status) }
+{
+    if made {
+        Act::Durable(Durable::Decided { xid, how })
+    } else {
+        Act::Told { xid, status }
+    }
+}

@@ -1,0 +1,368 @@
+//! What the coordinator answers on branches and rows, one input after the other, as its entries' lines.
+ghost use Rattle.std.specs.Prelude.{◌≤◌, ◌^◌};
+
+use crate::steps::line_of;
+use coordinator_core::Coordinator;
+use history_text::Node;
+use seata_types::{
+    BranchId, BranchKind, BranchStatus, Input, List, Message, NoMemory, Place, RowKey, Text,
+    Ticket, Value, Xid,
+};
+use std::alloc::Global;
+use std::process::Abort;
+use std::test::Fail;
+
+/// What the coordinator is given: of its one manager's or its one resource's messages the number of the transaction, which is
+/// that of the manager, of the ticket and of the branch too.
+#[derive(Clone, Copy)]
+enum Given {
+    Turn,
+    Begin(u16, u64),
+    Commit(u16),
+    RollBack(u16),
+    Register(u16),
+    Query(u16),
+    Committed(u16, BranchStatus),
+    Rollbacked(u16, BranchStatus),
+}
+
+/// When, in ticks, what, and the line that is wanted.
+type Row = (u32, Given, &'static str);
+
+/// Two transactions that commit on one row, the second after the first.
+const COMMITS: [Row; 16] = [
+    (
+        0,
+        Given::Begin(1, 60000),
+        "1 tc 0 turn | begun tc:1 | begun tc:1 to m1",
+    ),
+    (
+        0,
+        Given::Register(1),
+        "1 tc 0 turn | granted tc:1 b1 | granted t1.1 tc:1 b1 to r1",
+    ),
+    (
+        0,
+        Given::Register(1),
+        "1 tc 0 turn | regranted tc:1 b1 | granted t1.1 tc:1 b1 to r1",
+    ),
+    (
+        0,
+        Given::Begin(2, 60000),
+        "1 tc 0 turn | begun tc:2 | begun tc:2 to m2",
+    ),
+    (
+        0,
+        Given::Register(2),
+        "1 tc 0 turn | conflict tc:2 r1.acc:1 tc:1 held | conflict t1.2 tc:2 r1.acc:1 tc:1 held to r1",
+    ),
+    (
+        0,
+        Given::Query(2),
+        "1 tc 0 turn | held r1.acc:1 tc:1 | lock-held t1.2 r1.acc:1 tc:1 to r1",
+    ),
+    (
+        0,
+        Given::Commit(1),
+        "1 tc 0 turn | decided tc:1 commit | commit-status tc:1 8 to m1",
+    ),
+    (
+        0,
+        Given::Register(2),
+        "1 tc 0 turn | granted tc:2 b2 | granted t1.2 tc:2 b2 to r1",
+    ),
+    (
+        0,
+        Given::Commit(2),
+        "1 tc 0 turn | decided tc:2 commit | commit-status tc:2 8 to m2",
+    ),
+    (
+        0,
+        Given::Turn,
+        "1 tc 0 turn | asked tc:1 b1 | branch-commit tc:1 b1 AT to r1",
+    ),
+    (
+        0,
+        Given::Committed(1, BranchStatus::PhaseTwoCommitted),
+        "1 tc 0 turn | ended tc:1 b1 | -",
+    ),
+    (
+        0,
+        Given::Committed(1, BranchStatus::PhaseTwoCommitted),
+        "1 tc 0 turn | ignored | -",
+    ),
+    (0, Given::Turn, "1 tc 0 turn | finished tc:1 9 | -"),
+    (
+        0,
+        Given::Turn,
+        "1 tc 0 turn | asked tc:2 b2 | branch-commit tc:2 b2 AT to r1",
+    ),
+    (
+        0,
+        Given::Committed(2, BranchStatus::PhaseTwoCommitted),
+        "1 tc 0 turn | ended tc:2 b2 | -",
+    ),
+    (0, Given::Turn, "1 tc 0 turn | finished tc:2 9 | -"),
+];
+
+/// A rollback that is asked for twice, with another transaction in wait for its row.
+const ROLLS_BACK: [Row; 13] = [
+    (
+        0,
+        Given::Begin(1, 60000),
+        "1 tc 0 turn | begun tc:1 | begun tc:1 to m1",
+    ),
+    (
+        0,
+        Given::Register(1),
+        "1 tc 0 turn | granted tc:1 b1 | granted t1.1 tc:1 b1 to r1",
+    ),
+    (
+        0,
+        Given::Begin(2, 60000),
+        "1 tc 0 turn | begun tc:2 | begun tc:2 to m2",
+    ),
+    (
+        0,
+        Given::RollBack(1),
+        "1 tc 0 turn | decided tc:1 rollback | rollback-status tc:1 4 to m1",
+    ),
+    (
+        0,
+        Given::Turn,
+        "1 tc 0 turn | asked tc:1 b1 | branch-rollback tc:1 b1 AT to r1",
+    ),
+    (
+        0,
+        Given::Rollbacked(1, BranchStatus::PhaseTwoRollbackFailedRetryable),
+        "1 tc 0 turn | retrying tc:1 b1 | -",
+    ),
+    (
+        0,
+        Given::Register(2),
+        "1 tc 0 turn | conflict tc:2 r1.acc:1 tc:1 rolling | conflict t1.2 tc:2 r1.acc:1 tc:1 rolling to r1",
+    ),
+    (999, Given::Turn, "1 tc 0 turn | none | -"),
+    (
+        1000,
+        Given::Turn,
+        "1 tc 0 turn | asked tc:1 b1 | branch-rollback tc:1 b1 AT to r1",
+    ),
+    (
+        1000,
+        Given::Rollbacked(1, BranchStatus::PhaseTwoRollbacked),
+        "1 tc 0 turn | ended tc:1 b1 | -",
+    ),
+    (1000, Given::Turn, "1 tc 0 turn | finished tc:1 11 | -"),
+    (
+        1000,
+        Given::Query(2),
+        "1 tc 0 turn | free | lock-free t1.2 to r1",
+    ),
+    (
+        1000,
+        Given::RollBack(2),
+        "1 tc 0 turn | decided tc:2 rollback | rollback-status tc:2 4 to m2",
+    ),
+];
+
+/// A timeout at a turn, and one at a registration, whose rollback fails for good.
+const TIMES_OUT: [Row; 12] = [
+    (
+        0,
+        Given::Begin(1, 10),
+        "1 tc 0 turn | begun tc:1 | begun tc:1 to m1",
+    ),
+    (
+        0,
+        Given::Register(1),
+        "1 tc 0 turn | granted tc:1 b1 | granted t1.1 tc:1 b1 to r1",
+    ),
+    (11, Given::Turn, "1 tc 0 turn | decided tc:1 timeout | -"),
+    (
+        11,
+        Given::Turn,
+        "1 tc 0 turn | asked tc:1 b1 | branch-rollback tc:1 b1 AT to r1",
+    ),
+    (
+        11,
+        Given::Rollbacked(1, BranchStatus::PhaseTwoRollbackFailedUnretryable),
+        "1 tc 0 turn | failed tc:1 b1 stmt 0 | -",
+    ),
+    (5000, Given::Turn, "1 tc 0 turn | none | -"),
+    (
+        5000,
+        Given::RollBack(1),
+        "1 tc 0 turn | told tc:1 14 | rollback-status tc:1 14 to m1",
+    ),
+    (
+        5000,
+        Given::Begin(2, 10),
+        "1 tc 0 turn | begun tc:2 | begun tc:2 to m2",
+    ),
+    (
+        5011,
+        Given::Register(2),
+        "1 tc 0 turn | late tc:2 | late t1.2 tc:2 to r1",
+    ),
+    (
+        5011,
+        Given::Register(2),
+        "1 tc 0 turn | closed tc:2 6 | closed t1.2 tc:2 6 to r1",
+    ),
+    (5011, Given::Turn, "1 tc 0 turn | finished tc:2 13 | -"),
+    (5011, Given::Turn, "1 tc 0 turn | none | -"),
+];
+
+fn xid_of(number: u16) -> Xid {
+    Xid(u64::from(number))
+}
+
+fn branch_of(number: u16) -> BranchId {
+    BranchId(u64::from(number))
+}
+
+fn ticket_of(number: u16) -> Ticket {
+    Ticket {
+        boot: 1,
+        seq: u32::from(number),
+    }
+}
+
+/// Row 1 of the table acc at the resource.
+fn row(alloc: Global) -> Result<List<RowKey>, NoMemory> {
+    let mut pk = Vec::new(alloc);
+    pk.push(Value::Int(1)).map_err(|_| NoMemory)?;
+    let table = String::from_str(alloc, "acc").map_err(|_| NoMemory)?;
+    let key = RowKey {
+        resource: 1,
+        table: Text::of(table),
+        pk: List::of(pk),
+    };
+    let mut rows = Vec::new(alloc);
+    rows.push(key).map_err(|_| NoMemory)?;
+    Ok(List::of(rows))
+}
+
+fn register(number: u16, hold: List<RowKey>, check: List<RowKey>) -> Message {
+    Message::Register {
+        xid: xid_of(number),
+        resource: 1,
+        call: 1,
+        ticket: ticket_of(number),
+        kind: BranchKind::At,
+        hold,
+        check,
+    }
+}
+
+fn from_resource(message: Message) -> Input {
+    Input::Message {
+        from: Place::Res(1),
+        message,
+    }
+}
+
+fn from_manager(number: u16, message: Message) -> Input {
+    Input::Message {
+        from: Place::Man(number),
+        message,
+    }
+}
+
+/// What a resource sends on rows.
+fn on_rows(alloc: Global, given: Given) -> Result<Option<Input>, NoMemory> {
+    let rows = row(alloc)?;
+    match given {
+        Given::Register(number) => {
+            let message = register(number, rows, List::of(Vec::new(alloc)));
+            Ok(Some(from_resource(message)))
+        }
+        Given::Query(number) => Ok(Some(from_resource(Message::LockQuery {
+            resource: 1,
+            ticket: ticket_of(number),
+            check: rows,
+        }))),
+        _ => Ok(None),
+    }
+}
+
+/// All else.
+fn without_rows(given: Given) -> Input {
+    match given {
+        Given::Begin(manager, timeout) => {
+            from_manager(manager, Message::Begin { manager, timeout })
+        }
+        Given::Commit(number) => {
+            let xid = xid_of(number);
+            from_manager(number, Message::GlobalCommit { xid })
+        }
+        Given::RollBack(number) => {
+            let xid = xid_of(number);
+            from_manager(number, Message::GlobalRollback { xid })
+        }
+        Given::Committed(number, status) => from_resource(Message::BranchCommitted {
+            xid: xid_of(number),
+            branch: branch_of(number),
+            status,
+            stmt: 0,
+        }),
+        Given::Rollbacked(number, status) => from_resource(Message::BranchRollbacked {
+            xid: xid_of(number),
+            branch: branch_of(number),
+            status,
+            stmt: 0,
+        }),
+        _ => Input::Turn,
+    }
+}
+
+fn input(alloc: Global, given: Given) -> Result<Input, NoMemory> {
+    match on_rows(alloc, given)? {
+        Some(input) => Ok(input),
+        None => Ok(without_rows(given)),
+    }
+}
+
+/// The line of the coordinator's next step.
+fn line(alloc: Global, tc: &mut Coordinator, given: Given, now: u32) -> Result<String, Fail> {
+    if tc.steps_left() == 0 {
+        return Err(Fail::from("no step is left"));
+    }
+    let Ok(input) = input(alloc, given) else {
+        return Err(Fail::from("no memory"));
+    };
+    let Ok(step) = tc.step(alloc, input, u64::from(now)) else {
+        return Err(Fail::from("no memory"));
+    };
+    match line_of(alloc, Place::Tc, step) {
+        Ok(line) => Ok(line),
+        Err(_) => Err(Fail::from("no memory")),
+    }
+}
+
+/// A new coordinator answers these rows so; and how many transactions are then neither finished nor failed.
+fn plays(rt: &impl Abort, alloc: Global, rows: &[Row], unended: usize) -> Result<(), Fail> {
+    let mut tc = Coordinator::new(alloc, 1000, 0);
+    for (now, given, wanted) in rows {
+        let line = line(alloc, &mut tc, *given, *now)?;
+        assert_eq!(rt; line.as_str(), *wanted);
+    }
+    assert_eq!(rt; tc.unended(), unended);
+    Ok(())
+}
+
+#[test]
+fn commits(rt: HostRuntime) -> Result<(), Fail> {
+    plays(&rt, rt.alloc(), &COMMITS, 0)
+}
+
+#[test]
+fn rolls_back(rt: HostRuntime) -> Result<(), Fail> {
+    plays(&rt, rt.alloc(), &ROLLS_BACK, 1)
+}
+
+#[test]
+fn times_out(rt: HostRuntime) -> Result<(), Fail> {
+    plays(&rt, rt.alloc(), &TIMES_OUT, 0)
+}
