@@ -2,6 +2,8 @@
 #![tactic(auto)]
 
 #[cfg(test)]
+mod kept_sessions;
+#[cfg(test)]
 mod loaded_memories;
 #[cfg(test)]
 mod locks;
