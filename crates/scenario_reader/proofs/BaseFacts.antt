@@ -15,7 +15,7 @@ use Rattle.scenario_reader.specs.declared.scenarios.ResourceDef.{ResourceDef}
 use Rattle.scenario_reader.specs.declared.scenarios.Scenario.{Scenario}
 use Rattle.scenario_reader.specs.Bases.{kept, without, IsTextOf}
 use Rattle.scenario_reader.specs.Calls.{locals}
-use Rattle.scenario_reader.specs.Faults.{Outcome, ◌>>=◌, is_known, are_known, an_object, only, only_by, only_in, list, member, within}
+use Rattle.scenario_reader.specs.Faults.{Outcome, ◌>>=◌, is_known, are_known, an_object, only, only_by, only_in, list, member, to_member, within}
 use Rattle.scenario_reader.specs.Form as form
 use Rattle.scenario_reader.specs.Managers.{managers}
 use Rattle.scenario_reader.specs.Nodes.{stops}
@@ -23,12 +23,10 @@ use Rattle.scenario_reader.specs.Reading.{IsJson, IsScenario, IsScenarioOf, inpu
 use Rattle.scenario_reader.specs.Resources.{resources}
 use Rattle.scenario_reader.specs.Steps.{schedule}
 use Rattle.scenario_reader.proofs.Inverses.{bind_ok, same_ok}
+use Rattle.scenario_reader.proofs.Whole.{unlike, known_without}
 use Rattle.scenario_reader.proofs.Rising.{AreRising, RisesAtTop, read_rises, rising_put, rising_without, gone, others, absent, present}
 
 -- ---- the members that stay
-
-unlike : (a b : List ℕ) → same_text a b ≡ false → a ≡ b → ⊥
-unlike a b other same = true≢false (sym (ap (λ z. same_text z b) same ∙ same_text_itself b) ∙ other)
 
 abbrev kept_members : Members → Members
 kept_members ms = put (codes "schedule") (array no_items) (without (codes "stops") ms)
@@ -56,18 +54,6 @@ known_put names k d (entry l e ms) one all =
     let two = both (is_known names l) (are_known names ms) all in
     known_put_by (slice_cmp nat_cmp k l) names k l d e ms one two.0 two.1 (known_put names k d ms one two.1)
 
-known_without_by : (o : Ordering) (names : List (List ℕ)) (name k : List ℕ) (d : Data) (ms : Members) → is_known names k ≡ true → are_known names ms ≡ true
-    → are_known names (without name ms) ≡ true → are_known names (match_ordering o (entry k d (without name ms)) ms (entry k d (without name ms))) ≡ true
-known_without_by Less names name k d ms first all rest = rw (first, rest)
-known_without_by Equal names name k d ms first all rest = all
-known_without_by Greater names name k d ms first all rest = rw (first, rest)
-
-known_without : (names : List (List ℕ)) (name : List ℕ) (ms : Members) → are_known names ms ≡ true → are_known names (without name ms) ≡ true
-known_without names name no_members all = refl
-known_without names name (entry k d ms) all =
-    let two = both (is_known names k) (are_known names ms) all in
-    known_without_by (slice_cmp nat_cmp name k) names name k d ms two.0 two.1 (known_without names name ms two.1)
-
 only_known : (b : Bool) → only_by b ≡ Ok tt → b ≡ true
 only_known true e = refl
 only_known false e = absurd cc
@@ -76,7 +62,7 @@ only_kept : (ms : Members) → form.only_members (object ms) ≡ Ok tt → form.
 unfolding form.only_members only
 only_kept ms e =
     let all = only_known (are_known form.scenario_members ms) e in
-    ap only_by (known_put form.scenario_members (codes "schedule") (array no_items) (without (codes "stops") ms) refl (known_without form.scenario_members (codes "stops") ms all))
+    ap only_by (known_put form.scenario_members (codes "schedule") (array no_items) (without (codes "stops") ms) refl (known_without form.scenario_members (codes "stops") ms refl ∙ all))
 
 -- ---- the parts that stay
 
@@ -92,7 +78,7 @@ settings_stay ms =
     )
 
 nodes_stay : (ms : Members) → form.nodes (object (kept_members ms)) ≡ form.nodes (object ms)
-unfolding form.nodes
+unfolding form.nodes form.servers
 nodes_stay ms = rw (settings_stay ms, stays (codes "resources") ms refl refl, stays (codes "managers") ms refl refl)
 
 no_schedule : (servers : List ResourceDef) (users : List ManagerDef) (count : ℕ) → schedule servers users count (Some (array no_items)) ≡ Ok []
@@ -106,55 +92,57 @@ no_stops servers = refl
 abbrev quiet : form.Events → form.Events
 quiet ev = (ev.0, [], [])
 
-events_kept : (servers : List ResourceDef) (users : List ManagerDef) (ms : Members) (ev : form.Events) → AreRising ms → form.events servers users (object ms) ≡ Ok ev
-    → form.events servers users (object (kept_members ms)) ≡ Ok (quiet ev)
+events_kept : (servers : List ResourceDef) (users : List ManagerDef) (found : Option Data) (ms : Members) (ev : form.Events) → form.events servers users found (object ms) ≡ Ok ev
+    → form.events servers users None (object (kept_members ms)) ≡ Ok (quiet ev)
 unfolding form.events
-events_kept servers users ms ev all e =
+events_kept servers users found ms ev e =
     let writers = bind_ok (member (codes "locals") (locals servers) (object ms)) _ _ e in
-    let halts = bind_ok (member (codes "stops") (stops servers) (object ms)) _ _ writers.2 in
+    let halts = bind_ok (within (to_member (codes "stops")) (stops servers found)) _ _ writers.2 in
     let items = bind_ok (member (codes "schedule") (schedule servers users (length writers.0)) (object ms)) _ _ halts.2 in
     let same = same_ok (writers.0, halts.0, items.0) ev items.2 in
-    let none : get_member (codes "stops") (kept_members ms) ≡ None =
-    get_member-put_other (codes "stops") (codes "schedule") (array no_items) (without (codes "stops") ms) (unlike (codes "stops") (codes "schedule") refl)
-    ∙ gone (codes "stops") ms all in
     let empty : get_member (codes "schedule") (kept_members ms) ≡ Some (array no_items) = get_member-put (codes "schedule") (array no_items) (without (codes "stops") ms) in
     let writers_stay : member (codes "locals") (locals servers) (object (kept_members ms)) ≡ Ok writers.0 =
     ap (λ (z : Option Data). within (47 ∷ codes "locals") (locals servers z)) (stays (codes "locals") ms refl refl) ∙ writers.1 in
-    let no_halts : member (codes "stops") (stops servers) (object (kept_members ms)) ≡ Ok [] =
-    ap (λ (z : Option Data). within (47 ∷ codes "stops") (stops servers z)) none ∙ ap (within (47 ∷ codes "stops")) (no_stops servers) in
     let no_items_left : member (codes "schedule") (schedule servers users (length writers.0)) (object (kept_members ms)) ≡ Ok [] =
     ap (λ (z : Option Data). within (47 ∷ codes "schedule") (schedule servers users (length writers.0) z)) empty
     ∙ ap (within (47 ∷ codes "schedule")) (no_schedule servers users (length writers.0)) in
-    rw (writers_stay, no_halts, no_items_left) (ap (λ (z : form.Events). Ok (quiet z)) same)
+    rw (writers_stay, no_stops servers, no_items_left) (ap (λ (z : form.Events). Ok (quiet z)) same)
 
 -- ---- the whole
 
-parts_kept : (ms : Members) (s : Scenario) → AreRising ms → form.parts (object ms) ≡ Ok s → form.parts (object (kept_members ms)) ≡ Ok (without_events s)
+parts_kept : (found : Option Data) (ms : Members) (s : Scenario) → form.parts found (object ms) ≡ Ok s → form.parts None (object (kept_members ms)) ≡ Ok (without_events s)
 unfolding form.parts
-parts_kept ms s all e =
+parts_kept found ms s e =
     let n = bind_ok (form.nodes (object ms)) _ _ e in
-    let ev = bind_ok (form.events n.0.1 n.0.2 (object ms)) _ _ n.2 in
+    let ev = bind_ok (form.events n.0.1 n.0.2 found (object ms)) _ _ n.2 in
     let last = bind_ok (form.only_members (object ms)) _ _ ev.2 in
     let same = same_ok (form.with_parts n.0 ev.0) s last.2 in
     let first = nodes_stay ms ∙ n.1 in
-    let second = events_kept n.0.1 n.0.2 ms ev.0 all ev.1 in
+    let second = events_kept n.0.1 n.0.2 found ms ev.0 ev.1 in
     let third = only_kept ms last.1 in
     rw (first, second, third) (ap (λ (z : Scenario). Ok (without_events z)) same)
 
-no_object : (d : Data) (s : Scenario) → an_object d ≡ Err (fault.Shape []) → form.parts d ≡ Ok s → ⊥
-unfolding form.parts form.nodes
-no_object d s none e =
+no_object : (found : Option Data) (d : Data) (s : Scenario) → an_object d ≡ Err (fault.Shape []) → form.parts found d ≡ Ok s → ⊥
+unfolding form.parts form.nodes form.servers
+no_object found d s none e =
     let n = bind_ok (form.nodes d) _ _ e in
-    let shape = bind_ok (an_object d) _ _ n.1 in
+    let servers = bind_ok (form.servers d) _ _ n.1 in
+    let shape = bind_ok (an_object d) _ _ servers.1 in
     let twice = sym none ∙ shape.1 in cc
 
-parts_of_kept : (d : Data) (s : Scenario) → RisesAtTop d → form.parts d ≡ Ok s → form.parts (kept d) ≡ Ok (without_events s)
-parts_of_kept null s all e = absurd (no_object null s refl e)
-parts_of_kept (boolean b) s all e = absurd (no_object (boolean b) s refl e)
-parts_of_kept (number n) s all e = absurd (no_object (number n) s refl e)
-parts_of_kept (string t) s all e = absurd (no_object (string t) s refl e)
-parts_of_kept (array ds) s all e = absurd (no_object (array ds) s refl e)
-parts_of_kept (object ms) s all e = parts_kept ms s all e
+-- the stops of what is kept
+no_stops_kept : (ms : Members) → AreRising ms → get_member (codes "stops") (kept_members ms) ≡ None
+no_stops_kept ms all =
+    get_member-put_other (codes "stops") (codes "schedule") (array no_items) (without (codes "stops") ms) (unlike (codes "stops") (codes "schedule") refl)
+    ∙ gone (codes "stops") ms all
+
+parts_of_kept : (d : Data) (s : Scenario) → RisesAtTop d → form.parts (get (codes "stops") d) d ≡ Ok s → form.parts (get (codes "stops") (kept d)) (kept d) ≡ Ok (without_events s)
+parts_of_kept null s all e = absurd (no_object None null s refl e)
+parts_of_kept (boolean b) s all e = absurd (no_object None (boolean b) s refl e)
+parts_of_kept (number n) s all e = absurd (no_object None (number n) s refl e)
+parts_of_kept (string t) s all e = absurd (no_object None (string t) s refl e)
+parts_of_kept (array ds) s all e = absurd (no_object None (array ds) s refl e)
+parts_of_kept (object ms) s all e = ap (λ found. form.parts found (object (kept_members ms))) (no_stops_kept ms all) ∙ parts_kept (get_member (codes "stops") ms) ms s e
 
 told_ok : (found : Outcome Scenario) (s : Scenario) → form.told_of found ≡ Ok s → found ≡ Ok s
 told_ok (Ok t) s e = e
@@ -163,7 +151,7 @@ told_ok (Err w) s e = absurd cc
 -- what is kept of the data is the scenario without stops and with an empty schedule
 scenario_kept : (d : Data) (s : Scenario) → RisesAtTop d → form.scenario_of d ≡ Ok s → form.scenario_of (kept d) ≡ Ok (without_events s)
 unfolding form.scenario_of
-scenario_kept d s all e = ap form.told_of (parts_of_kept d s all (told_ok (form.parts d) s e))
+scenario_kept d s all e = ap form.told_of (parts_of_kept d s all (told_ok (form.parts (get (codes "stops") d) d) s e))
 
 -- what is kept of that is that
 kept_twice : (d : Data) → RisesAtTop d → kept (kept d) ≡ kept d
@@ -175,8 +163,7 @@ kept_twice (array ds) all = refl
 kept_twice (object ms) all =
     let rest = without (codes "stops") ms in
     let rising = rising_put (codes "schedule") (array no_items) rest (rising_without (codes "stops") ms all) in
-    let none : get_member (codes "stops") (kept_members ms) ≡ None =
-    get_member-put_other (codes "stops") (codes "schedule") (array no_items) rest (unlike (codes "stops") (codes "schedule") refl) ∙ gone (codes "stops") ms all in
+    let none = no_stops_kept ms all in
     let empty : get_member (codes "schedule") (kept_members ms) ≡ Some (array no_items) = get_member-put (codes "schedule") (array no_items) rest in
     ap (λ (z : Members). object (put (codes "schedule") (array no_items) z)) (absent (codes "stops") (kept_members ms) none)
     ∙ ap object (present (codes "schedule") (array no_items) (kept_members ms) rising empty)

@@ -7,7 +7,7 @@ use Rattle.std.specs.Ordering.{match_ordering}
 use Rattle.serde_json.proofs.Views.{Entry}
 use Rattle.serde_json.specs.Data.{Data, null, boolean, number, string, array, object, no_items, Members, no_members, member, put, depth, members_depth}
 use Rattle.serde_json.specs.View.{view, members_view}
-use Rattle.scenario_reader.specs.Bases.{without, kept}
+use Rattle.scenario_reader.specs.Bases.{without, without_stops, without_steps}
 
 by_ordering : (o : Ordering) (e : Entry) (es rest : List Entry) (ms : Members) → members_view rest ≡ ms
     → members_view (cond (is_eq o) es (e ∷ rest)) ≡ match_ordering o (member (string_bytes e.0) (view e.1) ms) (members_view es) (member (string_bytes e.0) (view e.1) ms)
@@ -41,14 +41,19 @@ put_depth : (k : List ℕ) (d : Data) (ms : Members) → members_depth (put k d 
 put_depth k d no_members = omega arith
 put_depth k d (member l e ms) = put_by (slice_cmp nat_cmp k l) k l d e ms (put k d ms) (put_depth k d ms)
 
--- what is kept nests no deeper than is allowed
-pub kept_depth : (d : Data) → depth d ≤ 127 → depth (kept d) ≤ 127
-kept_depth null h = h
-kept_depth (boolean b) h = h
-kept_depth (number n) h = h
-kept_depth (string s) h = h
-kept_depth (array ds) h = h
-kept_depth (object ms) h =
-    let less = without_depth (codes "stops") ms in
-    let more = put_depth (codes "schedule") (array no_items) (without (codes "stops") ms) in
-    omega (arith, h, less, more)
+-- the data without its stops or its steps nests no deeper than is allowed
+pub without_stops_depth : (d : Data) → depth d ≤ 127 → depth (without_stops d) ≤ 127
+without_stops_depth null h = h
+without_stops_depth (boolean b) h = h
+without_stops_depth (number n) h = h
+without_stops_depth (string s) h = h
+without_stops_depth (array ds) h = h
+without_stops_depth (object ms) h = let less = without_depth (codes "stops") ms in omega (arith, h, less)
+
+pub without_steps_depth : (d : Data) → depth d ≤ 127 → depth (without_steps d) ≤ 127
+without_steps_depth null h = h
+without_steps_depth (boolean b) h = h
+without_steps_depth (number n) h = h
+without_steps_depth (string s) h = h
+without_steps_depth (array ds) h = h
+without_steps_depth (object ms) h = let more = put_depth (codes "schedule") (array no_items) ms in omega (arith, h, more)

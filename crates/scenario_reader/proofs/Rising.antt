@@ -13,7 +13,7 @@ use Rattle.serde_json.specs.Find.{get_member}
 use Rattle.serde_json.specs.Read.{read, max_depth, number_of, of_json, of_items, of_members}
 use Rattle.scenario_reader.specs.Bases.{without}
 
-abbrev compare : List ℕ → List ℕ → Ordering
+abbrev pub compare : List ℕ → List ℕ → Ordering
 compare a b = slice_cmp nat_cmp a b
 
 -- the name stands before those of all members
@@ -26,7 +26,7 @@ abbrev pub AreRising : Members → Type 0
 AreRising no_members = Unit {0}
 AreRising (member k d ms) = IsBefore k ms × AreRising ms
 
-same_name : (a b : List ℕ) → compare a b ≡ Equal → a ≡ b
+pub same_name : (a b : List ℕ) → compare a b ≡ Equal → a ≡ b
 same_name a b e = (bytes_eq-Decides a b).0 (sym (is_eq-slice_cmp a b) ∙ ap is_eq e)
 
 turned : (a b : List ℕ) → compare a b ≡ Greater → compare b a ≡ Less

@@ -1,5 +1,5 @@
 -- A scenario that was read is one that can be run.
-use Rattle.std.proofs.Common.{◌≡◌, ◌≤◌, ℕ, List, [], ◌++◌, map, Ok, Err, ap, sym, subst}
+use Rattle.std.proofs.Common.{◌≡◌, ◌≤◌, ℕ, List, [], ◌++◌, map, Option, Ok, Err, ap, sym, subst}
 use Rattle.std.proofs.lemmas.List.{append-nil}
 use Rattle.std.specs.Prelude.{All, codes, length}
 use Rattle.serde_json.specs.Data.{Data}
@@ -12,7 +12,7 @@ use Rattle.scenario_reader.specs.declared.scenarios.Scenario.{Scenario}
 use Rattle.scenario_reader.specs.declared.settings.Settings.{Settings}
 use Rattle.scenario_reader.specs.Calls.{locals}
 use Rattle.scenario_reader.specs.Contents.{AreDifferent, IsLocal}
-use Rattle.scenario_reader.specs.Faults.{Outcome, member, to_member, an_object}
+use Rattle.scenario_reader.specs.Faults.{Outcome, member, to_member, within, an_object}
 use Rattle.scenario_reader.specs.Form as form
 use Rattle.scenario_reader.specs.Managers.{managers}
 use Rattle.scenario_reader.specs.Nodes.{stops}
@@ -40,18 +40,24 @@ record AreNodes (n : form.Nodes) : Type 0 where
 alone : (servers : List ResourceDef) → AreDifferent (map resource_name servers) → AreDifferent (names servers [])
 alone servers different = subst AreDifferent (sym (append-nil (map resource_name servers))) different
 
-nodes_ok : (d : Data) (n : form.Nodes) → form.nodes d ≡ Ok n → AreNodes n
-unfolding form.nodes
-nodes_ok d n e =
+servers_ok : (d : Data) (s : Settings × List ResourceDef) → form.servers d ≡ Ok s → AreSettings s.0 × AreResources s.1
+unfolding form.servers
+servers_ok d s e =
     let shape = bind_ok (an_object d) _ _ e in
     let set = bind_ok (form.settings d) _ _ shape.2 in
     let servers = bind_ok (member (codes "resources") resources d) _ _ set.2 in
-    let users = bind_ok (member (codes "managers") (managers servers.0 set.0.timeout) d) _ _ servers.2 in
-    let numbers = settings_ok d set.0 set.1 in
     let dbs = resources_ok (get (codes "resources") d) servers.0 (within_ok (to_member (codes "resources")) _ _ servers.1) in
-    let all = managers_ok servers.0 set.0.timeout (get (codes "managers") d) users.0 numbers.timeout (alone servers.0 dbs.different)
+    subst (λ (z : Settings × List ResourceDef). AreSettings z.0 × AreResources z.1) (same_ok (set.0, servers.0) s servers.2) (settings_ok d set.0 set.1, dbs)
+
+nodes_ok : (d : Data) (n : form.Nodes) → form.nodes d ≡ Ok n → AreNodes n
+unfolding form.nodes
+nodes_ok d n e =
+    let s = bind_ok (form.servers d) _ _ e in
+    let users = bind_ok (member (codes "managers") (managers s.0.1 s.0.0.timeout) d) _ _ s.2 in
+    let known = servers_ok d s.0 s.1 in
+    let all = managers_ok s.0.1 s.0.0.timeout (get (codes "managers") d) users.0 known.0.timeout (alone s.0.1 known.1.different)
     (within_ok (to_member (codes "managers")) _ _ users.1) in
-    subst AreNodes (same_ok (set.0, servers.0, users.0) n users.2) (record { set = numbers; servers = dbs; users = all })
+    subst AreNodes (same_ok (s.0.0, s.0.1, users.0) n users.2) (record { set = known.0; servers = known.1; users = all })
 
 -- what is known of the locals, the stops and the schedule
 record AreEvents (servers : List ResourceDef) (users : List ManagerDef) (ev : form.Events) : Type 0 where
@@ -61,29 +67,29 @@ record AreEvents (servers : List ResourceDef) (users : List ManagerDef) (ev : fo
   pub short : length ev.2 ≤ SCHEDULE_MEMBERS
   pub steps : AreSteps (length servers) (length users) (length ev.0) ev.2
 
-events_ok : (servers : List ResourceDef) (users : List ManagerDef) (d : Data) (ev : form.Events) → form.events servers users d ≡ Ok ev → AreEvents servers users ev
+events_ok : (servers : List ResourceDef) (users : List ManagerDef) (found : Option Data) (d : Data) (ev : form.Events) → form.events servers users found d ≡ Ok ev → AreEvents servers users ev
 unfolding form.events
-events_ok servers users d ev e =
+events_ok servers users found d ev e =
     let writers = bind_ok (member (codes "locals") (locals servers) d) _ _ e in
-    let halts = bind_ok (member (codes "stops") (stops servers) d) _ _ writers.2 in
+    let halts = bind_ok (within (to_member (codes "stops")) (stops servers found)) _ _ writers.2 in
     let items = bind_ok (member (codes "schedule") (schedule servers users (length writers.0)) d) _ _ halts.2 in
     let ones = locals_ok servers (get (codes "locals") d) writers.0 (within_ok (to_member (codes "locals")) _ _ writers.1) in
-    let arms = stops_ok servers (get (codes "stops") d) halts.0 (within_ok (to_member (codes "stops")) _ _ halts.1) in
+    let arms = stops_ok servers found halts.0 (within_ok (to_member (codes "stops")) _ _ halts.1) in
     let plan = schedule_ok servers users (length writers.0) (get (codes "schedule") d) items.0 (within_ok (to_member (codes "schedule")) _ _ items.1) in
     subst (AreEvents servers users) (same_ok (writers.0, halts.0, items.0) ev items.2)
     (record { few = ones.0; locals = ones.1; stops = arms; short = plan.0; steps = plan.1 })
 
-parts_ok : (d : Data) (s : Scenario) → form.parts d ≡ Ok s → (n : form.Nodes) × (ev : form.Events) × AreNodes n × AreEvents n.1 n.2 ev × (form.with_parts n ev ≡ s)
+parts_ok : (found : Option Data) (d : Data) (s : Scenario) → form.parts found d ≡ Ok s → (n : form.Nodes) × (ev : form.Events) × AreNodes n × AreEvents n.1 n.2 ev × (form.with_parts n ev ≡ s)
 unfolding form.parts
-parts_ok d s e =
+parts_ok found d s e =
     let n = bind_ok (form.nodes d) _ _ e in
-    let ev = bind_ok (form.events n.0.1 n.0.2 d) _ _ n.2 in
+    let ev = bind_ok (form.events n.0.1 n.0.2 found d) _ _ n.2 in
     let last = bind_ok (form.only_members d) _ _ ev.2 in
-    (n.0, ev.0, nodes_ok d n.0 n.1, events_ok n.0.1 n.0.2 d ev.0 ev.1, same_ok (form.with_parts n.0 ev.0) s last.2)
+    (n.0, ev.0, nodes_ok d n.0 n.1, events_ok n.0.1 n.0.2 found d ev.0 ev.1, same_ok (form.with_parts n.0 ev.0) s last.2)
 
 scenario_ok : (d : Data) (s : Scenario) → IsScenarioOf d s → (n : form.Nodes) × (ev : form.Events) × AreNodes n × AreEvents n.1 n.2 ev × (form.with_parts n ev ≡ with_base [] s)
 unfolding IsScenarioOf form.scenario_of
-scenario_ok d s is = parts_ok d (with_base [] s) (told_ok (form.parts d) (with_base [] s) is.0)
+scenario_ok d s is = parts_ok (get (codes "stops") d) d (with_base [] s) (told_ok (form.parts (get (codes "stops") d) d) (with_base [] s) is.0)
 
 data_of : (bytes : List ℕ) (s : Scenario) → IsScenario bytes s → (d : Data) × IsScenarioOf d s
 unfolding IsScenario

@@ -11,10 +11,19 @@ abbrev pub without : List ℕ → Members → Members
 without name no_members = no_members
 without name (member k d ms) = match_ordering (slice_cmp nat_cmp name k) (member k d (without name ms)) ms (member k d (without name ms))
 
+-- the data of a scenario without stops
+abbrev pub without_stops : Data → Data
+without_stops (object ms) = object (without (codes "stops") ms)
+without_stops d = d
+
+-- the data of a scenario with an empty schedule
+abbrev pub without_steps : Data → Data
+without_steps (object ms) = object (put (codes "schedule") (array no_items) ms)
+without_steps d = d
+
 -- the data of a scenario with an empty schedule and without stops
 abbrev pub kept : Data → Data
-kept (object ms) = object (put (codes "schedule") (array no_items) (without (codes "stops") ms))
-kept d = d
+kept d = without_steps (without_stops d)
 
 -- the compact text of this data, which reads as it
 pub record IsTextOf (d : Data) (text : List ℕ) : Type 0 where

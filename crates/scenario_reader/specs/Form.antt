@@ -13,8 +13,9 @@
 --   locals      | optional list of at, do                                            | Calls
 --   stops       | optional list of node, calls, pick                                 | Nodes
 --   schedule    | list of texts                                                      | Steps
-use Rattle.std.specs.Prelude.{◌≡◌, ◌≢◌, ℕ, List, [], ◌∷◌, length, Result, Ok, Err, codes}
+use Rattle.std.specs.Prelude.{◌≡◌, ◌≢◌, ℕ, List, [], ◌∷◌, length, Option, Result, Ok, Err, codes}
 use Rattle.serde_json.specs.Data.{Data}
+use Rattle.serde_json.specs.Find.{get}
 use Rattle.seata_types.specs.declared.limits.TheConstants.{DEFAULT_DISK, DEFAULT_LOCK_TRIES, DEFAULT_RETRY, DEFAULT_TIMEOUT, DISK_LEAST, DISK_MOST, LOCK_TRIES, TICKS}
 use Rattle.scenario_reader.specs.declared.errors.ScenarioError.{ScenarioError}
 use Rattle.scenario_reader.specs.declared.errors.ScenarioError.TheVariants as fault
@@ -25,7 +26,7 @@ use Rattle.scenario_reader.specs.declared.scenarios.ResourceDef.{ResourceDef}
 use Rattle.scenario_reader.specs.declared.scenarios.Scenario.{Scenario}
 use Rattle.scenario_reader.specs.declared.scenarios.ScheduleItem.{ScheduleItem}
 use Rattle.scenario_reader.specs.declared.settings.Settings.{Settings}
-use Rattle.scenario_reader.specs.Faults.{Outcome, ◌>>=◌, member, an_object, only}
+use Rattle.scenario_reader.specs.Faults.{Outcome, ◌>>=◌, member, to_member, within, an_object, only}
 use Rattle.scenario_reader.specs.Numbers.{number_or}
 use Rattle.scenario_reader.specs.Resources.{resources}
 use Rattle.scenario_reader.specs.Managers.{managers}
@@ -52,23 +53,30 @@ scenario_members =
 abbrev pub Nodes : Type 0
 Nodes = Settings × List ResourceDef × List ManagerDef
 
+-- the numbers and the resources of a scenario
+unfoldable pub servers : Data → Outcome (Settings × List ResourceDef)
+servers d = do
+  _ ← an_object d
+  set ← settings d
+  all ← member (codes "resources") resources d
+  Ok (set, all)
+
 -- the numbers and the nodes of a scenario
 unfoldable pub nodes : Data → Outcome Nodes
 nodes d = do
-  _ ← an_object d
-  set ← settings d
-  servers ← member (codes "resources") resources d
-  users ← member (codes "managers") (managers servers set.timeout) d
-  Ok (set, servers, users)
+  s ← servers d
+  users ← member (codes "managers") (managers s.1 s.0.timeout) d
+  Ok (s.0, s.1, users)
 
 -- its locals, stops and schedule
 abbrev pub Events : Type 0
 Events = List (ℕ × List Stmt) × List (Place × ℕ × ℕ) × List ScheduleItem
 
-unfoldable pub events : List ResourceDef → List ManagerDef → Data → Outcome Events
-events servers users d = do
+-- the locals and the schedule of a scenario, and the stops that were found
+unfoldable pub events : List ResourceDef → List ManagerDef → Option Data → Data → Outcome Events
+events servers users found d = do
   writers ← member (codes "locals") (locals servers) d
-  halts ← member (codes "stops") (stops servers) d
+  halts ← within (to_member (codes "stops")) (stops servers found)
   steps ← member (codes "schedule") (schedule servers users (length writers)) d
   Ok (writers, halts, steps)
 
@@ -92,11 +100,11 @@ with_parts n e =
       base = [];
     }
 
--- the scenario of the data but for its `base`, or the first fault with its path from the root
-unfoldable pub parts : Data → Outcome Scenario
-parts d = do
+-- the scenario of the data, and of the stops that were found in it, but for its `base`, or the first fault with its path from the root
+unfoldable pub parts : Option Data → Data → Outcome Scenario
+parts found d = do
   n ← nodes d
-  e ← events n.1 n.2 d
+  e ← events n.1 n.2 found d
   _ ← only_members d
   Ok (with_parts n e)
 
@@ -120,7 +128,7 @@ told_of (Err e) = Err (told e)
 
 -- the scenario of the data but for its `base`, or its first fault
 unfoldable pub scenario_of : Data → Outcome Scenario
-scenario_of d = told_of (parts d)
+scenario_of d = told_of (parts (get (codes "stops") d) d)
 
 -- the fault as it is told, unless memory was refused
 abbrev pub IsTold : ScenarioError → ScenarioError → Type 0

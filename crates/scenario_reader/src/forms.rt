@@ -1,21 +1,21 @@
 //! The scenario of a JSON value, or its first fault in the order of the members.
-ghost use Rattle.std.specs.Prelude.{◌≡◌, ◌≤◌, ◌≢◌, [], length, IfOk, IfErr};
-ghost use Rattle.seata_types.specs.declared.limits.TheConstants.{MANAGERS};
+ghost use Rattle.std.specs.Prelude.{◌≡◌, ◌≤◌, ◌≢◌, [], codes, length, option_map, IfOk, IfErr};
 ghost use Rattle.serde_json.specs.View.{view};
 ghost use Rattle.scenario_reader.specs.Form as form;
 ghost use Rattle.scenario_reader.specs.Form.{IsTold};
-ghost use Rattle.scenario_reader.specs.Faults.{Answers};
+ghost use Rattle.scenario_reader.specs.Faults.{Answers, to_member, within};
+ghost use Rattle.scenario_reader.specs.Nodes.{stops};
 
 use crate::calls::locals;
 use crate::errors::ScenarioError;
 use crate::managers::managers;
 use crate::nodes::stops;
 use crate::resources::resources;
-use crate::scenarios::{ManagerDef, ResourceDef, Scenario, ScheduleItem};
+use crate::scenarios::{ResourceDef, Scenario};
 use crate::schedules::schedule;
 use crate::settings::{Settings, settings_of};
 use crate::shapes::{an_object, only};
-use seata_types::{List, Place, Stmt, Text};
+use seata_types::{List, Place, Text};
 use serde_json::Value;
 use std::alloc::Global;
 
@@ -40,15 +40,11 @@ fn only_members(alloc: Global, value: &Value) -> Result<(), ScenarioError>
     only(alloc, &SCENARIO_MEMBERS, value)
 }
 
-/// The numbers and the nodes of a scenario.
-#[tactic(auto, unfolding(crate::specs::Form::nodes))]
-fn nodes(
-    alloc: Global,
-    value: &Value,
-) -> Result<(Settings, List<ResourceDef>, List<ManagerDef>), ScenarioError>
-    ensures exact { Answers (form.nodes (view value.now)) result }
-    ensures resources { IfOk result (λ n. length n.1 ≤ 32) }
-    ensures managers { IfOk result (λ n. length n.2 ≤ MANAGERS) }
+/// The numbers and the resources of a scenario.
+#[tactic(auto, unfolding(crate::specs::Form::servers))]
+fn servers(alloc: Global, value: &Value) -> Result<(Settings, List<ResourceDef>), ScenarioError>
+    ensures exact { Answers (form.servers (view value.now)) result }
+    ensures few { IfOk result (λ s. length s.1 ≤ 32) }
 {
     an_object(alloc, value)?;
     let set = settings_of(alloc, value)?;
@@ -56,60 +52,42 @@ fn nodes(
         alloc,
         "resources",
     ))?;
-    let managers = managers(
-        alloc,
-        resources.as_slice(),
-        set.timeout,
-        value.get("managers"),
-    )
-    .map_err(|fault| fault.in_member(alloc, "managers"))?;
-    Ok((set, resources, managers))
+    Ok((set, resources))
 }
 
-/// The locals, the stops and the schedule of a scenario.
-#[tactic(auto, unfolding(crate::specs::Form::events))]
-fn events(
+/// The stops that were found, whose JSON is let go.
+fn read_stops(
     alloc: Global,
     resources: &[ResourceDef],
-    managers: &[ManagerDef],
-    value: &Value,
-) -> Result<
-    (
-        List<(u16, List<Stmt>)>,
-        List<(Place, u32, u16)>,
-        List<ScheduleItem>,
-    ),
-    ScenarioError,
->
-    requires resources { length resources.now ≤ 32 }
-    requires managers { length managers.now ≤ MANAGERS }
-    ensures exact { Answers (form.events resources.now managers.now (view value.now)) result }
+    found: Option<Value>,
+) -> Result<List<(Place, u32, u16)>, ScenarioError>
+    requires { length resources.now ≤ 32 }
+    ensures { Answers (within (to_member (codes "stops")) (stops resources.now (option_map view found))) result }
 {
-    let locals = locals(alloc, resources, value.get("locals")).map_err(|fault| fault.in_member(
-        alloc, "locals",
-    ))?;
-    let stops = stops(alloc, resources, value.get("stops")).map_err(|fault| fault.in_member(
-        alloc, "stops",
-    ))?;
-    let count = locals.as_slice().len();
-    let schedule = schedule(alloc, resources, managers, count, value.get("schedule")).map_err(
-        |fault| fault.in_member(alloc, "schedule"),
-    )?;
-    Ok((locals, stops, schedule))
+    stops(alloc, resources, found.as_ref()).map_err(|fault| fault.in_member(alloc, "stops"))
 }
 
-/// The scenario but for its `base`, or the first fault with its path from the root.
-#[tactic(auto, using(crate::proofs::Whole::parts_of, crate::proofs::Whole::parts_refused), unfolding(crate::specs::Form::parts))]
-fn parts(alloc: Global, value: &Value) -> Result<Scenario, ScenarioError>
-    ensures exact { Answers (form.parts (view value.now)) result }
+/// The scenario but for its `base`, or the first fault with its path from the root. The stops, which are
+/// the largest as JSON, are read and let go before the statements take their memory.
+#[tactic(auto, unfolding(crate::specs::Form::parts, crate::specs::Form::nodes, crate::specs::Form::events))]
+fn parts(alloc: Global, found: Option<Value>, value: &Value) -> Result<Scenario, ScenarioError>
+    ensures exact { Answers (form.parts (option_map view found) (view value.now)) result }
     ensures bare { IfOk result (λ s. s.base ≡ []) }
 {
-    let (set, resources, managers) = nodes(alloc, value)?;
-    let (locals, stops, schedule) = events(
-        alloc,
-        resources.as_slice(),
-        managers.as_slice(),
-        value,
+    let (set, resources) = servers(alloc, value)?;
+    let servers = resources.as_slice();
+    let stops = read_stops(alloc, servers, found);
+    let managers = managers(alloc, servers, set.timeout, value.get("managers")).map_err(
+        |fault| fault.in_member(alloc, "managers"),
+    )?;
+    let locals = locals(alloc, servers, value.get("locals")).map_err(|fault| fault.in_member(
+        alloc, "locals",
+    ))?;
+    let stops = stops?;
+    let users = managers.as_slice();
+    let count = locals.as_slice().len();
+    let schedule = schedule(alloc, servers, users, count, value.get("schedule")).map_err(
+        |fault| fault.in_member(alloc, "schedule"),
     )?;
     only_members(alloc, value)?;
     Ok(Scenario {
@@ -180,11 +158,14 @@ fn told(alloc: Global, fault: ScenarioError) -> ScenarioError
     }
 }
 
-/// The scenario of a JSON value but for its `base`, or its first fault.
-#[tactic(auto, unfolding(crate::specs::Form::scenario_of))]
-pub fn scenario_of(alloc: Global, value: &Value) -> Result<Scenario, ScenarioError>
-    ensures exact { Answers (form.scenario_of (view value.now)) result }
+/// The scenario of a JSON value without its stops, and of these, but for its `base`, or its first fault.
+pub fn scenario_of(
+    alloc: Global,
+    found: Option<Value>,
+    value: &Value,
+) -> Result<Scenario, ScenarioError>
+    ensures exact { Answers (form.told_of (form.parts (option_map view found) (view value.now))) result }
     ensures bare { IfOk result (λ s. s.base ≡ []) }
 {
-    parts(alloc, value).map_err(|fault| told(alloc, fault))
+    parts(alloc, found, value).map_err(|fault| told(alloc, fault))
 }

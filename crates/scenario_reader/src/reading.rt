@@ -8,7 +8,7 @@ ghost use Rattle.scenario_reader.specs.Form.{scenario_of as form};
 ghost use Rattle.scenario_reader.specs.declared.errors.ScenarioError.TheVariants as fault;
 ghost use Rattle.scenario_reader.specs.Runnable.{IsRunnable};
 
-use crate::bases::base_of;
+use crate::bases::{base_of, without_stops};
 use crate::errors::ScenarioError;
 use crate::forms::scenario_of;
 use crate::scenarios::Scenario;
@@ -47,13 +47,14 @@ fn too_long(alloc: Global) -> ScenarioError
 }
 
 /// The scenario of a JSON value, with the text under which it is kept.
-#[tactic(auto, unfolding(crate::specs::Reading::IsScenarioOf))]
+#[tactic(auto, using(crate::proofs::Kept::without_stops_depth, crate::proofs::Whole::scenario_apart), unfolding(crate::specs::Reading::IsScenarioOf))]
 fn kept_scenario(alloc: Global, value: Value) -> Result<Scenario, ScenarioError>
     requires { depth (view value) ≤ 127 }
     ensures ok { IfOk result (IsScenarioOf (view value)) }
     ensures err { IfErr result (λ e. e ≢ ScenarioError.NoMemory → form (view value) ≡ Err e) }
 {
-    let mut scenario = scenario_of(alloc, &value)?;
+    let (value, stops) = without_stops(value);
+    let mut scenario = scenario_of(alloc, stops, &value)?;
     scenario.base = base_of(alloc, value)?;
     Ok(scenario)
 }
