@@ -1,12 +1,11 @@
 -- When a record of a resource may come after others.
-use Rattle.std.specs.Prelude.{◌≡◌, ◌+◌, ◌≤◌, ℕ, true, false, not, List, [], ◌∷◌, length, map, filter, All, Some, None, is_some}
+use Rattle.std.specs.Prelude.{◌≡◌, ◌+◌, ◌≤◌, ℕ, true, false, not, List, [], ◌∷◌, length, map, filter, All, None, is_some}
 use Rattle.std.specs.List.{IsDistinct}
 use Rattle.seata_types.specs.declared.limits.TheConstants.{CALL_ROWS}
 use Rattle.seata_types.specs.declared.rows.Image.{Image}
 use Rattle.seata_types.specs.declared.rows.ReadRow.{ReadRow}
 use Rattle.seata_types.specs.declared.rows.RowKey.{RowKey}
-use Rattle.local_tables.specs.Rows.{Database, AreImagesOf, HasKey, is_key, table_named}
-use Rattle.local_tables.specs.declared.schemas.TableDef.{TableDef}
+use Rattle.local_tables.specs.Rows.{Database, AreImagesOf, IsReadOf, is_key}
 use Rattle.durable_records.specs.declared.resources.ResourceRecord.{ResourceRecord}
 use Rattle.durable_records.specs.declared.resources.ResourceRecord.TheVariants as log
 use Rattle.durable_records.specs.Locks.{has_key}
@@ -24,12 +23,6 @@ read_keys reads = map (λ r. r.key) reads
 -- the rows that were read and not touched
 abbrev pub only_read : List Image → List ReadRow → List RowKey
 only_read images reads = filter (λ k. not (has_key (image_keys images) k)) (read_keys reads)
-
--- a read of a row of one of these tables, which has its key
-pub record IsReadOf (db : Database) (read : ReadRow) : Type 0 where
-  pub resource : read.key.resource ≡ db.resource
-  pub table : (def : TableDef) × (table_named db.schema read.key.table ≡ Some def)
-  pub row : HasKey db.schema read.key read.row
 
 -- images and reads of different rows of these tables, of no more rows than a call may touch or read
 pub record FitTables (db : Database) (images : List Image) (reads : List ReadRow) : Type 0 where

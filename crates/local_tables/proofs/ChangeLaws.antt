@@ -1,7 +1,7 @@
--- What a statement puts are changes of its table, whose rows have their keys.
-use Rattle.std.proofs.Common.{◌≡◌, ◌≢◌, ℕ, zero, suc, ◌==◌, Bool, true, false, cond, eqb-true, eq-eqb, List, [], ◌∷◌, map, filter, slice_get, slice_set, Option, Some, None, option_map, option_and_then, sym, refl, ap, ◌∙◌, subst, true≢false, Ordering, Less, Equal, Greater, ap₂}
+-- What a statement puts are changes of its table, whose rows fit it and have their keys.
+use Rattle.std.proofs.Common.{◌≡◌, ◌≢◌, ℕ, zero, suc, ◌==◌, Bool, true, false, cond, eqb-true, eq-eqb, List, [], ◌∷◌, length, map, filter, slice_get, slice_set, Option, Some, None, option_map, option_and_then, sym, refl, ap, ◌∙◌, subst, true≢false, Ordering, Less, Equal, Greater, ap₂}
 use Rattle.std.specs.BTreeMap.{insert_entry}
-use Rattle.std.specs.List.{AllByRecursion, list_any, cons_option}
+use Rattle.std.specs.List.{AllByRecursion, list_all, list_any, cons_option}
 use Rattle.std.specs.Map.{keys_of}
 use Rattle.std.specs.Ordering.{match_ordering, is_eq}
 use Rattle.std.proofs.lemmas.Bool.{and_parts, or_parts, not-true}
@@ -15,9 +15,9 @@ use Rattle.seata_types.specs.declared.statements.Stmt.{Stmt}
 use Rattle.seata_types.specs.declared.statements.Stmt.TheVariants as stmt
 use Rattle.local_tables.specs.Calls.{insert_all}
 use Rattle.local_tables.specs.Cells.{place_of}
-use Rattle.local_tables.specs.Checks.{Set, is_place, is_among, sets_key, leaves_key}
-use Rattle.local_tables.specs.Lookups.{IsRising, HasKeysOf, change_at, over}
-use Rattle.local_tables.specs.Rows.{Rows, Change, HasKey, HasRowKey, IsMap, comes, goes, is_in, is_key, put_all, row_at, table_named, each_of, key_values}
+use Rattle.local_tables.specs.Checks.{Set, passes, is_place, is_among, is_once, name_of, has_length, fits_tuple, fits_set, fits_condition, sets_key, fills_columns, leaves_key, has_types}
+use Rattle.local_tables.specs.Lookups.{IsRising, AreRowsOf, HasKeysOf, change_at, over}
+use Rattle.local_tables.specs.Rows.{Rows, Change, FitsKey, SideFitsKey, IsRowOf, IsMap, comes, goes, is_in, is_key, put_all, row_at, table_named, each_of, key_values}
 use Rattle.local_tables.specs.Sound.{IsSound, IsChangeOf, AreChangesOf}
 use Rattle.local_tables.specs.Sums.{expr_value, set_at, set_cells, row_of, updated}
 use Rattle.local_tables.specs.Touches.{becomes, inserted, inserted_row, is_matched, touches, tuple_row}
@@ -26,7 +26,8 @@ use Rattle.local_tables.specs.declared.schemas.TableDef.{TableDef}
 use Rattle.local_tables.proofs.KeyLaws.{is_key_laws, key_exact, same_key, same_text_same}
 use Rattle.local_tables.proofs.MapLaws.{IsBelow, is_key_itself, rising_head, rising_tail}
 use Rattle.local_tables.proofs.PutLaws.{row_at_put_all}
-use Rattle.local_tables.proofs.SoundLaws.{named, keyed_has, has_key_from}
+use Rattle.local_tables.proofs.RowFitLaws.{tuple_fits, updated_fits}
+use Rattle.local_tables.proofs.SoundLaws.{named, keyed_has, entry_fits, fits_key_from}
 
 -- ---- what holds of each change holds of the one at a key
 
@@ -41,18 +42,21 @@ change_of P (d ∷ cs) q c h e = by (is_key q d.0) refl e (change_of P cs q c h.
         subst P (λ i. (key i, row i)) h.0
     by false f g rest = rest g
 
--- ---- each row under the changes has its key
+-- ---- each row under the changes fits its table and has its key
 
 module _ (schema : Schema) (resource : ℕ) (rows : Rows) (changes : List Change) (s : IsSound schema rows) (a : AreChangesOf resource schema changes) where
-  own_key : (key : RowKey) (row : Row) (o : Option (Option Row)) → change_at changes key ≡ o → over (row_at rows key) o ≡ Some row → HasKey schema key row
+  own_key : (key : RowKey) (row : Row) (o : Option (Option Row)) → change_at changes key ≡ o → over (row_at rows key) o ≡ Some row → FitsKey schema key row
   own_key key row None f e = s.keyed key row e
   own_key key row (Some c) f e =
-      subst (HasRowKey schema key) e (change_of (IsChangeOf resource schema) changes key c a f).has_key
+      subst (SideFitsKey schema key) e (change_of (IsChangeOf resource schema) changes key c a f).fits
 
-  pub has_keys_under : (name : List ℕ) (def : TableDef) → IsRising changes → table_named schema name ≡ Some def → HasKeysOf def (put_all rows changes)
-  has_keys_under name def t e = λ key row h same.
+  pub rows_under : (name : List ℕ) (def : TableDef) → IsRising changes → table_named schema name ≡ Some def → AreRowsOf def (put_all rows changes)
+  rows_under name def t e = λ key row h same.
       let there = row_at_put_all rows changes key s.in_order (IsDistinct-from_sorted key_cmp (keys_of changes) t) in
       own_key key row (change_at changes key) refl (sym there ∙ h) def (ap (table_named schema) (same ∙ named schema name def e) ∙ e)
+
+pub keys_of_rows : (def : TableDef) (rows : Rows) → AreRowsOf def rows → HasKeysOf def rows
+keys_of_rows def rows are = λ key row h same. (are key row h same).values
 
 -- ---- the key columns of an updated row
 
@@ -128,49 +132,85 @@ each_kept P p f now (e ∷ es) step h = by (p e) refl (each_kept P p f now es st
 some_same : (x y : Row) → Some x ≡ Some y → x ≡ y
 some_same x y e = cc
 
+-- what the definition asks of a statement, but for its columns
+pub record IsAccepted (def : TableDef) (s : Stmt) : Type 0 where
+  pub fills : fills_columns def s ≡ true
+  pub leaves : leaves_key def s ≡ true
+  pub types : has_types def s ≡ true
+
 module _ (resource : ℕ) (schema : Schema) (name : List ℕ) (def : TableDef) (t : table_named schema name ≡ Some def) where
-  has_table : (key : RowKey) → key.table ≡ def.name → table_named schema key.table ≡ Some def
+  pub has_table : (key : RowKey) → key.table ≡ def.name → table_named schema key.table ≡ Some def
   has_table key h = ap (table_named schema) (h ∙ named schema name def t) ∙ t
 
-  is_change : (key : RowKey) (c : Option Row) → key.resource ≡ resource → key.table ≡ def.name → ((row : Row) → c ≡ Some row → key_values def row ≡ Some key.pk) → IsChangeOf resource schema (key, c)
-  is_change key c number same has = record { number = number; in_table = (def, has_table key same); has_key = by c has }
+  is_change : (key : RowKey) (c : Option Row) → key.resource ≡ resource → key.table ≡ def.name → ((row : Row) → c ≡ Some row → IsRowOf def key row) → IsChangeOf resource schema (key, c)
+  is_change key c number same has = record { number = number; in_table = (def, has_table key same); fits = by c has }
     where
-      by : (o : Option Row) → ((row : Row) → o ≡ Some row → key_values def row ≡ Some key.pk) → HasRowKey schema key o
-      by None cell = tt
-      by (Some row) cell = has_key_from schema name def key row t same (cell row refl)
+      by : (o : Option Row) → ((row : Row) → o ≡ Some row → IsRowOf def key row) → SideFitsKey schema key o
+      by None is = tt
+      by (Some row) is = fits_key_from schema name def key row t same (is row refl)
 
-  inserted_changes : (columns : List (List ℕ)) (tuples : List (List Value)) → AreChangesOf resource schema (map comes (inserted resource def columns tuples))
-  inserted_changes columns [] = tt
-  inserted_changes columns (x ∷ xs) = by (inserted_row resource def columns x) refl (inserted_changes columns xs)
+  inserted_changes : (columns : List (List ℕ)) (tuples : List (List Value)) → list_all (is_once columns) (map name_of def.columns) ≡ true → list_all (has_length (length columns)) tuples ≡ true → list_all (fits_tuple def columns) tuples ≡ true
+      → AreChangesOf resource schema (map comes (inserted resource def columns tuples))
+  inserted_changes columns [] once long types = tt
+  inserted_changes columns (x ∷ xs) once long types =
+      by (inserted_row resource def columns x) refl (inserted_changes columns xs once longs.1 typed.1)
     where
+      longs : (has_length (length columns) x ≡ true) × (list_all (has_length (length columns)) xs ≡ true)
+      longs = and_parts (has_length (length columns) x) _ long
+
+      typed : (fits_tuple def columns x ≡ true) × (list_all (fits_tuple def columns) xs ≡ true)
+      typed = and_parts (fits_tuple def columns x) _ types
+
       by : (o : Option (RowKey × Row)) → inserted_row resource def columns x ≡ o → AreChangesOf resource schema (map comes (inserted resource def columns xs)) → AreChangesOf resource schema (map comes (cons_option o (inserted resource def columns xs)))
       by None f rest = rest
       by (Some e) f rest =
           let has = keyed_has resource def (tuple_row def columns x) e f in
-          (is_change e.0 (Some e.1) has.0 has.1 (λ row same. ap (λ (r : Row). key_values def r) (sym (some_same e.1 row same)) ∙ has.2), rest)
+          let fits = entry_fits resource def (tuple_row def columns x) e (tuple_fits def columns x once longs.0 typed.0) has in
+          (is_change e.0 (Some e.1) has.number has.table (λ row same. subst (λ (r : Row). IsRowOf def e.0 r) (some_same e.1 row same) fits), rest)
 
-  matched_in : (asked : Option Condition) (e : RowKey × Row) → is_matched resource def asked e ≡ true → (e.0.resource ≡ resource) × (e.0.table ≡ def.name)
+  pub matched_in : (asked : Option Condition) (e : RowKey × Row) → is_matched resource def asked e ≡ true → (e.0.resource ≡ resource) × (e.0.table ≡ def.name)
   matched_in asked e h =
       let parts = and_parts (is_in resource def e.0) _ h in
       let place = and_parts _ _ parts.0 in
       (eqb-true e.0.resource resource place.0, same_text_same e.0.table def.name place.1)
 
-  pub touched_changes : (s : Stmt) (now : Rows) → IsMap now → HasKeysOf def now → leaves_key def s ≡ true → AreChangesOf resource schema (touches resource def s now)
-  touched_changes (stmt.Insert table columns tuples) now rising has leaves = inserted_changes columns tuples
-  touched_changes (stmt.Update table sets asked) now rising has leaves =
+  -- a row of this table as an UPDATE leaves it
+  updated_row : (key : RowKey) (sets : List Set) (old new : Row) → IsRowOf def key old → list_any (sets_key def) sets ≡ false → list_all (fits_set def) sets ≡ true → updated def sets old ≡ Some new → IsRowOf def key new
+  updated_row key sets old new is leaves types e =
+      record { fits = updated_fits def old is.fits sets new types e; values = updated_key def sets old new leaves e ∙ is.values }
+
+  pub touched_changes : (s : Stmt) (now : Rows) → IsMap now → AreRowsOf def now → IsAccepted def s → AreChangesOf resource schema (touches resource def s now)
+  touched_changes (stmt.Insert table columns tuples) now rising has ok =
+      let fills = and_parts (list_all (is_once columns) (map name_of def.columns)) (list_all (has_length (length columns)) tuples) ok.fills in
+      inserted_changes columns tuples fills.0 fills.1 ok.types
+  touched_changes (stmt.Update table sets asked) now rising has ok =
       each_kept (IsChangeOf resource schema) (is_matched resource def asked) (becomes def sets) now now (λ e there m.
       let own = matched_in asked e m in
-      is_change e.0 (updated def sets e.1) own.0 own.1 (λ row same. updated_key def sets e.1 row (not-true _ leaves) same ∙ has e.0 e.1 there own.1)) (each_found now rising)
-  touched_changes (stmt.Delete table asked) now rising has leaves =
+      is_change e.0 (updated def sets e.1) own.0 own.1 (λ row same. updated_row e.0 sets e.1 row (has e.0 e.1 there own.1) (not-true _ ok.leaves) (and_parts (list_all (fits_set def) sets) (passes (fits_condition def) asked) ok.types).0 same)) (each_found now rising)
+  touched_changes (stmt.Delete table asked) now rising has ok =
       each_kept (IsChangeOf resource schema) (is_matched resource def asked) goes now now (λ e there m.
       let own = matched_in asked e m in
       is_change e.0 None own.0 own.1 (λ row same. cc)) (each_found now rising)
-  touched_changes (stmt.Select table asked) now rising has leaves = tt
+  touched_changes (stmt.Select table asked) now rising has ok = tt
+
+-- ---- what a statement reads
+
+module _ (P : RowKey × Row → Type 0) (p : RowKey × Row → Bool) (now : Rows) (gives : (e : RowKey × Row) → row_at now e.0 ≡ Some e.1 → p e ≡ true → P e) where
+  kept_rows : (es : Rows) → AllByRecursion (λ e. row_at now e.0 ≡ Some e.1) es → AllByRecursion P (filter p es)
+  kept_rows [] h = tt
+  kept_rows (e ∷ es) h = by (p e) refl (kept_rows es h.1)
+    where
+      by : (b : Bool) → p e ≡ b → AllByRecursion P (filter p es) → AllByRecursion P (cond b (e ∷ filter p es) (filter p es))
+      by true y rest = (gives e h.0 y, rest)
+      by false y rest = rest
+
+  pub each_of_rows : IsMap now → AllByRecursion P (filter p now)
+  each_of_rows rising = kept_rows now (each_found now rising)
 
 -- ---- the changes of a call after one more statement
 
 module _ {X : Type 0} (P : RowKey × X → Type 0) where
-  each_insert : (es : List (RowKey × X)) (k : RowKey) (v : X) → AllByRecursion P es → P (k, v) → AllByRecursion P (insert_entry key_cmp es k v)
+  pub each_insert : (es : List (RowKey × X)) (k : RowKey) (v : X) → AllByRecursion P es → P (k, v) → AllByRecursion P (insert_entry key_cmp es k v)
   each_insert [] k v h new = (new, tt)
   each_insert (e ∷ es) k v h new = by (key_cmp k e.0) refl (each_insert es k v h.1 new)
     where

@@ -12,7 +12,7 @@ use Rattle.seata_types.specs.declared.rows.RowKey.{RowKey}
 use Rattle.seata_types.specs.declared.statements.Stmt.{Stmt}
 use Rattle.local_tables.specs.Calls.{Call, nothing, steps, image_of, read_of, to_effect, effect, Means}
 use Rattle.local_tables.specs.Lookups.{IsRising}
-use Rattle.local_tables.specs.Rows.{Rows, Change, Database, HasRowKey, IsImageOf, AreImagesOf, AreRising, is_key, key_of, row_at}
+use Rattle.local_tables.specs.Rows.{Rows, Change, Database, SideFitsKey, IsImageOf, AreImagesOf, AreRising, is_key, key_of, row_at}
 use Rattle.local_tables.specs.Sound.{IsSound, AreChangesOf}
 use Rattle.local_tables.specs.declared.schemas.Effect.{Effect}
 use Rattle.local_tables.specs.declared.schemas.EffectError.{EffectError}
@@ -39,14 +39,14 @@ pub images_rise : (rows : Rows) (cs : List Change) (images : List Image) → ima
 images_rise rows cs images e s =
     subst (λ (ks : List RowKey). IsStrictlySortedBy key_cmp ks) (sym (ap (map key_of) e ∙ keys_of_images rows cs)) s
 
-own_key : (schema : Schema) (rows : Rows) (key : RowKey) (o : Option Row) → IsSound schema rows → row_at rows key ≡ o → HasRowKey schema key o
+own_key : (schema : Schema) (rows : Rows) (key : RowKey) (o : Option Row) → IsSound schema rows → row_at rows key ≡ o → SideFitsKey schema key o
 own_key schema rows key None s e = tt
 own_key schema rows key (Some row) s e = s.keyed key row e
 
-each_image : (v : Database) (cs : List Change) → IsSound v.schema v.rows → AreChangesOf v.resource v.schema cs → AllByRecursion (IsImageOf v) (map (image_of v.rows) cs)
+pub each_image : (v : Database) (cs : List Change) → IsSound v.schema v.rows → AreChangesOf v.resource v.schema cs → AllByRecursion (IsImageOf v) (map (image_of v.rows) cs)
 each_image v [] s h = tt
 each_image v (c ∷ cs) s h = (
-  record { resource = h.0.number; table = h.0.in_table; before = own_key v.schema v.rows c.0 (row_at v.rows c.0) s refl; after = h.0.has_key },
+  record { resource = h.0.number; table = h.0.in_table; before = own_key v.schema v.rows c.0 (row_at v.rows c.0) s refl; after = h.0.fits },
   each_image v cs s h.1,
 )
 

@@ -1,61 +1,45 @@
 -- The rows of an effect: images of different rows, each with the row before, and reads, all of the statements' tables.
-use Rattle.std.proofs.Common.{◌≡◌, inl, inr, ℕ, ◌+◌, ◌==◌, ◌&&◌, nat_le, Bool, true, false, cond, length, List, [], ◌∷◌, ◌++◌, map, Option, Some, None, option_map, Result, Ok, Err, refl, ap, sym, subst, subst₂, ◌∙◌, Ordering, Less, Equal, Greater, arith}
+use Rattle.std.proofs.Common.{◌≡◌, inl, inr, ℕ, ◌+◌, ◌==◌, ◌&&◌, Bool, true, false, cond, List, [], ◌∷◌, ◌++◌, map, Option, Some, None, option_map, Result, Ok, Err, refl, ap, sym, subst, subst₂, ◌∙◌, arith}
 use Rattle.std.specs.List.{cons_option, AllByRecursion}
 use Rattle.std.specs.List.Sorted.{IsStrictlySortedBy}
 use Rattle.std.specs.BTreeMap.{insert_entry}
 use Rattle.std.specs.Map.{keys_of}
-use Rattle.std.specs.Ordering.{match_ordering}
 use Rattle.std.proofs.lemmas.Bool.Decides.{nat_tests}
 use Rattle.std.proofs.lemmas.List.Elements.{All-from_recursion}
 use Rattle.std.proofs.lemmas.Option.{none-some}
 use Rattle.seata_types.specs.Condition.{Condition}
 use Rattle.seata_types.specs.Orders.{key_cmp, same_text}
 use Rattle.seata_types.specs.declared.errors.StmtError.{StmtError}
-use Rattle.seata_types.specs.declared.errors.StmtError.TheVariants as errors
-use Rattle.seata_types.specs.declared.limits.TheConstants.{CALL_ROWS, RESOURCE_ROWS}
 use Rattle.seata_types.specs.declared.rows.ReadRow.{ReadRow}
 use Rattle.seata_types.specs.declared.rows.Row.{Row}
 use Rattle.seata_types.specs.declared.rows.RowKey.{RowKey}
 use Rattle.seata_types.specs.declared.rows.Value.{Value}
 use Rattle.seata_types.specs.declared.statements.Stmt.{Stmt}
 use Rattle.seata_types.specs.declared.statements.Stmt.TheVariants as stmt
-use Rattle.local_tables.specs.Calls.{Call, Meaning, ◌>>=◌, check, no_key, found, nothing, insert_all, going_on, rows_seen, step, steps, effect, effect_of, to_effect, image_of, read_of}
+use Rattle.local_tables.specs.Calls.{Call, Meaning, nothing, insert_all, step, steps, effect, effect_of, to_effect, image_of, read_of}
 use Rattle.local_tables.specs.Cells.{selects}
-use Rattle.local_tables.specs.Checks.{table_of, knows_columns, fills_columns, leaves_key, has_types}
+use Rattle.local_tables.specs.Checks.{table_of}
 use Rattle.local_tables.specs.EffectRows.{IsInTable, IsInTables, IsImageBy, IsEffectOf, EffectsAreOfTheirTables, ReadsAreTheLast, read_at, read_later, read_key}
 use Rattle.local_tables.specs.Lookups.{IsRising}
 use Rattle.local_tables.specs.Rows.{Rows, Change, Database, row_at, is_key, key_values, put_all, table_named, comes, goes, is_in, keyed, with_key, side, applied, IsMap}
-use Rattle.local_tables.specs.Touches.{touches, readings, overflowing, duplicate, matched, is_matched, inserted, inserted_row, becomes, tuple_row}
+use Rattle.local_tables.specs.Touches.{touches, readings, matched, is_matched, inserted, inserted_row, becomes, tuple_row}
 use Rattle.local_tables.specs.declared.schemas.Effect.{Effect}
 use Rattle.local_tables.specs.declared.schemas.TableDef.{TableDef}
 use Rattle.local_tables.specs.declared.schemas.Way.TheVariants as way
+use Rattle.local_tables.proofs.ChangeLaws.{each_insert_all}
 use Rattle.local_tables.proofs.EffectLaws.{images_rise}
-use Rattle.local_tables.proofs.KeyLaws.{key_exact, same_key, is_key_laws, same_text_itself}
+use Rattle.local_tables.proofs.KeyLaws.{same_key, is_key_laws, same_text_itself}
 use Rattle.local_tables.proofs.MapLaws.{rising_insert, rising_head, rising_tail, rising_filter, none_below, at_insert}
+use Rattle.local_tables.proofs.MeaningLaws.{Oks, step_oks, with_step}
 use Rattle.local_tables.proofs.PutLaws.{map_put_all}
 
 -- ---- lists
 
-all_mapped : {X Y : Type 0} (P : X → Type 0) (Q : Y → Type 0) (f : X → Y) → ((x : X) → P x → Q (f x)) → (xs : List X) → AllByRecursion P xs → AllByRecursion Q (map f xs)
+pub all_mapped : {X Y : Type 0} (P : X → Type 0) (Q : Y → Type 0) (f : X → Y) → ((x : X) → P x → Q (f x)) → (xs : List X) → AllByRecursion P xs → AllByRecursion Q (map f xs)
 all_mapped P Q f on [] all = tt
 all_mapped P Q f on (x ∷ xs) all = (on x all.0, all_mapped P Q f on xs all.1)
 
-module _ {X : Type 0} (P : RowKey × X → Type 0) where
-  all_insert : (es : List (RowKey × X)) (k : RowKey) (v : X) → AllByRecursion P es → P (k, v) → AllByRecursion P (insert_entry key_cmp es k v)
-  all_insert [] k v h new = (new, tt)
-  all_insert (e ∷ es) k v h new = by (key_cmp k e.0) refl (all_insert es k v h.1 new)
-    where
-      by : (r : Ordering) → key_cmp k e.0 ≡ r → AllByRecursion P (insert_entry key_cmp es k v)
-          → AllByRecursion P (match_ordering r ((k, v) ∷ e ∷ es) ((e.0, v) ∷ es) (e ∷ insert_entry key_cmp es k v))
-      by Less q rest = (new, h)
-      by Equal q rest = (subst (λ (j : RowKey). P (j, v)) (key_exact k e.0 q) new, h.1)
-      by Greater q rest = (h.0, rest)
-
-  all_insert_all : (es fs : List (RowKey × X)) → AllByRecursion P es → AllByRecursion P fs → AllByRecursion P (insert_all es fs)
-  all_insert_all es [] h new = h
-  all_insert_all es (f ∷ fs) h new = all_insert_all (insert_entry key_cmp es f.0 f.1) fs (all_insert es f.0 f.1 h new.0) new.1
-
-rising_insert_all : {X : Type 0} (es fs : List (RowKey × X)) → IsRising es → IsRising (insert_all es fs)
+pub rising_insert_all : {X : Type 0} (es fs : List (RowKey × X)) → IsRising es → IsRising (insert_all es fs)
 rising_insert_all es [] s = s
 rising_insert_all es (f ∷ fs) s = rising_insert_all (insert_entry key_cmp es f.0 f.1) fs (rising_insert es f.0 f.1 s)
 
@@ -110,43 +94,12 @@ module _ (resource : ℕ) (def : TableDef) (P : RowKey → Type 0) (of_table : (
 
 -- ---- a call
 
-abbrev Oks : {X : Type 0} → (X → Type 0) → Meaning X → Type 0
-Oks P (Ok x) = P x
-Oks P (Err e) = Unit {0}
-
-bind_oks : {X Y : Type 0} (P : Y → Type 0) (m : Meaning X) (f : X → Meaning Y) → ((x : X) → m ≡ Ok x → Oks P (f x)) → Oks P (m >>= f)
-bind_oks P (Ok x) f h = h x refl
-bind_oks P (Err e) f h = tt
-
 -- what holds of the rows that statements touch and read, where it holds of each row of their tables
 record CallIs (P : RowKey → Type 0) (call : Call) : Type 0 where
   rises : IsRising call.changes
   changed : AllByRecursion (λ (c : Change). P c.0) call.changes
   reads_rise : IsRising call.reads
   read : AllByRecursion (λ (e : RowKey × Row). P e.0) call.reads
-
-found_is : (o : Option TableDef) (def : TableDef) → found o ≡ Ok def → o ≡ Some def
-found_is (Some d) def e = let same : d ≡ def = cc in ap (λ q. Some q) same
-found_is None def e = absurd cc
-
--- the call with one more statement
-abbrev with_step : Database → Call → Stmt → TableDef → Call
-with_step db call s def = going_on call (touches db.resource def s (put_all db.rows call.changes)) (readings db.resource def s (put_all db.rows call.changes))
-
--- what holds of this call holds of each step that has a meaning
-step_oks : (db : Database) (call : Call) (s : Stmt) (P : Call → Type 0) → ((def : TableDef) → table_named db.schema (table_of s) ≡ Some def → P (with_step db call s def)) → Oks P (step db call s)
-unfolding step
-step_oks db call s P on =
-    bind_oks P (found (table_named db.schema (table_of s))) _ (λ def e.
-    bind_oks P (check (knows_columns def s) errors.NoColumn) _ (λ u q.
-    bind_oks P (check (fills_columns def s) errors.Columns) _ (λ u q.
-    bind_oks P (check (leaves_key def s) errors.KeyChanged) _ (λ u q.
-    bind_oks P (check (has_types def s) errors.TypeMismatch) _ (λ u q.
-    bind_oks P (check (nat_le (rows_seen (with_step db call s def)) CALL_ROWS) errors.TooManyRows) _ (λ u q.
-    bind_oks P (no_key (overflowing db.resource def s (put_all db.rows call.changes)) errors.Overflow) _ (λ u q.
-    bind_oks P (no_key (duplicate db.resource def s (put_all db.rows call.changes)) errors.Duplicate) _ (λ u q.
-    bind_oks P (check (nat_le (length (put_all db.rows (with_step db call s def).changes)) RESOURCE_ROWS) errors.TableFull) _ (λ u q.
-    on def (found_is (table_named db.schema (table_of s)) def e))))))))))
 
 module _ (db : Database) (P : RowKey → Type 0) where
   abbrev Covers : Stmt → Type 0
@@ -157,13 +110,13 @@ module _ (db : Database) (P : RowKey → Type 0) where
       let now = put_all db.rows call.changes in
       record {
         rises = rising_insert_all call.changes (touches db.resource def s now) h.rises;
-        changed = all_insert_all (λ (c : Change). P c.0) call.changes (touches db.resource def s now) h.changed (touches_are db.resource def P keys s now);
+        changed = each_insert_all (λ (c : Change). P c.0) call.changes (touches db.resource def s now) h.changed (touches_are db.resource def P keys s now);
         reads_rise = rising_insert_all call.reads (readings db.resource def s now) h.reads_rise;
-        read = all_insert_all (λ (e : RowKey × Row). P e.0) call.reads (readings db.resource def s now) h.read (readings_are db.resource def P keys s now);
+        read = each_insert_all (λ (e : RowKey × Row). P e.0) call.reads (readings db.resource def s now) h.read (readings_are db.resource def P keys s now);
       }
 
   step_is : (call : Call) (s : Stmt) → Covers s → CallIs P call → Oks (CallIs P) (step db call s)
-  step_is call s keys h = step_oks db call s (CallIs P) (λ def e. going call s def (λ k lies. keys k (record { def = def; named = e; lies = lies })) h)
+  step_is call s keys h = step_oks db call s (CallIs P) (λ def is. going call s def (λ k lies. keys k (record { def = def; named = is.named; lies = lies })) h)
 
   abbrev CoversAll : List Stmt → Type 0
   CoversAll ss = (key : RowKey) → IsInTables db ss key → P key
@@ -250,8 +203,8 @@ module _ (db : Database) (last : Stmt) where
     reads : after.reads ≡ insert_all call.reads (readings db.resource def last (put_all db.rows call.changes))
 
   step_reads : (call after : Call) (def : TableDef) → step db call last ≡ Ok after → table_named db.schema (table_of last) ≡ Some def → IsStep call def after
-  step_reads call after def e named = by (step db call last) e (step_oks db call last (IsStep call def) (λ d f. record {
-    reads = ap (λ (t : TableDef). insert_all call.reads (readings db.resource t last (put_all db.rows call.changes))) (one d f);
+  step_reads call after def e named = by (step db call last) e (step_oks db call last (IsStep call def) (λ d is. record {
+    reads = ap (λ (t : TableDef). insert_all call.reads (readings db.resource t last (put_all db.rows call.changes))) (one d is.named);
   }))
     where
       one : (d : TableDef) → table_named db.schema (table_of last) ≡ Some d → d ≡ def

@@ -2,7 +2,7 @@
 use Rattle.std.proofs.Common.{◌≡◌, ℕ, true, eqb-true, List, [], ◌∷◌, length, slice_get, Option, Some, None, suc, nat_eq, refl, ap, subst, arith}
 use Rattle.std.specs.List.{list_all, zip}
 use Rattle.std.specs.Ordering.{is_eq}
-use Rattle.std.proofs.lemmas.Bool.{and_parts}
+use Rattle.std.proofs.lemmas.Bool.{and_parts, and_from}
 use Rattle.std.proofs.lemmas.Bool.Decides.{nat_tests}
 use Rattle.std.proofs.lemmas.Cmp.{tied_itself}
 use Rattle.seata_types.specs.ValueOrder.{value_cmp_total}
@@ -13,8 +13,8 @@ use Rattle.seata_types.specs.declared.rows.RowKey.{RowKey}
 use Rattle.seata_types.specs.declared.rows.Value.{Value}
 use Rattle.local_tables.specs.declared.schemas.Schema.{Schema}
 use Rattle.local_tables.specs.declared.schemas.TableDef.{TableDef}
-use Rattle.local_tables.specs.Fitting.{is_cell, has_key, side_has_key, image_fits, is_image, read_fits, is_read}
-use Rattle.local_tables.specs.Rows.{Database, HasKey, HasRowKey, IsImageOf, each_of, key_values, table_named}
+use Rattle.local_tables.specs.Fitting.{is_cell, has_key, fits_key, side_fits, image_fits, is_image, read_fits, is_read}
+use Rattle.local_tables.specs.Rows.{Database, SideFitsKey, IsRowOf, IsImageOf, IsReadOf, each_of, fits_row, key_values, table_named}
 use Rattle.local_tables.proofs.KeyLaws.{value_exact, equal_from_is_eq}
 
 cell_is : (part : Value) (found : Option Value) → is_cell part found ≡ true → found ≡ Some part
@@ -66,15 +66,25 @@ has_key_from def pk row e =
     let same : nat_eq (length def.key) (length pk) ≡ true = grind (arith, nat_tests, parts.0) in
     rw (same, parts.1) refl
 
+-- ---- a row that fits and has a key
+
+row_is : (def : TableDef) (key : RowKey) (row : Row) → fits_key def key row ≡ true → IsRowOf def key row
+row_is def key row e =
+    let both = and_parts (fits_row def row) (has_key def key.pk row) e in
+    record { fits = both.0; values = has_key_is def key.pk row both.1 }
+
+row_passes : (def : TableDef) (key : RowKey) (row : Row) → IsRowOf def key row → fits_key def key row ≡ true
+row_passes def key row h = and_from (fits_row def row) (has_key def key.pk row) h.fits (has_key_from def key.pk row h.values)
+
 -- ---- images and reads
 
 table_is : (schema : Schema) (name : List ℕ) (def other : TableDef) → table_named schema name ≡ Some def → table_named schema name ≡ Some other → def ≡ other
 table_is schema name def other found again = cc
 
-side_is : (schema : Schema) (def : TableDef) (key : RowKey) (side : Option Row) → table_named schema key.table ≡ Some def → side_has_key def key side ≡ true → HasRowKey schema key side
+side_is : (schema : Schema) (def : TableDef) (key : RowKey) (side : Option Row) → table_named schema key.table ≡ Some def → side_fits def key side ≡ true → SideFitsKey schema key side
 side_is schema def key None found e = tt
 side_is schema def key (Some row) found e = λ other again.
-    subst (λ (d : TableDef). key_values d row ≡ Some key.pk) (table_is schema key.table def other found again) (has_key_is def key.pk row e)
+    subst (λ (d : TableDef). IsRowOf d key row) (table_is schema key.table def other found again) (row_is def key row e)
 
 image_by : (db : Database) (i : Image) (table : Option TableDef) → table_named db.schema i.key.table ≡ table → image_fits db.resource table i ≡ true → IsImageOf db i
 image_by db i None found e = absurd cc
@@ -92,27 +102,21 @@ image_by db i (Some def) found e =
 pub image_is : (db : Database) (i : Image) → is_image db.resource db.schema i ≡ true → IsImageOf db i
 image_is db i e = image_by db i (table_named db.schema i.key.table) refl e
 
--- what a read that passes has
-pub record IsRead (db : Database) (r : ReadRow) : Type 0 where
-  pub resource : r.key.resource ≡ db.resource
-  pub table : (def : TableDef) × (table_named db.schema r.key.table ≡ Some def)
-  pub row : HasKey db.schema r.key r.row
-
-read_by : (db : Database) (r : ReadRow) (table : Option TableDef) → table_named db.schema r.key.table ≡ table → read_fits db.resource table r ≡ true → IsRead db r
+read_by : (db : Database) (r : ReadRow) (table : Option TableDef) → table_named db.schema r.key.table ≡ table → read_fits db.resource table r ≡ true → IsReadOf db r
 read_by db r None found e = absurd cc
 read_by db r (Some def) found e =
     let parts = and_parts _ _ e in
     record { resource = eqb-true _ _ parts.0; table = (def, found); row = side_is db.schema def r.key (Some r.row) found parts.1 }
 
 -- a read that passes is of these tables
-pub read_is : (db : Database) (r : ReadRow) → is_read db.resource db.schema r ≡ true → IsRead db r
+pub read_is : (db : Database) (r : ReadRow) → is_read db.resource db.schema r ≡ true → IsReadOf db r
 read_is db r e = read_by db r (table_named db.schema r.key.table) refl e
 
 -- ---- and what is of these tables passes
 
-side_passes : (schema : Schema) (def : TableDef) (key : RowKey) (side : Option Row) → table_named schema key.table ≡ Some def → HasRowKey schema key side → side_has_key def key side ≡ true
+side_passes : (schema : Schema) (def : TableDef) (key : RowKey) (side : Option Row) → table_named schema key.table ≡ Some def → SideFitsKey schema key side → side_fits def key side ≡ true
 side_passes schema def key None found h = refl
-side_passes schema def key (Some row) found h = has_key_from def key.pk row (h def found)
+side_passes schema def key (Some row) found h = row_passes def key row (h def found)
 
 same_number : (a b : ℕ) → a ≡ b → nat_eq a b ≡ true
 same_number a b e = grind (arith, nat_tests)
@@ -124,7 +128,7 @@ image_passes db i h =
     let after = side_passes db.schema def i.key i.after h.table.1 h.after in
     rw (h.table.1, same_number _ _ h.resource, before, after) refl
 
-pub read_passes : (db : Database) (r : ReadRow) → IsRead db r → is_read db.resource db.schema r ≡ true
+pub read_passes : (db : Database) (r : ReadRow) → IsReadOf db r → is_read db.resource db.schema r ≡ true
 read_passes db r h =
     let row = side_passes db.schema h.table.0 r.key (Some r.row) h.table.1 h.row in
     rw (h.table.1, same_number _ _ h.resource, row) refl

@@ -1,9 +1,10 @@
-mod Examples
 mod ApplyLaws
-mod ChangeLaws
+pub mod ChangeLaws
 mod CountLaws
 mod EffectLaws
 pub mod EffectRowLaws
+mod Examples
+pub mod FittingEffects
 pub mod FittingLaws
 pub mod ImageLaws
 mod InsertLaws
@@ -12,9 +13,12 @@ mod KeyedLaws
 mod ListLaws
 pub mod MapLaws
 mod MatchLaws
+pub mod MeaningLaws
 mod PassLaws
 pub mod PutLaws
+pub mod RowFitLaws
+pub mod RowsKept
 pub mod SideLaws
-mod SoundLaws
+pub mod SoundLaws
 mod StepLaws
 mod TakeLaws

@@ -10,3 +10,4 @@ pub mod Puts
 pub mod Sound
 pub mod Refusals
 pub mod Fitting
+pub mod FittingRows

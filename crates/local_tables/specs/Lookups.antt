@@ -15,7 +15,7 @@ use Rattle.seata_types.specs.declared.rows.RowKey.{RowKey}
 use Rattle.seata_types.specs.declared.rows.Value.{Value}
 use Rattle.local_tables.specs.Cells.{place_of}
 use Rattle.local_tables.specs.Checks.{is_place}
-use Rattle.local_tables.specs.Rows.{Rows, Change, is_key, row_at, each_of, key_values}
+use Rattle.local_tables.specs.Rows.{Rows, Change, IsRowOf, is_key, row_at, each_of, key_values}
 use Rattle.local_tables.specs.declared.schemas.TableDef.{TableDef}
 
 -- entries in rising order of their keys
@@ -43,6 +43,11 @@ kept test c = (c.0, option_filter (λ row. test (c.0, row)) c.1)
 abbrev pub HasKeysOf : TableDef → Rows → Type 0
 HasKeysOf def rows =
     (key : RowKey) (row : Row) → row_at rows key ≡ Some row → key.table ≡ def.name → key_values def row ≡ Some key.pk
+
+-- each row of a table fits it, and has its key
+abbrev pub AreRowsOf : TableDef → Rows → Type 0
+AreRowsOf def rows =
+    (key : RowKey) (row : Row) → row_at rows key ≡ Some row → key.table ≡ def.name → IsRowOf def key row
 
 -- ---- the key that a condition asks for
 

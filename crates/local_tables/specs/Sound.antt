@@ -5,25 +5,25 @@ use Rattle.std.specs.List.{AllByRecursion}
 use Rattle.std.specs.Map.{set_value, remove_entry}
 use Rattle.seata_types.specs.declared.rows.Row.{Row}
 use Rattle.seata_types.specs.declared.rows.RowKey.{RowKey}
-use Rattle.local_tables.specs.Rows.{Rows, Change, HasKey, HasRowKey, IsMap, is_key, put, row_at, table_named}
+use Rattle.local_tables.specs.Rows.{Rows, Change, FitsKey, SideFitsKey, IsMap, is_key, put, row_at, table_named}
 use Rattle.local_tables.specs.declared.schemas.Schema.{Schema}
 use Rattle.local_tables.specs.declared.schemas.TableDef.{TableDef}
 
--- the rows stand in rising order of their keys, and each has its key
+-- the rows stand in rising order of their keys, and each fits its table and has its key
 pub record IsSound (schema : Schema) (rows : Rows) : Type 0 where
   pub in_order : IsMap rows
-  pub keyed : (key : RowKey) (row : Row) → row_at rows key ≡ Some row → HasKey schema key row
+  pub keyed : (key : RowKey) (row : Row) → row_at rows key ≡ Some row → FitsKey schema key row
 
 -- the rows with an opening row at its key
 abbrev pub with_opened : Rows → Option (RowKey × Row) → Rows
 with_opened rows None = rows
 with_opened rows (Some e) = put rows e.0 (Some e.1)
 
--- a change at a key of one of these tables, whose row has this key
+-- a change at a key of one of these tables, whose row fits the table and has this key
 pub record IsChangeOf (resource : ℕ) (schema : Schema) (c : Change) : Type 0 where
   pub number : c.0.resource ≡ resource
   pub in_table : (def : TableDef) × (table_named schema c.0.table ≡ Some def)
-  pub has_key : HasRowKey schema c.0 c.1
+  pub fits : SideFitsKey schema c.0 c.1
 
 abbrev pub AreChangesOf : ℕ → Schema → List Change → Type 0
 AreChangesOf resource schema changes = AllByRecursion (IsChangeOf resource schema) changes

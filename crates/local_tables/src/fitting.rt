@@ -2,16 +2,18 @@
 ghost use Rattle.std.specs.Prelude.{◌≡◌, IfOk, zip};
 ghost use Rattle.std.specs.List.{list_all};
 ghost use Rattle.std.specs.Option.{option_copied};
-ghost use Rattle.local_tables.specs.Fitting.{row_key, is_cell, has_part, has_key, side_has_key, is_image, is_read};
+ghost use Rattle.local_tables.specs.Fitting.{row_key, is_cell, has_part, has_key, fits_key, side_fits, is_image, is_read};
 
 use crate::conditions::table_named;
 use crate::maps::key_in;
 use crate::schemas::{Schema, TableDef};
 use crate::touching::key_values;
+use crate::typing::fits_row;
 use seata_types::{Image, NoMemory, ReadRow, Row, RowKey, Text, Value};
 use std::alloc::Global;
 
-/// The key of a row of the table with this name: none where there is no such table, or a key column has no value.
+/// The key of a row of the table with this name: none where there is no such table, the row doesn't fit it, or a key column
+/// has no value.
 pub fn row_key(
     alloc: Global,
     resource: u16,
@@ -24,6 +26,9 @@ pub fn row_key(
     let Some(def) = table_named(schema, table) else {
         return Ok(None);
     };
+    if !fits_row(def, row) {
+        return Ok(None);
+    }
     let Some(values) = key_values(alloc, def, row)? else {
         return Ok(None);
     };
@@ -64,37 +69,42 @@ fn has_key(def: &TableDef, pk: &[Value], row: &Row) -> bool
     places.len() == pk.len() && has_parts(places, pk, row)
 }
 
-fn side_has_key(def: &TableDef, key: &RowKey, row: &Option<Row>) -> bool
-    ensures { result ≡ side_has_key def.now key.now row.now }
+/// Whether a row fits its table and has this key.
+fn fits_key(def: &TableDef, key: &RowKey, row: &Row) -> bool
+    ensures { result ≡ fits_key def.now key.now row.now }
+{
+    fits_row(def, row) && has_key(def, key.pk.as_slice(), row)
+}
+
+fn side_fits(def: &TableDef, key: &RowKey, row: &Option<Row>) -> bool
+    ensures { result ≡ side_fits def.now key.now row.now }
 {
     match row {
-        Some(row) => has_key(def, key.pk.as_slice(), row),
+        Some(row) => fits_key(def, key, row),
         None => true,
     }
 }
 
-/// Whether an image is of a row of one of these tables, and its rows have its key. Takes no memory.
+/// Whether an image is of a row of one of these tables, and its rows fit the table and have its key. Takes no memory.
 pub fn is_image(resource: u16, schema: &Schema, image: &Image) -> bool
     ensures { result ≡ is_image resource schema.now image.now }
 {
     match table_named(schema, &image.key.table) {
         Some(def) => {
             image.key.resource == resource
-                && side_has_key(def, &image.key, &image.before)
-                && side_has_key(def, &image.key, &image.after)
+                && side_fits(def, &image.key, &image.before)
+                && side_fits(def, &image.key, &image.after)
         }
         None => false,
     }
 }
 
-/// Whether a read is of a row of one of these tables, and has its key. Takes no memory.
+/// Whether a read is of a row of one of these tables, which fits the table and has its key. Takes no memory.
 pub fn is_read(resource: u16, schema: &Schema, read: &ReadRow) -> bool
     ensures { result ≡ is_read resource schema.now read.now }
 {
     match table_named(schema, &read.key.table) {
-        Some(def) => {
-            read.key.resource == resource && has_key(def, read.key.pk.as_slice(), &read.row)
-        }
+        Some(def) => read.key.resource == resource && fits_key(def, &read.key, &read.row),
         None => false,
     }
 }

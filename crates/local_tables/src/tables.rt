@@ -1,12 +1,13 @@
 //! The tables of a resource.
-ghost use Rattle.std.specs.Prelude.{◌≡◌, OnOk};
-ghost use Rattle.local_tables.specs.Rows.{keyed_row};
+ghost use Rattle.std.specs.Prelude.{◌≡◌, Some, IfOk, OnOk};
+ghost use Rattle.local_tables.specs.Rows.{keyed_row, opening_entry};
 ghost use Rattle.local_tables.specs.Sound.{IsSound, with_opened};
 
 use crate::conditions::table_named;
 use crate::maps::insert;
-use crate::schemas::Schema;
+use crate::schemas::{Schema, TableDef};
 use crate::touching::keyed;
+use crate::typing::fits_row;
 use seata_types::{Duplicate, List, NoMemory, Row, RowKey, Text};
 use std::alloc::Global;
 use std::collections::BTreeMap;
@@ -101,7 +102,23 @@ impl Tables {
     }
 }
 
-/// Puts an opening row at its key, where its table is the schema's and its key column has a value.
+/// A row of a table with its key, where it fits the table.
+fn fitting(
+    alloc: Global,
+    resource: u16,
+    def: &TableDef,
+    row: Row,
+) -> Result<Option<(RowKey, Row)>, NoMemory>
+    ensures { IfOk result (λ entry. entry ≡ opening_entry resource (Some def.now) row) }
+{
+    if !fits_row(def, &row) {
+        return Ok(None);
+    }
+    let entry = keyed(alloc, resource, def, row)?;
+    Ok(entry)
+}
+
+/// Puts an opening row at its key, where its table is the schema's, it fits it, and its key columns have values.
 fn open_row(
     alloc: Global,
     resource: u16,
@@ -114,7 +131,7 @@ fn open_row(
     ensures sound { OnOk result (IsSound schema.now rows.old.entries → IsSound schema.now rows.new.entries) }
 {
     if let Some(def) = table_named(schema, name)
-        && let Some((key, row)) = keyed(alloc, resource, def, row)?
+        && let Some((key, row)) = fitting(alloc, resource, def, row)?
     {
         insert(rows, key, row)?;
     }

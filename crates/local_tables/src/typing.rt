@@ -1,10 +1,11 @@
-//! Whether literals, inserted values and set expressions have their column's type.
+//! Whether literals, inserted values, set expressions and the values of rows have their column's type.
 ghost use Rattle.std.specs.Prelude.{◌≡◌, zip, Some};
 ghost use Rattle.std.specs.List.{list_all};
 ghost use Rattle.local_tables.specs.Checks.{passes, type_of, column_type, same_type, fits_column, term_type, is_number, is_number_part, sum_fits, fits_set, fits_condition, fits_named, fits_tuple, has_types};
+ghost use Rattle.local_tables.specs.Rows.{fits_cell, fits_row};
 
 use crate::schemas::{ColType, TableDef};
-use seata_types::{Cond, CondNode, Expr, List, Sign, Stmt, Term, Text, Value};
+use seata_types::{Cond, CondNode, Expr, List, Row, Sign, Stmt, Term, Text, Value};
 
 fn type_of(value: &Value) -> ColType
     ensures { result ≡ type_of value.now }
@@ -133,4 +134,21 @@ pub fn has_types(def: &TableDef, stmt: &Stmt) -> bool
         Stmt::Delete { cond, .. } => fits_asked(def, cond),
         Stmt::Select { cond, .. } => fits_asked(def, cond),
     }
+}
+
+fn fits_cells(def: &TableDef, columns: &[(Text, ColType)], values: &[Value]) -> bool
+    ensures { result ≡ list_all (fits_cell def.now) (zip columns.now values.now) }
+{
+    columns
+        .iter()
+        .zip(values)
+        .all(|(column, value)| fits_column(def, &column.0, value))
+}
+
+/// Whether a row has as many values as its table has columns, each of its column's type. Takes no memory.
+pub fn fits_row(def: &TableDef, row: &Row) -> bool
+    ensures { result ≡ fits_row def.now row.now }
+{
+    let (columns, values) = (def.columns.as_slice(), row.0.as_slice());
+    values.len() == columns.len() && fits_cells(def, columns, values)
 }

@@ -23,7 +23,7 @@ use Rattle.resource_log.specs.Snapshots.{snapshot_in_bytes}
 abbrev pub has_counts : ResourceSnapshot → Bool
 has_counts s = nat_lt s.acts ACTS && nat_le s.boots s.acts
 
--- ---- rows: each is of one of the tables and has its key, and the keys rise
+-- ---- rows: each fits one of the tables and has a key, and the keys rise
 
 -- each key stands above the one before it, and the first above last
 abbrev pub rises_after : Option RowKey → List RowKey → Bool

@@ -1,6 +1,8 @@
 -- Images and reads that fit the tables: what the tests say.
-use Rattle.std.proofs.Common.{◌≡◌, ◌&&◌, ℕ, ◌+◌, Bool, true, All, List, [], ◌∷◌, length, Option, Some, None, option_map, refl, ap, ◌∙◌}
+use Rattle.std.proofs.Common.{◌≡◌, ◌&&◌, ℕ, ◌+◌, Bool, true, All, List, [], ◌∷◌, length, Option, Some, None, option_map, Less, refl, ap, ◌∙◌}
 use Rattle.std.specs.List.{list_all, IsDistinct}
+use Rattle.std.specs.List.Sorted.{IsStrictlySortedBy}
+use Rattle.std.specs.Ordering.{is_lt}
 use Rattle.std.proofs.lemmas.Bool.{and_parts, and_from, leb-true, le-leb}
 use Rattle.std.proofs.lemmas.List.Elements.{All-nil, All-cons, All-head, All-tail}
 use Rattle.std.proofs.lemmas.Map.Keys.{IsDistinct-from_sorted}
@@ -9,12 +11,13 @@ use Rattle.seata_types.specs.declared.limits.TheConstants.{CALL_ROWS}
 use Rattle.seata_types.specs.declared.rows.Image.{Image}
 use Rattle.seata_types.specs.declared.rows.ReadRow.{ReadRow}
 use Rattle.seata_types.specs.declared.rows.RowKey.{RowKey}
+use Rattle.byte_fields.specs.KeyOrder.{is_below}
 use Rattle.byte_fields.specs.Layout.{IsInOrder, image_follows, read_follows}
 use Rattle.local_tables.specs.declared.schemas.Schema.{Schema}
 use Rattle.local_tables.specs.Fitting.{is_image, is_read}
-use Rattle.local_tables.specs.Rows.{Database, IsImageOf, AreImagesOf, is_key, key_of}
+use Rattle.local_tables.specs.Rows.{Database, IsImageOf, IsReadOf, AreImagesOf, is_key, key_of}
 use Rattle.local_tables.proofs.FittingLaws.{image_is, image_passes, read_is, read_passes}
-use Rattle.durable_records.specs.ResourceOrder.{image_keys, read_keys, only_read, IsReadOf, FitTables}
+use Rattle.durable_records.specs.ResourceOrder.{image_keys, read_keys, only_read, FitTables}
 use Rattle.resource_log.specs.Soundness.{rises_after}
 use Rattle.resource_log.proofs.SoundLaws.{sorted_keys}
 use Rattle.resource_memory.specs.Changes.{rise, are_few, fit}
@@ -36,16 +39,27 @@ each_read : (db : Database) (rs : List ReadRow) → list_all (is_read db.resourc
 each_read db [] e = All-nil (IsReadOf db)
 each_read db (r ∷ rs) e =
     let both = and_parts _ _ e in
-    let one = read_is db r both.0 in
-    All-cons (IsReadOf db) r rs (record { resource = one.resource; table = one.table; row = one.row }) (each_read db rs both.1)
+    All-cons (IsReadOf db) r rs (read_is db r both.0) (each_read db rs both.1)
 
-each_read_passes : (db : Database) (rs : List ReadRow) → All (IsReadOf db) rs → list_all (is_read db.resource db.schema) rs ≡ true
+pub each_read_passes : (db : Database) (rs : List ReadRow) → All (IsReadOf db) rs → list_all (is_read db.resource db.schema) rs ≡ true
 each_read_passes db [] all = refl
 each_read_passes db (r ∷ rs) all =
-    let one = All-head (IsReadOf db) r rs all in
-    and_from _ _ (read_passes db r (record { resource = one.resource; table = one.table; row = one.row })) (each_read_passes db rs (All-tail (IsReadOf db) r rs all))
+    and_from _ _ (read_passes db r (All-head (IsReadOf db) r rs all)) (each_read_passes db rs (All-tail (IsReadOf db) r rs all))
 
 -- ---- the keys rise
+
+below_is : (a b : RowKey) → key_cmp a b ≡ Less → is_below a b ≡ true
+unfolding is_below
+below_is a b e = ap is_lt e
+
+rises_from : (k : RowKey) (ks : List RowKey) → IsStrictlySortedBy key_cmp (k ∷ ks) → rises_after (Some k) ks ≡ true
+unfolding IsStrictlySortedBy
+rises_from k [] s = refl
+rises_from k (j ∷ ks) s = and_from (is_below k j) (rises_after (Some j) ks) (below_is k j s.0.0) (rises_from j ks s.1)
+
+pub sorted_rises : (ks : List RowKey) → IsStrictlySortedBy key_cmp ks → rise ks ≡ true
+sorted_rises [] s = refl
+sorted_rises (k ∷ ks) s = rises_from k ks s
 
 pub rise_distinct : (ks : List RowKey) → rise ks ≡ true → IsDistinct is_key ks
 rise_distinct ks e = IsDistinct-from_sorted key_cmp ks (sorted_keys ks e)

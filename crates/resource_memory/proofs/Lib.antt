@@ -1,6 +1,7 @@
 pub mod Maps
 pub mod Legs
 pub mod Fits
+pub mod EffectFits
 pub mod RowLaws
 pub mod UndoLaws
 pub mod CallLaws

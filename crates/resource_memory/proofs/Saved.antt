@@ -4,17 +4,15 @@ use Rattle.std.specs.List.{AllByRecursion, list_all}
 use Rattle.std.specs.List.Sorted.{IsStrictlySortedBy}
 use Rattle.std.specs.Map.{lookup, keys_of}
 use Rattle.std.specs.Option.{option_and_then}
-use Rattle.std.specs.Ordering.{is_lt, is_eq}
+use Rattle.std.specs.Ordering.{is_eq}
 use Rattle.std.proofs.lemmas.Bool.{and_parts, and_from, leb-true, le-leb, lt-ltb}
 use Rattle.std.proofs.lemmas.Bool.Decides.{nat_tests}
 use Rattle.std.proofs.lemmas.List.{length-map}
 use Rattle.std.proofs.lemmas.List.Elements.{All-from_recursion, recursion_from_All}
-use Rattle.seata_types.specs.Orders.{key_cmp}
 use Rattle.seata_types.specs.declared.ids.Leg.{Leg}
 use Rattle.seata_types.specs.declared.rows.Row.{Row}
 use Rattle.seata_types.specs.declared.rows.RowKey.{RowKey}
 use Rattle.byte_fields.specs.declared.layouts.KeyLayout.TheVariants as layout
-use Rattle.byte_fields.specs.KeyOrder.{is_below}
 use Rattle.byte_fields.specs.Layout.{IsInOrder}
 use Rattle.byte_fields.specs.Parts.{FitsLeg, FitsNamedRow}
 use Rattle.local_tables.specs.declared.schemas.Schema.{Schema}
@@ -27,7 +25,7 @@ use Rattle.undo_log.specs.declared.records.UndoEntry.TheVariants as entry
 use Rattle.tcc_fence.specs.Meanings.{Fences, fence_at, pair_of, status_of}
 use Rattle.resource_log.specs.SnapshotOf.{named_row, undo_item, item_for, status_now}
 use Rattle.resource_log.specs.Snapshots.{undo_leg, undo_follows, fence_follows, FitsUndoIn, FitsFence, FitsSnapshot}
-use Rattle.resource_log.specs.Soundness.{has_tables, rises_after, are_rising, row_keys, is_sound}
+use Rattle.resource_log.specs.Soundness.{has_tables, are_rising, row_keys, is_sound}
 use Rattle.resource_log.specs.declared.states.FenceItem.{FenceItem}
 use Rattle.resource_log.specs.declared.states.ResourceSnapshot.{ResourceSnapshot}
 use Rattle.resource_log.specs.declared.states.TheConstants.{ACTS}
@@ -38,7 +36,7 @@ use Rattle.resource_memory.specs.Known.{Known, Calls}
 use Rattle.resource_memory.specs.Lookups.{call_at}
 use Rattle.resource_memory.specs.Snapshots.{fence_item, snapshot_in, undo_entry, fence_entry, calls_in, known_in}
 use Rattle.resource_memory.specs.Laws.{SavesWhatIsKnown, LoadsSoundSnapshots}
-use Rattle.resource_memory.proofs.Fits.{images_rise}
+use Rattle.resource_memory.proofs.Fits.{images_rise, sorted_rises}
 use Rattle.resource_memory.proofs.Legs.{pair_total, leg_total, leg_exact}
 use Rattle.resource_memory.proofs.Listed.{sorted_in_order, order_from_sorted, in_any_order, each_mapped, each_weaker, map_map}
 use Rattle.resource_memory.proofs.Maps.{same_entries}
@@ -204,19 +202,6 @@ saved_keys resource schema [] all = refl
 saved_keys resource schema (e ∷ es) all =
     ap (λ (o : Option (RowKey × Row)). option_and_then (λ y. option_map (λ ys. y ∷ ys) (row_keys resource schema (map named_row es))) (option_map entry_key o)) all.0
     ∙ ap (λ (o : Option (List RowKey)). option_map (λ ys. e.0 ∷ ys) o) (saved_keys resource schema es all.1)
-
-below_is : (a b : RowKey) → key_cmp a b ≡ Less → is_below a b ≡ true
-unfolding is_below
-below_is a b e = ap is_lt e
-
-rises_from : (k : RowKey) (ks : List RowKey) → IsStrictlySortedBy key_cmp (k ∷ ks) → rises_after (Some k) ks ≡ true
-unfolding IsStrictlySortedBy
-rises_from k [] s = refl
-rises_from k (j ∷ ks) s = and_from (is_below k j) (rises_after (Some j) ks) (below_is k j s.0.0) (rises_from j ks s.1)
-
-sorted_rises : (ks : List RowKey) → IsStrictlySortedBy key_cmp ks → rises_after None ks ≡ true
-sorted_rises [] s = refl
-sorted_rises (k ∷ ks) s = rises_from k ks s
 
 pub saved_sound : (k : Known) → IsKept k → k.acts < 2 ^ 31 → is_sound k.tables.resource k.tables.schema (snapshot_in k) ≡ true
 unfolding is_sound

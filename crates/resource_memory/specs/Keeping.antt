@@ -1,14 +1,13 @@
 -- What holds of all that a resource knows: its parts stand in order, and agree.
-use Rattle.std.specs.Prelude.{◌≡◌, ◌≢◌, ℕ, ◌≤◌, ◌<◌, ◌^◌, ◌&&◌, nat_lt, Bool, true, Some, None, length}
+use Rattle.std.specs.Prelude.{◌≡◌, ◌≢◌, ℕ, ◌≤◌, ◌<◌, ◌^◌, ◌&&◌, nat_lt, Bool, true, None, length}
 use Rattle.std.specs.List.{AllByRecursion}
 use Rattle.std.specs.List.Sorted.{IsStrictlySortedBy}
 use Rattle.std.specs.Map.{lookup, keys_of}
 use Rattle.seata_types.specs.declared.ids.Leg.{Leg}
-use Rattle.seata_types.specs.declared.rows.Row.{Row}
-use Rattle.seata_types.specs.declared.rows.RowKey.{RowKey}
 use Rattle.byte_fields.specs.declared.layouts.KeyLayout.TheVariants as layout
 use Rattle.byte_fields.specs.Parts.{FitsLeg, FitsNamedRow}
-use Rattle.local_tables.specs.Rows.{Database, IsMap, keyed_row}
+use Rattle.local_tables.specs.Rows.{Database}
+pub use Rattle.local_tables.specs.Rows.{AreRows, HasItsKey}
 use Rattle.local_tables.specs.declared.schemas.Schema.{Schema}
 use Rattle.durable_records.specs.Fences.{Fence, leg_cmp}
 use Rattle.durable_records.specs.ResourceOrder.{image_keys}
@@ -25,15 +24,6 @@ use Rattle.resource_memory.specs.Known.{Known, Calls}
 
 abbrev pub known_as : (acts boots : ℕ) → Database → Log → Fences → Calls → Known
 known_as acts boots db undos fences calls = record { acts = acts; boots = boots; tables = db; undo_log = undos; fences = fences; calls = calls }
-
--- a row that stands behind its table's name has this key
-abbrev pub HasItsKey : ℕ → Schema → RowKey × Row → Type 0
-HasItsKey resource schema e = keyed_row resource schema (named_row e) ≡ Some e
-
--- the rows stand in order, and each has its key
-pub record AreRows (db : Database) : Type 0 where
-  pub in_order : IsMap db.rows
-  pub keyed : AllByRecursion (HasItsKey db.resource db.schema) db.rows
 
 -- an undo record names its branch, its images rise, and its images and reads are of rows of the tables
 abbrev pub IsEntryOf : ℕ → Schema → Leg → UndoEntry → Type 0

@@ -2,7 +2,6 @@ pub mod ListLaws
 pub mod StoreLaws
 pub mod OpeningLaws
 pub mod DamageLaws
-pub mod EffectLaws
 pub mod DoneCalls
 pub mod AnswerLaws
 pub mod CountedEffects

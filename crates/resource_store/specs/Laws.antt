@@ -40,7 +40,7 @@ pub record HoldsRecords (t : Setting) : Type 0 where
 abbrev pub DisksHoldRecords : Type 0
 DisksHoldRecords = (t : Setting) → HoldsRecords t
 
--- an effect of statements, on tables whose rows have their keys, fits these tables
+-- an effect of statements, on tables whose rows fit, fits these tables
 abbrev pub EffectsFit : Type 0
 EffectsFit = (db : Database) (stmts : List Stmt) (e : Effect) → AreRows db → effect db stmts ≡ Ok e → fit db e.images e.reads ≡ true
 

@@ -1,8 +1,8 @@
 //! What records and effects of statements owe to a resource that asks its store.
 ghost use Rattle.resource_store.specs.Laws.{DisksHoldRecords, EffectsFit, FindsUndosOfCalls};
 
-/// An effect of statements, on tables whose rows have their keys, is of rows of these tables, in rising order of keys, and
-/// of no more rows than a call may have.
+/// An effect of statements, on tables whose rows fit, is of rows that fit these tables, in rising order of keys, and of no
+/// more rows than a call may have.
 pub fn effects_fit_their_tables()
     ensures { EffectsFit }
 {}

@@ -17,12 +17,17 @@ use Rattle.seata_types.specs.declared.limits.TheConstants.{RESOURCES, RESOURCE_R
 use Rattle.seata_types.specs.declared.rows.Row.{Row}
 use Rattle.seata_types.specs.declared.rows.RowKey.{RowKey}
 use Rattle.seata_types.specs.declared.rows.Value.{Value}
+use Rattle.seata_types.specs.declared.rows.Value.TheVariants as value
 use Rattle.local_tables.proofs.KeyLaws.{same_key, same_text_same, same_text_itself}
-use Rattle.local_tables.specs.Rows.{IsOpening, is_key, key_in, key_values, keyed, keyed_row, opening_entry, opening_rows, with_key, each_of, is_named, table_named}
+use Rattle.local_tables.proofs.RowFitLaws.{own_types_fit}
+use Rattle.local_tables.specs.Checks.{type_of}
+use Rattle.local_tables.specs.Rows.{IsOpening, fits_row, is_key, key_in, key_values, keyed, keyed_row, opening_entry, opening_rows, with_key, each_of, is_named, table_named}
+use Rattle.local_tables.specs.declared.schemas.ColType.{ColType}
+use Rattle.local_tables.specs.declared.schemas.ColType.TheVariants as type
 use Rattle.local_tables.specs.declared.schemas.Schema.{Schema}
 use Rattle.local_tables.specs.declared.schemas.TableDef.{TableDef}
 use Rattle.scenario_reader.specs.declared.scenarios.ResourceDef.{ResourceDef}
-use Rattle.scenario_reader.specs.Contents.{IsNodeName, AreDifferent, IsTable, IsSchema, IsRow, IsOpeningRow, IsResource, table_name}
+use Rattle.scenario_reader.specs.Contents.{IsNodeName, AreDifferent, FitsColumn, IsTable, IsSchema, IsRow, IsOpeningRow, IsResource, table_name}
 use Rattle.scenario_reader.specs.Faults.{Outcome, ◌>>=◌, within, to_item, to_member, each, items_length, list, member, an_object, only}
 use Rattle.scenario_reader.specs.Names.{new_node, is_node, is_resource_named}
 use Rattle.scenario_reader.specs.Resources as form
@@ -99,6 +104,17 @@ key_values_is def row table fits =
     let is = key_behind_is row def.key [] within in
     is.1 ∙ ap (λ (key : List Value). Some key) (sym is.2)
 
+own_type : (t : ColType) (v : Value) → FitsColumn t v → t ≡ type_of v
+own_type type.Int (value.Int number) fits = refl
+own_type type.Text (value.Text text) fits = refl
+own_type type.Int (value.Text text) fits = absurd fits
+own_type type.Text (value.Int number) fits = absurd fits
+
+-- a row of a table's columns fits the table
+fits_row_is : (def : TableDef) (row : Row) → IsTable def → IsRow def.columns row → fits_row def row ≡ true
+fits_row_is def row table fits =
+    own_types_fit def row table.different fits.whole (λ k column cell at there. own_type column.1 cell (fits.each k column cell at there))
+
 -- the entry of a row of a table
 abbrev entry_of : ℕ → TableDef → Row → RowKey × Row
 entry_of number def row = (key_in number def (key_of def.key row), row)
@@ -106,7 +122,9 @@ entry_of number def row = (key_in number def (key_of def.key row), row)
 keyed_row_is : (number : ℕ) (schema : Schema) (o : List ℕ × Row) (def : TableDef) → table_named schema o.0 ≡ Some def → IsTable def → IsRow def.columns o.1
     → keyed_row number schema o ≡ Some (entry_of number def o.1)
 keyed_row_is number schema o def found table fits =
-    ap (λ (t : Option TableDef). opening_entry number t o.1) found ∙ ap (option_map (with_key number def o.1)) (key_values_is def o.1 table fits)
+    ap (λ (t : Option TableDef). opening_entry number t o.1) found
+    ∙ ap (λ b. cond b (keyed number def o.1) None) (fits_row_is def o.1 table fits)
+    ∙ ap (option_map (with_key number def o.1)) (key_values_is def o.1 table fits)
 
 -- rows of tables that stay have the same entries among more tables
 same_rows : (number : ℕ) (old new : Schema) (opening : List (List ℕ × Row)) → All (λ o. table_named new o.0 ≡ table_named old o.0) opening

@@ -1,5 +1,5 @@
 -- The images of accounts that come are images of different rows of their table.
-use Rattle.std.proofs.Common.{◌≡◌, ℕ, zero, suc, ◌+◌, ◌-◌, ◌<◌, ◌≤◌, pos, false, List, [], ◌∷◌, ◌++◌, map, Some, Less, Equal, refl, sym, ap, ◌∙◌, subst, arith}
+use Rattle.std.proofs.Common.{◌≡◌, ℕ, zero, suc, ◌+◌, ◌-◌, ◌<◌, ◌≤◌, pos, false, List, [], ◌∷◌, ◌++◌, map, Less, Equal, refl, sym, ap, ◌∙◌, subst, arith}
 use Rattle.std.proofs.Math.Dec.{lt→ltb}
 use Rattle.std.specs.Cmp.{int_cmp_is}
 use Rattle.std.specs.List.{AllByRecursion, IsDistinct}
@@ -7,7 +7,7 @@ use Rattle.std.specs.Ordering.{ordering_then, is_eq}
 use Rattle.std.proofs.lemmas.List.{append_assoc, append-nil}
 use Rattle.std.proofs.lemmas.List.Elements.{All-from_recursion}
 use Rattle.seata_types.specs.declared.rows.Image.{Image}
-use Rattle.local_tables.specs.Rows.{Database, IsImageOf, AreImagesOf, applied, is_key, key_of, key_values}
+use Rattle.local_tables.specs.Rows.{Database, IsImageOf, IsRowOf, AreImagesOf, applied, is_key, key_of}
 use Rattle.local_tables.specs.declared.schemas.TableDef.{TableDef}
 use Rattle.local_tables.specs.declared.schemas.Way.TheVariants as way
 use Rattle.local_tables.proofs.ImageLaws.{images_stay}
@@ -37,7 +37,7 @@ is_image number = record {
   before = tt;
   after = λ def found.
       let same : accounts ≡ def = cc in
-      subst (λ (d : TableDef). key_values d (account_row number) ≡ Some (account_key number).pk) same refl;
+      subst (λ (d : TableDef). IsRowOf d (account_key number) (account_row number)) same (record { fits = refl; values = refl });
 }
 
 are_images : (from count : ℕ) → AllByRecursion (IsImageOf no_accounts) (insertions from count)
