@@ -4,9 +4,9 @@ use Rattle.std.specs.Prelude.{min, ◌^◌}
 use Rattle.seata_types.specs.declared.ids.Ticket.{Ticket}
 use Rattle.seata_types.specs.declared.rows.RowKey.{RowKey}
 use Rattle.durable_records.specs.Branches.{same_ticket}
-use Rattle.local_txn.specs.OpenTickets.{Open, open_at, without, with_first, counting, has_row, ticket_with}
+use Rattle.local_txn.specs.OpenTickets.{AreDistinct, Open, open_at, without, with_first, counting, has_row, ticket_with}
 use Rattle.local_txn.specs.Answers.{ticket_of}
-use Rattle.local_txn.specs.RowIndex.{IsCounted, AreApart, AreDistinct, without_first}
+use Rattle.local_txn.specs.RowIndex.{IsCounted, AreApart, without_first}
 use Rattle.local_txn.proofs.Tests.{false_true, true_false, none_some, one_ticket, ticket_itself, cond_true, cond_false}
 
 -- ---- a ticket that is found

@@ -6,9 +6,9 @@ use Rattle.std.proofs.lemmas.Bool.Decides.{nat_tests}
 use Rattle.seata_types.specs.declared.ids.Ticket.{Ticket}
 use Rattle.durable_records.specs.Branches.{same_ticket}
 use Rattle.local_txn.specs.declared.transactions.OpenTxn.{OpenTxn}
-use Rattle.local_txn.specs.OpenTickets.{Open, open_at, counting, last_of}
+use Rattle.local_txn.specs.OpenTickets.{AreDistinct, Open, open_at, counting, last_of}
 use Rattle.local_txn.specs.Answers.{open_of, is_for, owner_by, raised, counted}
-use Rattle.local_txn.specs.RowIndex.{place_from, with_count, Raises, without_first, AreDistinct}
+use Rattle.local_txn.specs.RowIndex.{place_from, with_count, Raises, without_first}
 use Rattle.local_txn.proofs.Tests.{true_false, none_some, one_ticket, cond_true, cond_false}
 
 not_zero : (y : ℕ) → (suc y == 0) ≡ false

@@ -1,6 +1,6 @@
 -- The local transactions that a resource has open, each under its ticket. Lists of them stand in the order of their last
 -- sending, the one that was sent last first.
-use Rattle.std.specs.Prelude.{ℕ, zero, suc, ◌+◌, ◌==◌, ◌&&◌, ◌||◌, not, Bool, false, if◌then◌else◌, List, [], ◌∷◌, filter, find, Option, Some, None}
+use Rattle.std.specs.Prelude.{◌≡◌, ℕ, zero, suc, ◌+◌, ◌==◌, ◌&&◌, ◌||◌, not, Bool, false, if◌then◌else◌, List, [], ◌∷◌, filter, find, Option, Some, None}
 use Rattle.std.specs.Ordering.{is_lt}
 use Rattle.seata_types.specs.Orders.{key_cmp}
 use Rattle.seata_types.specs.declared.ids.Ticket.{Ticket}
@@ -38,6 +38,11 @@ opening_of t owner e = record { ticket = t; owner = owner; images = e.images; re
 
 abbrev pub open_at : List Open → Ticket → Option Open
 open_at opens t = find (λ o. same_ticket o.ticket t) opens
+
+-- each ticket is open once
+abbrev pub AreDistinct : List Open → Type 0
+AreDistinct [] = Unit {0}
+AreDistinct (o ∷ os) = AreDistinct os × (open_at os o.ticket ≡ None)
 
 abbrev pub without : List Open → Ticket → List Open
 without opens t = filter (λ o. not (same_ticket o.ticket t)) opens

@@ -43,11 +43,6 @@ pub record IsCounted (boot opened : ℕ) (o : Open) : Type 0 where
   pub least : 1 ≤ o.ticket.seq
   pub within : o.ticket.seq ≤ opened
 
--- each ticket is open once
-abbrev pub AreDistinct : List Open → Type 0
-AreDistinct [] = Unit {0}
-AreDistinct (o ∷ os) = AreDistinct os × (open_at os o.ticket ≡ None)
-
 -- a ticket is counted, and none of these has its number or a row of it
 pub record IsApart (boot opened : ℕ) (o : Open) (os : List Open) : Type 0 where
   pub counted : IsCounted boot opened o

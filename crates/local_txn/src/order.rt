@@ -2,9 +2,9 @@
 ghost use Rattle.std.specs.Prelude.{◌≡◌, ◌<◌, is_some, true, map, find, option_map, option_and_then, IsSome};
 ghost use Rattle.std.specs.Option.{option_copied};
 ghost use Rattle.std.specs.VecDeque.{deque_len, deque_capacity};
-ghost use Rattle.local_txn.specs.OpenTickets.{open_at, last_of};
+ghost use Rattle.local_txn.specs.OpenTickets.{AreDistinct, open_at, last_of};
 ghost use Rattle.local_txn.specs.Answers.{open_of, is_for, ticket_of, raised, counted};
-ghost use Rattle.local_txn.specs.RowIndex.{place_from, Raises, without_first, AreDistinct};
+ghost use Rattle.local_txn.specs.RowIndex.{place_from, Raises, without_first};
 ghost use Rattle.durable_records.specs.Branches.{same_ticket};
 
 use crate::transactions::OpenTxn;

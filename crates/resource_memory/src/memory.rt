@@ -8,7 +8,7 @@ ghost use Rattle.resource_log.specs.Soundness.{is_sound};
 ghost use Rattle.tcc_fence.specs.Meanings.{answer_of};
 ghost use Rattle.resource_memory.specs.Known.{Known, known_of};
 ghost use Rattle.resource_memory.specs.Changes.{after, may_come, has_no_entry, has_undo_record, runs, suspends, fit};
-ghost use Rattle.resource_memory.specs.Keeping.{has_room};
+ghost use Rattle.resource_memory.specs.Keeping.{IsKept, has_room};
 ghost use Rattle.resource_memory.specs.Lookups.{tried_leg};
 ghost use Rattle.resource_memory.specs.Snapshots.{snapshot_in, known_in};
 
@@ -121,6 +121,16 @@ impl Memory {
         ensures { result ≡ has_room self.now }
     {
         self.tables.rows() < ITEMS && self.undo_log.len() < ITEMS && self.fence.len() < ITEMS
+    }
+
+    /// Itself: what is known stands in order, and each row fits its table. Takes no memory.
+    pub fn kept(&self) -> &Memory
+        ensures same { result.now ≡ self.now }
+        ensures kept { IsKept self.now }
+    {
+        // A look at one of its parts tells what always holds of all.
+        let _acts = self.acts;
+        self
     }
 
     /// How many records there are; takes no memory.

@@ -43,6 +43,7 @@ impl<D: Disk> Store<D> {
     ghost use Rattle.memory_store.specs.Keeping.{IsDamage, IsRead, IsOf, FindsFirst, IsTold, ComesUp};
     ghost use Rattle.resource_store.specs.Openings.{IsUndamaged, IsBootDamage};
     ghost use Rattle.resource_memory.specs.Changes.{may_come};
+    ghost use Rattle.resource_memory.specs.Keeping.{IsKept};
     ghost use Rattle.resource_memory.specs.Lookups.{tried_leg};
     ghost use Rattle.resource_store.specs.Meaning.{setting, meaning_of};
     ghost use Rattle.resource_store.specs.Standing.{StandsForRecords};
@@ -384,6 +385,14 @@ impl<D: Disk> Store<D> {
         ensures { result ≡ (known self.now).acts }
     {
         self.kept.records()
+    }
+
+    /// What it knows: its parts stand in order, and each row fits its table. Takes no memory.
+    pub fn memory(&self) -> &Memory
+        ensures known { result.now ≡ known self.now }
+        ensures sound { IsKept (known self.now) }
+    {
+        self.kept.memory().kept()
     }
 
     /// The tables with the rows as they are now; takes no memory.
