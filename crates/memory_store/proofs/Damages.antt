@@ -9,7 +9,7 @@ use Rattle.journal_checkpoint.specs.Images.{PairStandsFor, IsPairDamage}
 use Rattle.memory_store.specs.Meanings.{Meaning}
 use Rattle.memory_store.specs.Holdings.{second_in, held_in, store_error, on_disk, of_pair, memory_on}
 use Rattle.memory_store.specs.Replays.{Finds, IsReadingError}
-use Rattle.memory_store.specs.Settling.{IsSettlingError}
+use Rattle.memory_store.specs.Settling.{IsNoDamage}
 use Rattle.memory_store.specs.Keeping.{IsDamage, IsNotFull}
 
 abbrev damaged_at : {K : Type 0} → Bool → ℕ → Result K OpenError
@@ -37,7 +37,7 @@ module _ {K I : Type 0} (m : Meaning K I) (a b : List ℕ) where
     held_damage second same (open_error.Full full) held = absurd held
 
 -- an error of a checkpoint is no damage
-pub no_damage : {K I : Type 0} (m : Meaning K I) (a b : List ℕ) (e : OpenError) → IsSettlingError e → IsDamage m a b e
+pub no_damage : {K I : Type 0} (m : Meaning K I) (a b : List ℕ) (e : OpenError) → IsNoDamage e → IsDamage m a b e
 no_damage m a b open_error.Failed settles = tt
 no_damage m a b open_error.NoMemory settles = tt
 no_damage m a b (open_error.Damaged second at) settles = absurd settles
@@ -68,7 +68,7 @@ reading_not_full open_error.NoMemory reads = tt
 reading_not_full open_error.Failed reads = tt
 reading_not_full (open_error.Full full) reads = reads
 
-pub settling_not_full : (e : OpenError) → IsSettlingError e → IsNotFull e
+pub settling_not_full : (e : OpenError) → IsNoDamage e → IsNotFull e
 settling_not_full (open_error.Damaged second at) settles = tt
 settling_not_full open_error.NoMemory settles = tt
 settling_not_full open_error.Failed settles = tt

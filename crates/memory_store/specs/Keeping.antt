@@ -138,16 +138,31 @@ IsTold disk = IsSome disk.content
 
 -- ---- what an opening hands on
 
+-- the disks of whatever has two, in their order
+abbrev pub first_handed_on : {S D : Type 0} → (S → Twin D) → Result S (OpenError × D × D) → D
+first_handed_on twin (Ok s) = first_disk (twin s)
+first_handed_on twin (Err failed) = failed.1
+
+abbrev pub second_handed_on : {S D : Type 0} → (S → Twin D) → Result S (OpenError × D × D) → D
+second_handed_on twin (Ok s) = second_disk (twin s)
+second_handed_on twin (Err failed) = failed.2
+
 -- its disks in their order
 abbrev pub first_after : {M K D : Type 0} → Result (Store M K D) (OpenError × D × D) → D
-first_after (Ok s) = first_disk (twin_of s)
-first_after (Err failed) = failed.1
+first_after result = first_handed_on twin_of result
 
 abbrev pub second_after : {M K D : Type 0} → Result (Store M K D) (OpenError × D × D) → D
-second_after (Ok s) = second_disk (twin_of s)
-second_after (Err failed) = failed.2
+second_after result = second_handed_on twin_of result
 
--- ---- a memory that is lent
+-- two disks stay
+pub record SameTwins {D : Type 0} (old new : Twin D) : Type 0 where
+  pub first : first_disk new ≡ first_disk old
+  pub second : second_disk new ≡ second_disk old
+
+-- ---- what is lent
+
+abbrev pub with_twin : {M K D : Type 0} → Store M K D → Twin D → Store M K D
+with_twin s t = record s { twin = t }
 
 abbrev pub with_memory : {M K D : Type 0} → Store M K D → K → Store M K D
 with_memory s known = record s { memory = known }
@@ -156,9 +171,6 @@ module _ (M K D : RattleType) where
   -- it ends with the last memory behind r
   abbrev pub LendsMemory : MutBor (Store M.Denot K.Denot D.Denot) → MutBor K.Denot → Fml
   LendsMemory s r = Lends (the_row M K D) K s r (with_memory s.now)
-
-  abbrev pub with_twin : {M K D : Type 0} → Store M K D → Twin D → Store M K D
-  with_twin s t = record s { twin = t }
 
   -- it ends with the last disk behind r as the active one
   abbrev pub LendsActive : MutBor (Store M.Denot K.Denot D.Denot) → MutBor D.Denot → Fml

@@ -3,3 +3,4 @@ pub mod Holdings
 pub mod Replays
 pub mod Settling
 pub mod Keeping
+pub mod Readings

@@ -52,9 +52,9 @@ pub record RunsOn (old new : DiskState) : Type 0 where
   pub own : old.counts.own ≤ new.counts.own
   pub unarmed : old.counts.left ≡ None → new.counts.left ≡ None
 
--- no other error comes
-abbrev pub IsSettlingError : OpenError → Type 0
-IsSettlingError open_error.Failed = Unit {0}
-IsSettlingError open_error.NoMemory = Unit {0}
-IsSettlingError (open_error.Damaged second at) = ⊥
-IsSettlingError (open_error.Full full) = ⊥
+-- an opening or a restart fails for its disks or for want of memory alone
+abbrev pub IsNoDamage : OpenError → Type 0
+IsNoDamage open_error.Failed = Unit {0}
+IsNoDamage open_error.NoMemory = Unit {0}
+IsNoDamage (open_error.Damaged second at) = ⊥
+IsNoDamage (open_error.Full full) = ⊥

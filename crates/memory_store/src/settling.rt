@@ -4,7 +4,7 @@ ghost use Rattle.disk_model.specs.Disk.{HasCause};
 ghost use Rattle.journal_checkpoint.specs.declared.types.Found.{Found};
 ghost use Rattle.journal_checkpoint.specs.Images.{LeavesPairs};
 ghost use Rattle.journal_checkpoint.specs.Keeping.{KeepsPair, disks, first_disk, second_disk, is_down};
-ghost use Rattle.memory_store.specs.Settling.{KeepsOrSettled, StandsOrSettled, RunsOn, IsShort, CannotSettle, IsSettlingError};
+ghost use Rattle.memory_store.specs.Settling.{KeepsOrSettled, StandsOrSettled, RunsOn, IsShort, CannotSettle, IsNoDamage};
 
 use crate::machine::{ACTS, StateMachine};
 use disk_model::{Disk, Failed};
@@ -31,7 +31,7 @@ pub fn settle<M: StateMachine, D: Disk>(
     ensures short { OnOk result ((found : Found) → KeepsPair D.state found twin.old →
         IsShort D.state twin.new ⊎ CannotSettle (M.meaning machine.now) D.state memory.now twin.new) }
     ensures not_due { IsShort D.state twin.old → twin.new ≡ twin.old }
-    ensures error { IfErr result IsSettlingError }
+    ensures error { IfErr result IsNoDamage }
     ensures no_memory { result ≡ Err OpenError.NoMemory → twin.new ≡ twin.old }
     ensures failed { result ≡ Err OpenError.Failed → HasCause (D.state (first_disk twin.old)).counts (D.state (first_disk twin.new)).counts
         ⊎ HasCause (D.state (second_disk twin.old)).counts (D.state (second_disk twin.new)).counts }

@@ -29,7 +29,7 @@ impl<K: Drop, M: StateMachine<Memory = K> + Drop, D: Disk> Store<M, K, D> {
     ghost use Rattle.seata_types.specs.declared.limits.TheConstants.{BODY_BYTES};
     ghost use Rattle.journal_checkpoint.specs.Images.{FailsItself, PairStandsFor, LeavesPairs, Either, with_record};
     ghost use Rattle.journal_checkpoint.specs.Keeping.{KeepsPair, active_disk, first_disk, second_disk, disks, needed_for};
-    ghost use Rattle.memory_store.specs.Settling.{GoesOn, RunsOn, IsSettlingError};
+    ghost use Rattle.memory_store.specs.Settling.{GoesOn, RunsOn, IsNoDamage};
     ghost use Rattle.memory_store.specs.Keeping.{machine_of, memory_of, twin_of, found_of, is_down, Keeps, Takes, Falls, IsAtEnd, IsFullFor, ChangesMemory, IsDamage, IsOf, IsNotFull, IsRead, FindsFirst, ComesUp, IsBack, IsTold, first_after, second_after, LendsMemory, LendsActive};
 
     /// Reads two disks, and changes no byte. The disks come back where it fails: `Damaged` where their bytes hold nothing,
@@ -276,7 +276,7 @@ impl<K: Drop, M: StateMachine<Memory = K> + Drop, D: Disk> Store<M, K, D> {
         requires up { is_down self.old ≡ false }
         ensures ok { OnOk result ((a b : List ℕ) → present (D.state (first_disk (twin_of self.old))) ≡ Some a → present (D.state (second_disk (twin_of self.old))) ≡ Some b →
             PairStandsFor found.now a b → KeepsPair D.state found.now (twin_of self.old) → IsOf D.state (M.meaning (machine_of self.old)) a b self.new) }
-        ensures damaged { IfErr result (λ error. IsSettlingError error ⊎ ((twin_of self.new ≡ twin_of self.old) × ((a b : List ℕ) →
+        ensures damaged { IfErr result (λ error. IsNoDamage error ⊎ ((twin_of self.new ≡ twin_of self.old) × ((a b : List ℕ) →
             present (D.state (first_disk (twin_of self.old))) ≡ Some a → present (D.state (second_disk (twin_of self.old))) ≡ Some b →
             PairStandsFor found.now a b → KeepsPair D.state found.now (twin_of self.old) → IsDamage (M.meaning (machine_of self.old)) a b error))) }
         ensures images { (a b c d : List ℕ) → present (D.state (first_disk (twin_of self.old))) ≡ Some a → present (D.state (second_disk (twin_of self.old))) ≡ Some b →

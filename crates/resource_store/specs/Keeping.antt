@@ -3,7 +3,6 @@ use Rattle.std.specs.Prelude.{◌≡◌, ◌⊎◌, ℕ, ◌<◌, ◌≤◌, ◌
 use Rattle.std.specs.Borrow.{Lends, Fml, RattleType, MutBor}
 use Rattle.disk_model.specs.Disk.{DiskState}
 use Rattle.seata_types.specs.declared.errors.OpenError.{OpenError}
-use Rattle.seata_types.specs.declared.errors.OpenError.TheVariants as open_error
 use Rattle.seata_types.specs.declared.errors.StoreError.{StoreError}
 use Rattle.seata_types.specs.declared.errors.StoreError.TheVariants as store_error
 use Rattle.seata_types.specs.declared.limits.TheConstants.{BODY_BYTES}
@@ -14,7 +13,8 @@ use Rattle.journal_checkpoint.specs.Keeping.{active_disk, first_disk, second_dis
 use Rattle.durable_records.specs.declared.resources.ResourceRecord.{ResourceRecord}
 use Rattle.durable_records.specs.declared.resources.ResourceRecord.TheVariants as log
 use Rattle.durable_records.specs.UndoRecords.{boots}
-use Rattle.memory_store.specs.Keeping.{twin_of, memory_of, machine_of, found_of as store_found, is_down as store_is_down, Keeps, Takes, Falls, IsFullFor}
+use Rattle.memory_store.specs.Keeping.{SameTwins, with_twin, first_handed_on, second_handed_on, twin_of, memory_of, machine_of, found_of as store_found, is_down as store_is_down, Keeps, Takes, Falls, IsFullFor}
+pub use Rattle.memory_store.specs.Settling.{IsNoDamage}
 use Rattle.resource_log.specs.Records.{FitsRecord, record_bytes}
 use Rattle.resource_memory.specs.Changes.{after, may_come}
 use Rattle.resource_memory.specs.Known.{Known, known_of}
@@ -122,15 +122,8 @@ abbrev pub BootsAs : {D : Type 0} → (D → DiskState) → Setting → List Res
 BootsAs state t rs s = KeepsRecords state t (log.Boot (boots rs + 1) ∷ rs) s
 
 -- two disks stay
-pub record SameDisks {D : Type 0} (old new : Store D) : Type 0 where
-  pub first : first_disk (twin new) ≡ first_disk (twin old)
-  pub second : second_disk (twin new) ≡ second_disk (twin old)
-
-abbrev pub IsNoDamage : OpenError → Type 0
-IsNoDamage (open_error.Damaged second at) = ⊥
-IsNoDamage (open_error.Full full) = ⊥
-IsNoDamage open_error.Failed = Unit {0}
-IsNoDamage open_error.NoMemory = Unit {0}
+abbrev pub SameDisks : {D : Type 0} → Store D → Store D → Type 0
+SameDisks old new = SameTwins (twin old) (twin new)
 
 -- the records that the one pair of bytes stands for, the other one stands for too
 abbrev pub GoesOnAs : Setting → (a b c d : List ℕ) → Type 0
@@ -155,17 +148,15 @@ pub record BringsBack {D : Type 0} (state : D → DiskState) (pick : ℕ) (old n
 
 -- the disks that an opening hands on
 abbrev pub first_after : {D : Type 0} → Result (Store D) (OpenError × D × D) → D
-first_after (Ok s) = first_disk (twin s)
-first_after (Err failed) = failed.1
+first_after result = first_handed_on twin result
 
 abbrev pub second_after : {D : Type 0} → Result (Store D) (OpenError × D × D) → D
-second_after (Ok s) = second_disk (twin s)
-second_after (Err failed) = failed.2
+second_after result = second_handed_on twin result
 
 -- ---- a disk that is lent
 
 abbrev pub with_disk : {D : Type 0} → Store D → D → Store D
-with_disk s disk = record s { kept = record s.kept { twin = with_active s.kept.twin disk } }
+with_disk s disk = record s { kept = with_twin s.kept (with_active (twin s) disk) }
 
 module _ (D : RattleType) where
   -- it ends with the last disk behind r as the active one

@@ -1,9 +1,10 @@
 -- Which records two disks stand for. Lists of records stand newest first.
-use Rattle.std.specs.Prelude.{◌≡◌, ℕ, ◌<◌, ◌^◌, All, Option, Some, None, List, [], ◌∷◌, length, option_and_then}
+use Rattle.std.specs.Prelude.{◌≡◌, ℕ, ◌<◌, ◌^◌, All, Option, Some, None, List, [], length}
 use Rattle.journal_checkpoint.specs.declared.types.Found.{Found}
 use Rattle.journal_checkpoint.specs.Images.{PairStandsFor}
 use Rattle.durable_records.specs.declared.resources.ResourceRecord.{ResourceRecord}
 use Rattle.durable_records.specs.ResourceOrder.{Allowed}
+use Rattle.memory_store.specs.Readings as readings
 use Rattle.resource_log.specs.declared.states.TheConstants.{ACTS}
 use Rattle.resource_log.specs.Records.{FitsRecord, record_of}
 use Rattle.resource_log.specs.Snapshots.{snapshot_in_bytes}
@@ -12,8 +13,7 @@ use Rattle.resource_store.specs.Meaning.{Setting, Opens, opening_of}
 
 -- the records that these bodies are, on top of others
 abbrev pub records_on : List ResourceRecord → List (List ℕ) → Option (List ResourceRecord)
-records_on before [] = Some before
-records_on before (body ∷ bodies) = option_and_then (λ r. records_on (r ∷ before) bodies) (record_of body)
+records_on before bodies = readings.records_on record_of before bodies
 
 -- the bodies are these records, over none; or behind a snapshot, over those that have it, which are fewer than a snapshot may
 -- stand for

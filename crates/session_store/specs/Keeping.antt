@@ -4,7 +4,6 @@ use Rattle.std.specs.Borrow.{Lends, Fml, RattleType, MutBor}
 use Rattle.disk_model.specs.Disk.{DiskState}
 use Rattle.seata_types.specs.declared.errors.Full.{Full}
 use Rattle.seata_types.specs.declared.errors.OpenError.{OpenError}
-use Rattle.seata_types.specs.declared.errors.OpenError.TheVariants as open_error
 use Rattle.seata_types.specs.declared.errors.StoreError.{StoreError}
 use Rattle.seata_types.specs.declared.errors.StoreError.TheVariants as store_error
 use Rattle.seata_types.specs.declared.ids.BranchId.{BranchId}
@@ -16,7 +15,8 @@ use Rattle.journal_checkpoint.specs.Images.{LeavesPairs}
 use Rattle.journal_checkpoint.specs.Keeping.{active_disk, first_disk, second_disk, with_active, disks}
 use Rattle.memory_store.specs.declared.store.Store.{Store}
 use Rattle.memory_store.specs.Meanings.{Meaning}
-use Rattle.memory_store.specs.Keeping.{with_twin, twin_of, memory_of, machine_of, found_of as store_found_of, is_down as store_is_down, Keeps, Takes, Falls, IsFullFor, IsOf}
+pub use Rattle.memory_store.specs.Settling.{IsNoDamage}
+use Rattle.memory_store.specs.Keeping.{SameTwins, with_twin, first_handed_on, second_handed_on, twin_of, memory_of, machine_of, found_of as store_found_of, is_down as store_is_down, Keeps, Takes, Falls, IsFullFor, IsOf}
 use Rattle.durable_records.specs.declared.coordinators.SessionRecord.{SessionRecord}
 use Rattle.durable_records.specs.declared.coordinators.SessionRecord.TheVariants as log
 use Rattle.session_log.specs.declared.sessions.RegisterPlace.{RegisterPlace}
@@ -169,15 +169,8 @@ IsRefused s x rows full (register_error.Store store_error.Failed) = ⊥
 -- ---- openings and restarts
 
 -- two disks stay
-pub record SameDisks {D : Type 0} (old new : Sessions D) : Type 0 where
-  pub first : first_disk (twin new) ≡ first_disk (twin old)
-  pub second : second_disk (twin new) ≡ second_disk (twin old)
-
-abbrev pub IsNoDamage : OpenError → Type 0
-IsNoDamage (open_error.Damaged second at) = ⊥
-IsNoDamage (open_error.Full full) = ⊥
-IsNoDamage open_error.Failed = Unit {0}
-IsNoDamage open_error.NoMemory = Unit {0}
+abbrev pub SameDisks : {D : Type 0} → Sessions D → Sessions D → Type 0
+SameDisks old new = SameTwins (twin old) (twin new)
 
 -- each list of records that the one pair of bytes stands for, the other one stands for too
 abbrev pub GoesOnAs : (managers resources : ℕ) → (a b c d : List ℕ) → Type 0
@@ -196,18 +189,16 @@ pub record BringsBack {D : Type 0} (state : D → DiskState) (pick : ℕ) (old n
 
 -- the disks that an opening hands on
 abbrev pub first_after : {D : Type 0} → Result (Sessions D) (OpenError × D × D) → D
-first_after (Ok s) = first_disk (twin s)
-first_after (Err failed) = failed.1
+first_after result = first_handed_on twin result
 
 abbrev pub second_after : {D : Type 0} → Result (Sessions D) (OpenError × D × D) → D
-second_after (Ok s) = second_disk (twin s)
-second_after (Err failed) = failed.2
+second_after result = second_handed_on twin result
 
 -- ---- a disk that is lent
 
 module _ (D : RattleType) where
   abbrev pub with_disk : Sessions D.Denot → D.Denot → Sessions D.Denot
-  with_disk s disk = record s { store = with_twin D D D s.store (with_active (twin s) disk) }
+  with_disk s disk = record s { store = with_twin s.store (with_active (twin s) disk) }
 
   -- it ends with the last disk behind r as the active one
   abbrev pub LendsActive : MutBor (Sessions D.Denot) → MutBor D.Denot → Fml
