@@ -1,40 +1,11 @@
 //! What a status says of a transaction, after Seata's table.
 ghost use Rattle.std.specs.Prelude.{◌≡◌, ◌&&◌, ◌||◌, not};
-ghost use Rattle.session_memory.specs.Changes.{is_begin, is_going, is_finished};
+ghost use Rattle.session_memory.specs.Changes.{is_begin, is_going};
 ghost use Rattle.session_memory.specs.Holding.{keeps_rows};
 
 use seata_types::GlobalStatus;
-
-pub(crate) fn is_begin(status: GlobalStatus) -> bool
-    ensures { result ≡ is_begin status }
-{
-    matches!(status, GlobalStatus::Begin)
-}
-
-pub(crate) fn is_finished(status: GlobalStatus) -> bool
-    ensures { result ≡ is_finished status }
-{
-    matches!(
-        status,
-        GlobalStatus::Committed | GlobalStatus::Rollbacked | GlobalStatus::TimeoutRollbacked
-    )
-}
-
-/// Whether it is decided, and neither finished nor failed.
-pub(crate) fn is_going(status: GlobalStatus) -> bool
-    ensures { result ≡ is_going status }
-{
-    matches!(
-        status,
-        GlobalStatus::Committing
-            | GlobalStatus::CommitRetrying
-            | GlobalStatus::AsyncCommitting
-            | GlobalStatus::Rollbacking
-            | GlobalStatus::RollbackRetrying
-            | GlobalStatus::TimeoutRollbacking
-            | GlobalStatus::TimeoutRollbackRetrying
-    )
-}
+use session_memory::statuses::{is_going, keeps_rows};
+pub(crate) use session_memory::statuses::{is_begin, is_finished};
 
 /// Whether it is neither finished nor failed, of a transaction that is known.
 pub(crate) fn is_unended(status: GlobalStatus) -> bool
@@ -47,14 +18,7 @@ pub(crate) fn is_unended(status: GlobalStatus) -> bool
 pub(crate) fn is_committing(status: GlobalStatus) -> bool
     ensures { result ≡ not (keeps_rows status) }
 {
-    matches!(
-        status,
-        GlobalStatus::Committing
-            | GlobalStatus::CommitRetrying
-            | GlobalStatus::AsyncCommitting
-            | GlobalStatus::Committed
-            | GlobalStatus::CommitFailed
-    )
+    !keeps_rows(status)
 }
 
 /// Whether a transaction that is known is decided rollback, asked for or by its timeout.

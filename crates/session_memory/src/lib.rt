@@ -10,7 +10,7 @@ mod lookups;
 mod memory;
 mod sessions;
 mod snapshots;
-mod statuses;
+pub mod statuses;
 
 pub use errors::LoadError;
 pub use memory::Memory;

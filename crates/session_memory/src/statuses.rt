@@ -7,7 +7,7 @@ ghost use Rattle.session_memory.specs.Changes.{decided_status, retrying_status, 
 use seata_types::{Decision, GlobalStatus};
 
 /// The status after a decision, by whether all branches are AT.
-pub(crate) fn decided(how: Decision, all_at: bool) -> GlobalStatus
+pub fn decided(how: Decision, all_at: bool) -> GlobalStatus
     ensures { result ≡ decided_status how all_at }
 {
     match how {
@@ -19,7 +19,7 @@ pub(crate) fn decided(how: Decision, all_at: bool) -> GlobalStatus
 }
 
 /// The status after the first retry.
-pub(crate) fn retrying(status: GlobalStatus) -> GlobalStatus
+pub fn retrying(status: GlobalStatus) -> GlobalStatus
     ensures { result ≡ retrying_status status }
 {
     match status {
@@ -31,7 +31,7 @@ pub(crate) fn retrying(status: GlobalStatus) -> GlobalStatus
 }
 
 /// The status after a failure for good.
-pub(crate) fn failed(status: GlobalStatus) -> GlobalStatus
+pub fn failed(status: GlobalStatus) -> GlobalStatus
     ensures { result ≡ failed_status status }
 {
     match status {
@@ -46,7 +46,7 @@ pub(crate) fn failed(status: GlobalStatus) -> GlobalStatus
 }
 
 /// The status after the last branch is ended.
-pub(crate) fn finished(status: GlobalStatus) -> GlobalStatus
+pub fn finished(status: GlobalStatus) -> GlobalStatus
     ensures { result ≡ finished_status status }
 {
     match status {
@@ -60,14 +60,15 @@ pub(crate) fn finished(status: GlobalStatus) -> GlobalStatus
     }
 }
 
-pub(crate) fn is_begin(status: GlobalStatus) -> bool
+/// Whether a transaction isn't decided.
+pub fn is_begin(status: GlobalStatus) -> bool
     ensures { result ≡ is_begin status }
 {
     matches!(status, GlobalStatus::Begin)
 }
 
 /// Whether it becomes a Retrying one.
-pub(crate) fn has_retrying(status: GlobalStatus) -> bool
+pub fn has_retrying(status: GlobalStatus) -> bool
     ensures { result ≡ has_retrying status }
 {
     matches!(
@@ -76,8 +77,8 @@ pub(crate) fn has_retrying(status: GlobalStatus) -> bool
     )
 }
 
-/// Whether the second phase goes on.
-pub(crate) fn is_going(status: GlobalStatus) -> bool
+/// Whether a transaction is decided, and neither finished nor failed.
+pub fn is_going(status: GlobalStatus) -> bool
     ensures { result ≡ is_going status }
 {
     matches!(
@@ -92,7 +93,8 @@ pub(crate) fn is_going(status: GlobalStatus) -> bool
     )
 }
 
-pub(crate) fn is_finished(status: GlobalStatus) -> bool
+/// Whether all branches of a transaction are ended.
+pub fn is_finished(status: GlobalStatus) -> bool
     ensures { result ≡ is_finished status }
 {
     matches!(
@@ -102,7 +104,7 @@ pub(crate) fn is_finished(status: GlobalStatus) -> bool
 }
 
 /// Whether a transaction with this status isn't decided commit.
-pub(crate) fn keeps_rows(status: GlobalStatus) -> bool
+pub fn keeps_rows(status: GlobalStatus) -> bool
     ensures { result ≡ keeps_rows status }
 {
     !matches!(
