@@ -5,7 +5,9 @@
 mod checks;
 mod errors;
 pub mod laws;
+mod lookups;
 mod machine;
+mod registering;
 mod sessions;
 mod uncounted;
 

@@ -1,34 +1,24 @@
 //! A coordinator's transactions on two disks.
 ghost use Rattle.std.specs.Prelude.{◌≡◌, IfOk};
-ghost use Rattle.byte_fields.specs.Layout.{FitsKeys};
 ghost use Rattle.session_log.specs.Records.{record_bytes, FitsRecord};
-ghost use Rattle.session_memory.specs.Changes.{granted_record};
 
-use crate::errors::{RegisterError, refused};
 use crate::machine::SessionMachine;
 use disk_model::Disk;
 use durable_records::SessionRecord;
-use lock_table::Steps;
 use memory_store::Store;
-use seata_types::{
-    BranchId, Decision, Duplicate, Full, GlobalStatus, Leg, List, NoMemory, OpenError, RowKey,
-    StoreError, Ticket, Xid,
-};
-use session_log::{RegisterPlace, Session};
+use seata_types::{Decision, GlobalStatus, Leg, OpenError, StoreError, Xid};
 use session_memory::Memory;
 use std::alloc::Global;
-use std::sync::ledger::Ledger;
 
 /// A coordinator's transactions on two disks, of a scenario with so many managers and resources.
 #[derive(Drop)]
 pub struct Sessions<D> {
-    store: Store<SessionMachine, Memory, D>,
+    pub(crate) store: Store<SessionMachine, Memory, D>,
 }
 
 impl<D: Disk> Sessions<D> {
     ghost use Rattle.std.specs.Borrow.{sem};
-    ghost use Rattle.std.specs.Prelude.{◌≡◌, ◌⊎◌, ◌+◌, ◌*◌, ◌^◌, ◌++◌, ◌<◌, ◌≤◌, ℕ, true, false, is_err, is_ok, List, length, map, Option, Some, None, Ok, Err, IfOk, IfErr, OnOk, OnErr};
-    ghost use Rattle.std.specs.Option.{option_copied};
+    ghost use Rattle.std.specs.Prelude.{◌≡◌, ◌⊎◌, ◌+◌, ◌*◌, ◌^◌, ◌<◌, ◌≤◌, ℕ, true, false, is_err, is_ok, List, length, Some, None, Ok, Err, IfOk, IfErr, OnOk, OnErr};
     ghost use Rattle.disk_model.specs.Disk.{IsSettled, HasCause, present};
     ghost use Rattle.disk_model.specs.declared.disk.TheConstants.{LAST_PICK};
     ghost use Rattle.disk_journal.specs.Keeping.{OnlyReads};
@@ -41,15 +31,13 @@ impl<D: Disk> Sessions<D> {
     ghost use Rattle.durable_records.specs.declared.coordinators.SessionRecord.TheVariants as log;
     ghost use Rattle.durable_records.specs.Progress.{has_retrying};
     ghost use Rattle.durable_records.specs.SessionOrder.{is_counted, is_within};
-    ghost use Rattle.lock_table.specs.Locks.{locks, TakesAtMost};
-    ghost use Rattle.session_memory.specs.Lookups.{session_in, status_in, xid_for, ticket_leg, call_leg, xid_of};
-    ghost use Rattle.session_memory.specs.Holding.{held_in};
-    ghost use Rattle.session_memory.specs.Changes.{is_begin, is_finished, is_new, is_open, may_come};
+    ghost use Rattle.session_memory.specs.Lookups.{status_in, xid_for};
+    ghost use Rattle.session_memory.specs.Changes.{is_begin, is_finished, is_open, may_come};
     ghost use Rattle.memory_store.specs.Settling.{RunsOn};
     ghost use Rattle.memory_store.specs.Keeping.{IsDamage, IsRead, IsOf, FindsFirst, ComesUp, IsTold};
     ghost use Rattle.session_store.specs.Meaning.{meaning_of};
     ghost use Rattle.session_store.specs.Standing.{StandsForSessions};
-    ghost use Rattle.session_store.specs.Keeping.{store_of, managers_of, resources_of, known, twin, is_down, found_of, meaning, SameOpening, SameDisks, KeepsRecords, Makes, registers, begun_record, register_record, IsRefused, Registers, IsNoDamage, GoesOnAs, BringsBack, first_after, second_after, LendsActive};
+    ghost use Rattle.session_store.specs.Keeping.{store_of, managers_of, resources_of, known, twin, is_down, SameOpening, SameDisks, KeepsRecords, Makes, registers, begun_record, IsNoDamage, GoesOnAs, BringsBack, first_after, second_after, LendsActive};
 
     /// Reads two disks, and changes no byte. The disks come back where it fails.
     pub fn read(
@@ -141,35 +129,6 @@ impl<D: Disk> Sessions<D> {
             Ok(store) => Ok(Sessions { store }),
             Err(failed) => Err(failed),
         }
-    }
-
-    /// How many records were read and added, the acts of the snapshot included.
-    pub fn records(&self) -> u32
-        ensures { result ≡ (known self.now).acts }
-    {
-        self.store.records()
-    }
-
-    /// The number of the next branch.
-    pub fn next_branch(&self) -> BranchId
-        ensures { result.0 ≡ (known self.now).granted + 1 }
-    {
-        self.store.memory().next_branch()
-    }
-
-    /// What it knows; takes no memory.
-    pub fn memory(&self) -> &Memory
-        ensures { result.now ≡ known self.now }
-    {
-        self.store.memory()
-    }
-
-    /// How many managers and resources its scenario has; takes no memory.
-    pub fn machine(&self) -> &SessionMachine
-        ensures managers { result.now.managers ≡ managers_of self.now }
-        ensures resources { result.now.resources ≡ resources_of self.now }
-    {
-        self.store.machine()
     }
 
     /// Adds a record of the scenario that may come.
@@ -306,126 +265,6 @@ impl<D: Disk> Sessions<D> {
         self.make(alloc, item)
     }
 
-    /// Registers a branch of an undecided transaction under the next number, unless another transaction holds one of the
-    /// rows to hold or to check. A step is a comparison of two keys.
-    pub fn register<L: Ledger>(
-        &mut self,
-        alloc: Global,
-        xid: Xid,
-        place: RegisterPlace,
-        hold: &[RowKey],
-        check: &[RowKey],
-        steps: &mut Steps<L>,
-    ) -> Result<BranchId, RegisterError>
-        requires up { is_down self.old ≡ false }
-        requires begin { is_begin (status_in (known self.old) xid.0) ≡ true }
-        requires new { is_new (known self.old) xid place.resource place.call place.ticket place.kind ≡ true }
-        requires within { is_within (managers_of self.old) (resources_of self.old) (register_record (known self.old) xid place hold.now) ≡ true }
-        requires keys { FitsKeys hold.now }
-        requires small { length (record_bytes (register_record (known self.old) xid place hold.now)) ≤ BODY_BYTES }
-        ensures branch { IfOk result (λ branch. branch.0 ≡ (known self.old).granted + 1) }
-        ensures made { Registers D.state (register_record (known self.old) xid place hold.now) xid (hold.now ++ check.now) result self.old self.new }
-        ensures cost { TakesAtMost (2 * length hold.now + length check.now) (length (locks (held_in (known self.old))) + length hold.now) steps.old steps.new }
-    {
-        let branch = self.store.memory().next_branch();
-        let body = match register_body(alloc, xid, branch, place, hold) {
-            Ok(body) => body,
-            Err(NoMemory) => return Err(RegisterError::Store(StoreError::NoMemory)),
-        };
-        if let Err(full) = self.store.fits(body.len()) {
-            return Err(self.refusal(alloc, xid, hold, check, full, steps));
-        }
-        match self
-            .store
-            .memory_mut()
-            .register(alloc, xid, place, hold, check, steps)
-        {
-            Ok(()) => {}
-            Err(error) => return Err(refused(error)),
-        }
-        match self.store.append(&body) {
-            Ok(()) => Ok(branch),
-            Err(_) => Err(RegisterError::Store(StoreError::Failed)),
-        }
-    }
-
-    // Why a registration that doesn't fit is refused: by a conflict first.
-    fn refusal<L: Ledger>(
-        &self,
-        alloc: Global,
-        xid: Xid,
-        hold: &[RowKey],
-        check: &[RowKey],
-        full: Full,
-        steps: &mut Steps<L>,
-    ) -> RegisterError
-        ensures why { IsRefused (known self.now) xid (hold.now ++ check.now) full result }
-        ensures cost { TakesAtMost (length hold.now + length check.now) (length (locks (held_in (known self.now)))) steps.old steps.new }
-    {
-        let memory = self.store.memory();
-        match memory.conflict(alloc, xid, hold, steps) {
-            Ok(()) => {}
-            Err(error) => return refused(error),
-        }
-        match memory.conflict(alloc, xid, check, steps) {
-            Ok(()) => RegisterError::Store(StoreError::Full(full)),
-            Err(error) => refused(error),
-        }
-    }
-
-    /// The status of a transaction: Finished where it isn't known. It takes no memory, and one step.
-    pub fn status<L: Ledger>(&self, xid: Xid, steps: &mut Steps<L>) -> GlobalStatus
-        ensures status { result ≡ status_in (known self.now) xid.0 }
-        ensures cost { steps.new ≡ steps.old + 1 }
-    {
-        steps.tick();
-        self.store.memory().status(xid)
-    }
-
-    /// A transaction, where it is known. It takes no memory, and one step.
-    pub fn find<L: Ledger>(&self, xid: Xid, steps: &mut Steps<L>) -> Option<&Session>
-        ensures found { option_copied result ≡ session_in (known self.now) xid.0 }
-        ensures cost { steps.new ≡ steps.old + 1 }
-    {
-        steps.tick();
-        self.store.memory().find(xid)
-    }
-
-    /// The transaction that a manager began, also where it is forgotten; takes no memory.
-    pub fn manager_xid(&self, manager: u16) -> Option<Xid>
-        ensures { result ≡ xid_for (known self.now) manager }
-    {
-        self.store.memory().manager_xid(manager)
-    }
-
-    /// The AT branch that was registered for a resource's ticket, of a transaction that is known; takes no memory.
-    pub fn ticket_leg(&self, resource: u16, ticket: Ticket) -> Option<Leg>
-        ensures { result ≡ ticket_leg (known self.now) resource ticket }
-    {
-        self.store.memory().ticket_leg(resource, ticket)
-    }
-
-    /// The TCC branch that was registered for a call of a known transaction at a resource; takes no memory.
-    pub fn call_leg(&self, xid: Xid, resource: u16, call: u16) -> Option<Leg>
-        ensures { result ≡ call_leg (known self.now) xid resource call }
-    {
-        self.store.memory().call_leg(xid, resource, call)
-    }
-
-    /// The numbers of the transactions that are known, in rising order.
-    pub fn list(&self, alloc: Global) -> Result<List<Xid>, NoMemory>
-        ensures { IfOk result (λ xids. xids ≡ map xid_of (known self.now).sessions) }
-    {
-        self.store.memory().list(alloc)
-    }
-
-    /// Whether a call failed, or `fall` was called. Then it takes no more records until it is restarted.
-    pub fn is_down(&self) -> bool
-        ensures { result ≡ is_down self.now }
-    {
-        self.store.is_down()
-    }
-
     /// Takes no more records until it is restarted, as after a crash.
     pub fn fall(&mut self)
         ensures disks { SameDisks self.old self.new }
@@ -463,14 +302,6 @@ impl<D: Disk> Sessions<D> {
         self.store.restart(alloc, pick)
     }
 
-    /// The first record that the opening read, if there was one: whether it stands on the second disk, and its offset, which
-    /// is that of a snapshot too.
-    pub fn found(&self) -> Option<(bool, u64)>
-        ensures { result ≡ found_of self.now }
-    {
-        self.store.found()
-    }
-
     /// The active disk, to arm it or to read its counts. What is kept stays only where no call changes the images.
     pub fn disk_mut(&mut self) -> &mut D
         ensures* lends { sem 𝓛 (LendsActive D.row self.entry result) }
@@ -485,40 +316,4 @@ impl<D: Disk> Sessions<D> {
     {
         self.store.into_disks()
     }
-}
-
-// Copies of these rows.
-fn copies(alloc: Global, rows: &[RowKey]) -> Result<List<RowKey>, NoMemory>
-    ensures { IfOk result (λ copied. copied ≡ rows.now) }
-{
-    let mut copied = Vec::new(alloc);
-    for row in rows {
-        copied.push(row.copy(alloc)?).map_err(|_| NoMemory)?;
-    }
-    Ok(List::of(copied))
-}
-
-// The bytes of a registration.
-fn register_body(
-    alloc: Global,
-    xid: Xid,
-    branch: BranchId,
-    place: RegisterPlace,
-    hold: &[RowKey],
-) -> Result<Vec<u8>, NoMemory>
-    requires { FitsKeys hold.now }
-    ensures bytes { IfOk result (λ bytes. bytes.items ≡ record_bytes (granted_record xid branch.0 place hold.now)) }
-    ensures fits { FitsRecord (granted_record xid branch.0 place hold.now) }
-{
-    let hold = copies(alloc, hold)?;
-    let item = SessionRecord::Granted {
-        xid,
-        branch,
-        resource: place.resource,
-        call: place.call,
-        ticket: place.ticket,
-        kind: place.kind,
-        hold,
-    };
-    session_log::write_record(alloc, &item)
 }
