@@ -10,5 +10,6 @@ pub mod HolderLaws
 pub mod LookupLaws
 pub mod KeptLaws
 pub mod PlaceLaws
+mod SearchLaws
 pub mod LoadLaws
 pub mod WritingLaws

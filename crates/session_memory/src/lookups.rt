@@ -1,25 +1,36 @@
 //! Look-ups among transactions and their branches.
 ghost use Rattle.std.specs.Prelude.{◌≡◌, ◌&&◌, ◌++◌, find, map, option_map, OnOk, IfOk};
-ghost use Rattle.std.specs.List.{list_all, list_any};
+ghost use Rattle.std.specs.List.{list_all, list_any, position};
 ghost use Rattle.std.specs.Option.{option_copied};
-ghost use Rattle.session_log.specs.Soundness.{is_at_branch, is_ended_branch, is_open_with};
+ghost use Rattle.session_log.specs.Soundness.{entry_xid, is_at_branch, is_ended_branch, is_open_with};
 ghost use Rattle.session_memory.specs.Lookups.{has_xid, session_of, has_manager, was_of_manager, xid_of, forgotten_xid, has_ticket, has_call, leg_with, first_leg};
+ghost use Rattle.session_memory.specs.Order.{AreRising};
 ghost use Rattle.durable_records.specs.Branches.{is_at, same_ticket};
 
 use seata_types::{BranchId, BranchKind, Leg, List, NoMemory, Ticket, Xid};
 use session_log::{Branch, Forgotten, Session, SessionEntry};
 use std::alloc::Global;
 
+/// Where a transaction stands, by a search: the numbers rise.
+pub(crate) fn place(sessions: &[SessionEntry], xid: Xid) -> Option<usize>
+    requires rising { AreRising entry_xid sessions.now }
+    ensures { result ≡ position (has_xid xid.0) sessions.now }
+{
+    match sessions.binary_search_by_key(&xid.0, |entry| entry.xid.0) {
+        Ok(at) => Some(at),
+        Err(_) => None,
+    }
+}
+
 /// A transaction, where it is known.
 pub(crate) fn session(sessions: &[SessionEntry], xid: Xid) -> Option<&Session>
+    requires rising { AreRising entry_xid sessions.now }
     ensures { option_copied result ≡ option_map session_of (find (has_xid xid.0) sessions.now) }
 {
-    for entry in sessions {
-        if entry.xid.0 == xid.0 {
-            return Some(&entry.session);
-        }
+    match place(sessions, xid) {
+        Some(at) => Some(&sessions[at].session),
+        None => None,
     }
-    None
 }
 
 /// The transaction that a manager began, where it is known.

@@ -1,6 +1,8 @@
 //! Changes of transactions and their branches.
 ghost use Rattle.std.specs.Prelude.{◌≡◌, [], IfOk, OnOk, OnErr, find, option_map};
 ghost use Rattle.std.specs.List.{position};
+ghost use Rattle.session_log.specs.Soundness.{entry_xid};
+ghost use Rattle.session_memory.specs.Order.{AreRising};
 ghost use Rattle.session_memory.specs.Lookups.{has_xid, session_of, has_number, is_later};
 ghost use Rattle.session_memory.specs.Changes.{with_ended, turned, changed, with_branch, without, with_forgotten, forgotten_as, xid_in};
 
@@ -72,18 +74,12 @@ pub(crate) fn xid_of(item: &SessionRecord) -> Xid
     }
 }
 
-/// Where a transaction stands.
-pub(crate) fn place(sessions: &[SessionEntry], xid: Xid) -> Option<usize>
-    ensures { result ≡ position (has_xid xid.0) sessions.now }
-{
-    sessions.iter().position(|entry| entry.xid.0 == xid.0)
-}
-
 /// Changes the transaction of a record that registers no branch.
 pub(crate) fn turn_one(alloc: Global, sessions: &mut [SessionEntry], item: &SessionRecord)
+    requires rising { AreRising entry_xid sessions.old }
     ensures { sessions.new ≡ changed (xid_in item.now) (turned item.now) sessions.old }
 {
-    if let Some(at) = place(sessions, xid_of(item)) {
+    if let Some(at) = lookups::place(sessions, xid_of(item)) {
         turn(alloc, &mut sessions[at].session, item);
     }
 }
@@ -112,12 +108,13 @@ pub(crate) fn forget(
     forgotten: &mut Vec<Forgotten>,
     xid: Xid,
 ) -> Result<(), NoMemory>
+    requires rising { AreRising entry_xid sessions.old.items }
     ensures sessions { OnOk result (sessions.new.items ≡ without xid.0 sessions.old.items) }
     ensures forgotten { OnOk result (forgotten.new.items ≡ forgotten_as xid (option_map session_of (find (has_xid xid.0) sessions.old.items)) forgotten.old.items) }
     ensures same_sessions { OnErr result (sessions.new.items ≡ sessions.old.items) }
     ensures same_forgotten { OnErr result (forgotten.new.items ≡ forgotten.old.items) }
 {
-    if let Some(at) = place(sessions, xid) {
+    if let Some(at) = lookups::place(sessions, xid) {
         let manager = sessions[at].session.manager;
         put_forgotten(forgotten, Forgotten { xid, manager })?;
         drop(sessions.remove(at));
@@ -147,10 +144,11 @@ pub(crate) fn add_branch(
     xid: Xid,
     branch: Branch,
 ) -> Result<(), NoMemory>
+    requires rising { AreRising entry_xid sessions.old }
     ensures ok { OnOk result (sessions.new ≡ changed xid.0 (with_branch branch) sessions.old) }
     ensures err { OnErr result (sessions.new ≡ sessions.old) }
 {
-    match place(sessions, xid) {
+    match lookups::place(sessions, xid) {
         Some(at) => push_branch(alloc, &mut sessions[at].session, branch),
         None => Ok(()),
     }

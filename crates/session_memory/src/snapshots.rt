@@ -1,6 +1,8 @@
 //! A snapshot after one more record.
 ghost use Rattle.std.specs.Prelude.{◌≡◌, ◌<◌, ◌+◌, ◌^◌, OnOk, OnErr};
 ghost use Rattle.durable_records.specs.declared.coordinators.SessionRecord.TheVariants as log;
+ghost use Rattle.session_log.specs.Soundness.{entry_xid};
+ghost use Rattle.session_memory.specs.Order.{AreRising};
 ghost use Rattle.session_memory.specs.Changes.{after, with_turned, with_registered};
 
 use crate::sessions;
@@ -54,6 +56,7 @@ pub(crate) fn register(
 ) -> Result<(), NoMemory>
     requires acts { snapshot.old.acts + 1 < 2 ^ 32 }
     requires granted { snapshot.old.granted + 1 < 2 ^ 64 }
+    requires rising { AreRising entry_xid snapshot.old.sessions }
     ensures ok { OnOk result (snapshot.new ≡ with_registered snapshot.old xid.0 branch) }
     ensures err { OnErr result (snapshot.new ≡ snapshot.old) }
 {
@@ -69,6 +72,7 @@ pub(crate) fn register(
 /// A transaction is known no more. After an error all is as before.
 pub(crate) fn forget(alloc: Global, snapshot: &mut Snapshot, xid: Xid) -> Result<(), NoMemory>
     requires acts { snapshot.old.acts + 1 < 2 ^ 32 }
+    requires rising { AreRising entry_xid snapshot.old.sessions }
     ensures ok { OnOk result (snapshot.new ≡ after (log.Forgot xid) snapshot.old) }
     ensures err { OnErr result (snapshot.new ≡ snapshot.old) }
 {
@@ -85,6 +89,7 @@ pub(crate) fn forget(alloc: Global, snapshot: &mut Snapshot, xid: Xid) -> Result
 /// A record changes its transaction, and registers no branch.
 pub(crate) fn turn(alloc: Global, snapshot: &mut Snapshot, item: &SessionRecord)
     requires acts { snapshot.old.acts + 1 < 2 ^ 32 }
+    requires rising { AreRising entry_xid snapshot.old.sessions }
     ensures { snapshot.new ≡ with_turned item.now snapshot.old }
 {
     let mut entries = sessions::take_items(alloc, &mut snapshot.sessions);

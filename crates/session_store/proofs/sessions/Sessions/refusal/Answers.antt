@@ -7,7 +7,7 @@ use Rattle.session_memory.specs.Holding.{held_in}
 use Rattle.session_store.specs.declared.errors.RegisterError.{RegisterError}
 use Rattle.session_store.specs.Keeping.{known, IsRefused}
 use Rattle.session_store.proofs.SessionLaws.{first_refused, then_refused}
-use Rattle.session_store.proofs.registering.Sessions.refusal.Goals as goal
+use Rattle.session_store.proofs.sessions.Sessions.refusal.Goals as goal
 
 pub returns-in-Err-clause-why : goal.returns-in-Err-clause-why
 returns-in-Err-clause-why g c =

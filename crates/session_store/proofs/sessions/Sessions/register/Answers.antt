@@ -3,7 +3,7 @@ use Rattle.session_log.specs.declared.sessions.Snapshot.{Snapshot}
 use Rattle.session_memory.specs.Answers.{Grants}
 use Rattle.session_store.specs.Keeping.{register_record}
 use Rattle.session_store.proofs.SessionLaws.{branch_added, branch_lost}
-use Rattle.session_store.proofs.registering.Sessions.register.Goals as goal
+use Rattle.session_store.proofs.sessions.Sessions.register.Goals as goal
 
 pub returns-in-Ok-append-clause-made : goal.returns-in-Ok-append-clause-made
 returns-in-Ok-append-clause-made g c =
