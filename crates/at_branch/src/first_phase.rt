@@ -1,12 +1,11 @@
 //! The first phase of AT branches.
-ghost use Rattle.std.specs.Prelude.{◌≡◌, ◌<◌, ◌≤◌, ◌^◌, ◌-◌, false, List as Items, map, length, Some, Ok, IfSome};
+ghost use Rattle.std.specs.Prelude.{◌≡◌, ◌<◌, ◌≤◌, ◌^◌, ◌-◌, false, map, length, Some, Ok, IfSome};
 ghost use Rattle.seata_types.specs.declared.statements.Work.TheVariants as work;
 ghost use Rattle.local_tables.specs.Calls.{effect};
-ghost use Rattle.durable_records.specs.declared.resources.ResourceRecord.{ResourceRecord as Record};
 ghost use Rattle.local_txn.specs.OpenTickets.{Open, open_at, without, counting};
 ghost use Rattle.local_txn.specs.Answers.{open_of, owner_by, raised, with_opens, Executes};
-ghost use Rattle.resource_store.specs.Keeping.{setting_of, known, is_down, KeepsRecords};
-ghost use Rattle.resource_store.specs.Answers.{Gives, GivesBy, Leaves, tables_now};
+ghost use Rattle.resource_store.specs.Keeping.{known, is_down};
+ghost use Rattle.resource_store.specs.Answers.{Gives, GivesBy, Leaves};
 ghost use Rattle.at_branch.specs.Grants.{granted, tickets_after, MayCommit};
 ghost use Rattle.at_branch.specs.UndoEntries.{standing_of, grant_at};
 ghost use Rattle.at_branch.specs.Conflicts.{Counts, GivesUp, why_last, conflict, conflicts_met, conflict_of, tickets_with};
@@ -20,8 +19,8 @@ use resource_store::Store;
 use seata_types::{Leg, Stmt, StoreError, Ticket, Why, Xid};
 use std::alloc::Global;
 
-/// Opens the local transaction of an AT call, on the tables as the records that are kept leave them: the ticket, or the first
-/// statement without a meaning, counted from 1, or else the least row that another open ticket has. The store stays as it is.
+/// Opens the local transaction of an AT call, on the tables that the store knows: the ticket, or the first statement without a
+/// meaning, counted from 1, or else the least row that another open ticket has. The store stays as it is.
 pub fn phase_one<D: Disk>(
     alloc: Global,
     store: &Store<D>,
@@ -33,8 +32,7 @@ pub fn phase_one<D: Disk>(
 ) -> Result<Ticket, ExecError>
     requires statements { length stmts.now ≤ 65535 }
     requires tickets { txns.old.opened < 2 ^ 32 - 1 }
-    ensures { (rs : Items Record) → KeepsRecords D.state (setting_of store.now) rs store.now →
-        Executes txns.old (owner_by xid.0 manager call (work.At stmts.now)) (effect (tables_now (setting_of store.now) rs) stmts.now) result txns.new }
+    ensures { Executes txns.old (owner_by xid.0 manager call (work.At stmts.now)) (effect (known store.now).tables stmts.now) result txns.new }
 {
     txns.execute(alloc, xid, call, manager, stmts, store.tables())
 }

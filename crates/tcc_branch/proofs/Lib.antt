@@ -1,3 +1,4 @@
 pub mod FenceLaws
 pub mod FailureLaws
+pub mod StayLaws
 pub mod StepLaws

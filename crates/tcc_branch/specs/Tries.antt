@@ -18,6 +18,7 @@ use Rattle.local_txn.specs.Answers.{Tickets, with_opens}
 use Rattle.history_rules.specs.ResourceMemory.{call_of, tries_of}
 use Rattle.history_rules.specs.ResourceRules.{untouched}
 use Rattle.resource_memory.specs.Known.{Known}
+use Rattle.resource_store.specs.declared.store.Store.{Store}
 use Rattle.resource_store.specs.Answers.{Answer, only, making, HasPlaces}
 use Rattle.tcc_branch.specs.declared.answers.TryAnswer.{TryAnswer}
 use Rattle.tcc_branch.specs.declared.answers.TryAnswer.TheVariants as tries
@@ -59,6 +60,13 @@ pub record MayTry (db : Database) (leg : Leg) (o : Open) : Type 0 where
   pub of_kind : is_tcc_call o.owner ≡ true
   pub statements : length (tries_of o.owner) ≤ 65535
   pub places : HasPlaces db (tries_of o.owner) (log.Tried leg.xid leg.branch (call_of o.owner))
+
+-- a grant after which no Try ran left its store as it was
+abbrev pub StaysUnlessTried : {D : Type 0} → Result TryAnswer StoreError → Store D → Store D → Type 0
+StaysUnlessTried (Ok tries.Tried) old new = Unit {0}
+StaysUnlessTried (Ok (tries.Refused cause)) old new = new ≡ old
+StaysUnlessTried (Ok tries.NotOpen) old new = new ≡ old
+StaysUnlessTried (Err e) old new = Unit {0}
 
 -- ---- for the proofs alone: the same by what is known
 

@@ -1,5 +1,5 @@
 //! The effect of statements on the tables of a store.
-ghost use Rattle.std.specs.Prelude.{◌≡◌, ◌≤◌, length, IfOk};
+ghost use Rattle.std.specs.Prelude.{◌≤◌, length, IfOk};
 ghost use Rattle.local_tables.specs.Calls.{effect, Means};
 ghost use Rattle.local_tables.specs.Rows.{AreImagesOf, AreRising};
 ghost use Rattle.resource_store.specs.Keeping.{known};

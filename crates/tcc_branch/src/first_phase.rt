@@ -9,7 +9,7 @@ ghost use Rattle.local_txn.specs.OpenTickets.{open_at};
 ghost use Rattle.local_txn.specs.Answers.{open_of, owner_by, Prepares};
 ghost use Rattle.resource_store.specs.Keeping.{known, is_down};
 ghost use Rattle.resource_store.specs.Answers.{Gives, GivesBy, Leaves, HasPlaces};
-ghost use Rattle.tcc_branch.specs.Tries.{try_meant, tcc_granted, granted, tickets_after, MayTry, granted_on, refused_by};
+ghost use Rattle.tcc_branch.specs.Tries.{StaysUnlessTried, try_meant, tcc_granted, granted, tickets_after, MayTry, granted_on, refused_by};
 ghost use Rattle.tcc_branch.specs.Failures.{Tells};
 
 use crate::answers::TryAnswer;
@@ -52,6 +52,7 @@ pub fn on_grant<D: Disk>(
     requires may { IfSome (open_at txns.old.opens ticket) (MayTry (known store.old).tables leg) }
     ensures answer { GivesBy D.state (granted leg (open_at txns.old.opens ticket)) result store.old store.new }
     ensures leaves { Leaves D.state result store.old store.new }
+    ensures stays { StaysUnlessTried result store.old store.new }
     ensures tickets { txns.new ≡ tickets_after ticket result txns.old }
 {
     let Some(txn) = txns.find(ticket) else {
@@ -77,6 +78,7 @@ fn grant<D: Disk>(
     requires may { MayTry (known store.old).tables leg (open_of txn.now) }
     ensures gives { Gives D.state (granted_on (known store.old) leg (open_of txn.now)) result store.old store.new }
     ensures leaves { Leaves D.state result store.old store.new }
+    ensures stays { StaysUnlessTried result store.old store.new }
 {
     match &txn.work {
         Work::Tcc(action) => run_try(alloc, store, leg, txn.call, action.tries.as_slice()),
