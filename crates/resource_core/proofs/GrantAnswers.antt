@@ -1,0 +1,201 @@
+-- Grants: the answers of calls on the store are the resource's.
+use Rattle.std.proofs.Common.{◌≡◌, ◌∙◌, true, false, List, Option, Some, None, Result, Ok, Err, refl, sym, ap, subst}
+use Rattle.std.specs.Prelude.{IfSome}
+use Rattle.disk_model.specs.Disk.{DiskState}
+use Rattle.seata_types.specs.declared.acts.Durable.TheVariants as durable
+use Rattle.seata_types.specs.declared.errors.NodeError.{NodeError}
+use Rattle.seata_types.specs.declared.errors.StoreError.{StoreError}
+use Rattle.seata_types.specs.declared.errors.Why.{Why}
+use Rattle.seata_types.specs.declared.ids.BranchId.{BranchId}
+use Rattle.seata_types.specs.declared.ids.Leg.{Leg}
+use Rattle.seata_types.specs.declared.ids.Ticket.{Ticket}
+use Rattle.seata_types.specs.declared.ids.Xid.{Xid}
+use Rattle.seata_types.specs.declared.messages.Registered.TheVariants as registered
+use Rattle.seata_types.specs.declared.messages.Step.{Step}
+use Rattle.seata_types.specs.declared.statements.Work.{Work}
+use Rattle.seata_types.specs.declared.statements.Work.TheVariants as work
+use Rattle.seata_types.specs.declared.statuses.BranchKind.{BranchKind}
+use Rattle.seata_types.specs.declared.statuses.BranchKind.TheVariants as kind
+use Rattle.byte_fields.specs.Parts.{FitsLeg}
+use Rattle.local_tables.specs.Calls.{effect}
+use Rattle.local_tables.specs.Rows.{Database}
+use Rattle.local_txn.specs.OpenTickets.{Open, Owner, OfCall, OfLocal, open_at}
+use Rattle.local_txn.specs.Answers.{Tickets, with_opens}
+use Rattle.durable_records.specs.Fences.{fence, on_try}
+use Rattle.durable_records.specs.UndoRecords.{undo_of, is_marked}
+use Rattle.history_rules.specs.ResourceMemory.{Memory, call_of, tries_of}
+use Rattle.resource_store.specs.declared.store.Store.{Store}
+use Rattle.resource_store.specs.Keeping.{setting_of, is_down}
+use Rattle.resource_store.specs.Answers.{GivesBy, Leaves, tables_now}
+use Rattle.at_branch.specs.Grants as at
+use Rattle.at_branch.specs.Grants.{granted, MayCommit}
+use Rattle.at_branch.specs.Steps.{granted_step}
+use Rattle.at_branch.specs.declared.answers.Granted.{Granted}
+use Rattle.at_branch.specs.declared.answers.Granted.TheVariants as grant
+use Rattle.tcc_branch.specs.Tries as tcc
+use Rattle.tcc_branch.specs.Tries.{MayTry}
+use Rattle.tcc_branch.specs.Steps.{try_step}
+use Rattle.tcc_branch.specs.declared.answers.TryAnswer.{TryAnswer}
+use Rattle.tcc_branch.specs.declared.answers.TryAnswer.TheVariants as tries
+use Rattle.resource_core.specs.Holding.{Holds}
+use Rattle.resource_core.specs.Ready.{MayBeGranted}
+use Rattle.resource_core.specs.Stepping.{Answers, HearsOf, KeepsSettings, DropsOr, TriesOr, after_refusal, is_refusal, caller_at, caller_by, kind_of}
+use Rattle.resource_core.specs.Telling.{node_error}
+use Rattle.resource_core.specs.declared.branches.Branches.{Branches}
+use Rattle.resource_core.specs.declared.callers.Caller.{Caller}
+use Rattle.resource_core.proofs.DropLaws.{IsOpenFor, open_for, kind_in}
+use Rattle.resource_core.proofs.GrantLaws.{grant_input, after_grant, after_try, grants, runs_try}
+use Rattle.resource_core.proofs.StoreSteps.{IsRule, answers_ok, answers_err}
+use Rattle.resource_core.proofs.TicketSteps.{answers_not}
+
+-- ---- that a granted ticket may be granted
+
+module _ (db : Database) (leg : Leg) (fits : FitsLeg leg) where
+  may_at : (c : Caller) (o : Open) (w : Owner) → o.owner ≡ w → caller_by w ≡ Some (c, kind.At) → MayBeGranted db o w → MayCommit db leg o
+  may_at c o (OfLocal k) owner e may = absurd cc
+  may_at c o (OfCall m x call (work.At stmts)) owner e may = may leg fits
+  may_at c o (OfCall m x call (work.Tcc action)) owner e may = let other : kind.Tcc ≡ kind.At = ap (kind_in kind.At) e in absurd cc
+
+  may_tcc : (c : Caller) (o : Open) (w : Owner) → o.owner ≡ w → caller_by w ≡ Some (c, kind.Tcc) → MayBeGranted db o w → MayTry db leg o
+  may_tcc c o (OfLocal k) owner e may = absurd cc
+  may_tcc c o (OfCall m x call (work.At stmts)) owner e may = let other : kind.At ≡ kind.Tcc = ap (kind_in kind.Tcc) e in absurd cc
+  may_tcc c o (OfCall m x call (work.Tcc action)) owner e may = may leg fits
+
+  pub may_commit : (c : Caller) (opens : List Open) (t : Ticket) → caller_at (open_at opens t) ≡ Some (c, kind.At) → ((o : Open) → open_at opens t ≡ Some o → MayBeGranted db o o.owner)
+      → IfSome (open_at opens t) (MayCommit db leg)
+  may_commit c opens t e may = by (open_at opens t) refl e
+    where
+      by : (p : Option Open) → open_at opens t ≡ p → caller_at p ≡ Some (c, kind.At) → IfSome p (MayCommit db leg)
+      by None found h = tt
+      by (Some o) found h = may_at c o o.owner refl h (may o found)
+
+  pub may_try : (c : Caller) (opens : List Open) (t : Ticket) → caller_at (open_at opens t) ≡ Some (c, kind.Tcc) → ((o : Open) → open_at opens t ≡ Some o → MayBeGranted db o o.owner)
+      → IfSome (open_at opens t) (MayTry db leg)
+  may_try c opens t e may = by (open_at opens t) refl e
+    where
+      by : (p : Option Open) → open_at opens t ≡ p → caller_at p ≡ Some (c, kind.Tcc) → IfSome p (MayTry db leg)
+      by None found h = tt
+      by (Some o) found h = may_tcc c o o.owner refl h (may o found)
+
+-- ---- the open tickets
+
+at_tickets : (t : Ticket) (a : Granted) (ts : Tickets) → at.tickets_after t (Ok a) ts ≡ with_opens ts (after_grant t a ts.opens)
+at_tickets t grant.Committed ts = refl
+at_tickets t grant.Marker ts = refl
+at_tickets t grant.NotOpen ts = refl
+
+-- store and tickets changed
+abbrev pub with_both : {D : Type 0} → Branches D → Store D → Tickets → Branches D
+with_both b s ts = record b { store = s; txns = ts }
+
+both_stay : {D : Type 0} (old : Branches D) (s : Store D) (ts : Tickets) → KeepsSettings old (with_both old s ts)
+both_stay old s ts = record { number = refl; tries = refl; actions = refl; locals = refl }
+
+module _ {D : Type 0} (state : D → DiskState) (old : Branches D) (s : Store D) (ts : Tickets) (t : Ticket) (c : Caller) (branch : BranchId) (up : is_down old.store ≡ false) where
+  abbrev leg : Leg
+  leg = record { xid = c.xid; branch = branch }
+
+  is_open : (k : BranchKind) → caller_at (open_at old.txns.opens t) ≡ Some (c, k) → (m : Memory) → Holds state old m → IsOpenFor m.opens t c k
+  is_open k here m h = open_for m.opens t c k (ap (λ (u : Tickets). caller_at (open_at u.opens t)) (sym h.tickets) ∙ here)
+
+  found_in : (k : BranchKind) (m : Memory) → Holds state old m → (o : IsOpenFor m.opens t c k) → open_at old.txns.opens t ≡ Some o.it
+  found_in k m h o = ap (λ (u : Tickets). open_at u.opens t) h.tickets ∙ o.found
+
+  -- ---- AT
+
+  module _ (here : caller_at (open_at old.txns.opens t) ≡ Some (c, kind.At)) (xid : Xid) where
+    at_rule : (from : _) (m : Memory) → Holds state old m
+        → IsRule state old (grant_input t xid from branch) (granted_step c.manager c.xid.0 c.call branch.0 t) (after_grant t) (durable.Committed c.xid branch t) m
+        (granted leg (open_at old.txns.opens t) (tables_now (setting_of old.store) m.left.records) m.left.records)
+    at_rule from m h =
+        subst (λ (p : Option Open). IsRule state old (grant_input t xid from branch) (granted_step c.manager c.xid.0 c.call branch.0 t) (after_grant t) (durable.Committed c.xid branch t) m
+        (granted leg p (tables_now (setting_of old.store) m.left.records) m.left.records))
+        (sym (found_in kind.At m h (is_open kind.At here m h)))
+        (by (is_open kind.At here m h) (is_open kind.At here m h).work refl)
+      where
+        by : (o : IsOpenFor m.opens t c kind.At) (w : Work) → o.work ≡ w
+            → IsRule state old (grant_input t xid from branch) (granted_step c.manager c.xid.0 c.call branch.0 t) (after_grant t) (durable.Committed c.xid branch t) m
+            (granted leg (Some o.it) (tables_now (setting_of old.store) m.left.records) m.left.records)
+        by o (work.At stmts) is =
+            grants state old t c branch xid from m o.it o.found stmts (o.owner ∙ ap (OfCall c.manager c.xid.0 c.call) is)
+            (undo_of m.left.records c.xid.0 branch.0) (is_marked m.left.records c.xid.0 branch.0) refl refl
+        by o (work.Tcc action) is = absurd (let kind_is : kind_of (work.Tcc action) ≡ kind.At = ap kind_of (sym is) ∙ o.of_kind in cc)
+
+  pub grants_ok : (here : caller_at (open_at old.txns.opens t) ≡ Some (c, kind.At)) (a : Granted) (step : Step) → step ≡ granted_step c.manager c.xid.0 c.call branch.0 t a
+      → GivesBy state (granted leg (open_at old.txns.opens t)) (Ok a) old.store s → Leaves state (Ok a) old.store s → ts ≡ at.tickets_after t (Ok a) old.txns
+      → HearsOf state old (with_both old s ts) t (registered.Granted branch) (Ok step)
+  grants_ok here a step is gives leaves tickets = λ xid from.
+      answers_ok state old (grant_input t xid from branch) (granted_step c.manager c.xid.0 c.call branch.0 t) (after_grant t) (durable.Committed c.xid branch t) (with_both old s ts) up
+      (granted leg (open_at old.txns.opens t)) a step is (at_rule here xid from) gives leaves (tickets ∙ at_tickets t a old.txns) (both_stay old s ts)
+
+  pub grants_err : (here : caller_at (open_at old.txns.opens t) ≡ Some (c, kind.At)) (e : StoreError) (error : NodeError) → error ≡ node_error (durable.Committed c.xid branch t) e
+      → GivesBy state (granted leg (open_at old.txns.opens t)) (Err e) old.store s → Leaves {A = Granted} state (Err e) old.store s → ts ≡ old.txns
+      → HearsOf state old (with_both old s ts) t (registered.Granted branch) (Err error)
+  grants_err here e error is gives leaves tickets = λ xid from.
+      answers_err state old (grant_input t xid from branch) (granted_step c.manager c.xid.0 c.call branch.0 t) (after_grant t) (durable.Committed c.xid branch t) (with_both old s ts) up
+      (granted leg (open_at old.txns.opens t)) e error is (at_rule here xid from) gives leaves tickets (both_stay old s ts)
+
+  -- ---- TCC
+
+  module _ (here : caller_at (open_at old.txns.opens t) ≡ Some (c, kind.Tcc)) (xid : Xid) where
+    try_rule : (from : _) (m : Memory) → Holds state old m
+        → IsRule state old (grant_input t xid from branch) (try_step c.manager c.xid.0 c.call branch.0 t) (after_try t) (durable.Tried c.xid branch t) m
+        (tcc.granted leg (open_at old.txns.opens t) (tables_now (setting_of old.store) m.left.records) m.left.records)
+    try_rule from m h =
+        subst (λ (p : Option Open). IsRule state old (grant_input t xid from branch) (try_step c.manager c.xid.0 c.call branch.0 t) (after_try t) (durable.Tried c.xid branch t) m
+        (tcc.granted leg p (tables_now (setting_of old.store) m.left.records) m.left.records))
+        (sym (found_in kind.Tcc m h (is_open kind.Tcc here m h)))
+        (by (is_open kind.Tcc here m h) (is_open kind.Tcc here m h).work refl)
+      where
+        by : (o : IsOpenFor m.opens t c kind.Tcc) (w : Work) → o.work ≡ w
+            → IsRule state old (grant_input t xid from branch) (try_step c.manager c.xid.0 c.call branch.0 t) (after_try t) (durable.Tried c.xid branch t) m
+            (tcc.granted leg (Some o.it) (tables_now (setting_of old.store) m.left.records) m.left.records)
+        by o (work.Tcc action) is =
+            let owner : o.it.owner ≡ OfCall c.manager c.xid.0 c.call (work.Tcc action) = o.owner ∙ ap (OfCall c.manager c.xid.0 c.call) is in
+            subst (λ (w : Owner). IsRule state old (grant_input t xid from branch) (try_step c.manager c.xid.0 c.call branch.0 t) (after_try t) (durable.Tried c.xid branch t) m
+            (tcc.tcc_granted leg (call_of w) (effect (tables_now (setting_of old.store) m.left.records) (tries_of w)) (on_try (fence m.left.records c.xid.0 branch.0))))
+            (sym owner)
+            (runs_try state old t c branch xid from m o.it o.found action owner (on_try (fence m.left.records c.xid.0 branch.0)) refl)
+        by o (work.At stmts) is = absurd (let kind_is : kind_of (work.At stmts) ≡ kind.Tcc = ap kind_of (sym is) ∙ o.of_kind in cc)
+
+  pub tries_err : (here : caller_at (open_at old.txns.opens t) ≡ Some (c, kind.Tcc)) (e : StoreError) (error : NodeError) → error ≡ node_error (durable.Tried c.xid branch t) e
+      → GivesBy state (tcc.granted leg (open_at old.txns.opens t)) (Err e) old.store s → Leaves {A = TryAnswer} state (Err e) old.store s → ts ≡ old.txns
+      → HearsOf state old (with_both old s ts) t (registered.Granted branch) (Err error)
+  tries_err here e error is gives leaves tickets = λ xid from.
+      answers_err state old (grant_input t xid from branch) (try_step c.manager c.xid.0 c.call branch.0 t) (after_try t) (durable.Tried c.xid branch t) (with_both old s ts) up
+      (tcc.granted leg (open_at old.txns.opens t)) e error is (try_rule here xid from) gives leaves tickets (both_stay old s ts)
+
+  tries_with : (later : Tickets) (here : caller_at (open_at old.txns.opens t) ≡ Some (c, kind.Tcc)) (a : TryAnswer) (step : Step) → step ≡ try_step c.manager c.xid.0 c.call branch.0 t a
+      → GivesBy state (tcc.granted leg (open_at old.txns.opens t)) (Ok a) old.store s → Leaves state (Ok a) old.store s → later ≡ with_opens old.txns (after_try t a old.txns.opens)
+      → HearsOf state old (with_both old s later) t (registered.Granted branch) (Ok step)
+  tries_with later here a step is gives leaves tickets = λ xid from.
+      answers_ok state old (grant_input t xid from branch) (try_step c.manager c.xid.0 c.call branch.0 t) (after_try t) (durable.Tried c.xid branch t) (with_both old s later) up
+      (tcc.granted leg (open_at old.txns.opens t)) a step is (try_rule here xid from) gives leaves tickets (both_stay old s later)
+
+  -- a refusal changed nothing yet
+  unchanged : (a : TryAnswer) → is_refusal a ≡ true → tcc.StaysUnlessTried (Ok a) old.store s → ts ≡ tcc.tickets_after t (Ok a) old.txns → with_both old s ts ≡ old
+  unchanged tries.Tried is stays tickets = absurd cc
+  unchanged (tries.Refused cause) is stays tickets = λ i. record old { store = stays i; txns = tickets i }
+  unchanged tries.NotOpen is stays tickets = absurd cc
+
+  -- the answer to a Try, with its copy for the message
+  taken_so : (a : TryAnswer) (old_tickets : Tickets) → after_refusal t a (tcc.tickets_after t (Ok a) old_tickets) ≡ with_opens old_tickets (after_try t a old_tickets.opens)
+  taken_so tries.Tried old_tickets = refl
+  taken_so (tries.Refused cause) old_tickets = refl
+  taken_so tries.NotOpen old_tickets = refl
+
+  pub tries_by : (here : caller_at (open_at old.txns.opens t) ≡ Some (c, kind.Tcc)) (a : TryAnswer) (new : Branches D) (result : Result Step NodeError)
+      → TriesOr (with_both old s ts) new c t branch a result → GivesBy state (tcc.granted leg (open_at old.txns.opens t)) (Ok a) old.store s → Leaves state (Ok a) old.store s
+      → tcc.StaysUnlessTried (Ok a) old.store s → ts ≡ tcc.tickets_after t (Ok a) old.txns → HearsOf state old new t (registered.Granted branch) result
+  tries_by here a new (Ok step) tried gives leaves stays tickets =
+      subst (λ (b : Branches D). HearsOf state old b t (registered.Granted branch) (Ok step)) (sym tried.1)
+      (tries_with (after_refusal t a ts) here a step tried.0 gives leaves (ap (after_refusal t a) tickets ∙ taken_so a old.txns))
+  tries_by here a new (Err e) tried gives leaves stays tickets = λ xid from.
+      subst (λ (f : NodeError). Answers state old new (grant_input t xid from branch) (Err f)) (sym tried.1)
+      (answers_not state old (grant_input t xid from branch) up new (tried.2 ∙ unchanged a tried.0 stays tickets))
+
+-- a refused Try is a dropped ticket
+pub refused_tries : {D : Type 0} (old new : Branches D) (c : Caller) (t : Ticket) (branch : BranchId) (cause : Why) (result : Result Step NodeError) → DropsOr old new c t cause result
+    → TriesOr old new c t branch (tries.Refused cause) result
+refused_tries old new c t branch cause (Ok step) d = d
+refused_tries old new c t branch cause (Err e) d = (refl, d.0, d.1)

@@ -1,0 +1,5 @@
+pub mod Setups
+pub mod Telling
+pub mod Holding
+pub mod Ready
+pub mod Stepping

@@ -1,0 +1,16 @@
+//! A resource: its branches in AT and TCC mode, its guarded local transactions and its outside writes, each as one line of the
+//! rules of all nodes, over its store on two disks.
+#![tactic(auto)]
+
+mod answers;
+pub mod branches;
+mod callers;
+mod calls;
+mod ends;
+mod grants;
+mod locals;
+mod numbers;
+mod requests;
+mod setup;
+
+pub use branches::Branches;

@@ -1,0 +1,31 @@
+//! The actions and the local transactions of a resource.
+ghost use Rattle.std.specs.Prelude.{◌≡◌};
+ghost use Rattle.std.specs.Option.{option_copied};
+ghost use Rattle.history_rules.specs.ResourceMemory.{action_in, local_in};
+ghost use Rattle.resource_core.specs.Setups.{actions_of};
+
+use seata_types::{Action, List, Stmt};
+
+/// The actions of a manager's call, if it has any here.
+pub(crate) fn action_of(actions: &[(u16, u16, Action)], manager: u16, call: u16) -> Option<&Action>
+    ensures { option_copied result ≡ action_in manager call (actions_of actions.now) }
+{
+    for (of, at, action) in actions {
+        if *of == manager && *at == call {
+            return Some(action);
+        }
+    }
+    None
+}
+
+/// The statements of a local transaction, if there is one of this number.
+pub(crate) fn local_of(locals: &[(u16, List<Stmt>)], number: u16) -> Option<&[Stmt]>
+    ensures { option_copied result ≡ local_in number locals.now }
+{
+    for (at, stmts) in locals {
+        if *at == number {
+            return Some(stmts.as_slice());
+        }
+    }
+    None
+}
