@@ -1,0 +1,28 @@
+-- That effects and their records have places.
+use Rattle.std.specs.Prelude.{◌≡◌, ℕ, ◌<◌, ◌^◌, List, Ok}
+use Rattle.std.specs.List.{AllByRecursion}
+use Rattle.seata_types.specs.declared.ids.Leg.{Leg}
+use Rattle.seata_types.specs.declared.statements.Stmt.{Stmt}
+use Rattle.byte_fields.specs.Parts.{FitsLeg}
+use Rattle.local_tables.specs.Calls.{effect}
+use Rattle.local_tables.specs.Rows.{Database}
+use Rattle.local_tables.specs.declared.schemas.Effect.{Effect}
+use Rattle.durable_records.specs.declared.resources.ResourceRecord.TheVariants as log
+use Rattle.resource_store.specs.Answers.{HasPlace}
+use Rattle.record_places.specs.Within.{AreTablesWithin, IsEffectWithin, IsStmtWithin}
+
+-- an effect of statements, on tables whose values have places
+abbrev pub EffectsHavePlaces : Type 0
+EffectsHavePlaces = (db : Database) (stmts : List Stmt) (e : Effect) → AreTablesWithin db → AllByRecursion IsStmtWithin stmts → effect db stmts ≡ Ok e → IsEffectWithin e
+
+-- each record that an effect may go into
+pub record HaveRecordsPlaces (e : Effect) : Type 0 where
+  pub committed : (leg : Leg) (call : ℕ) → FitsLeg leg → call < 2 ^ 16 → HasPlace (log.Committed leg.xid leg.branch call e.images e.reads)
+  pub tried : (leg : Leg) (call : ℕ) → FitsLeg leg → call < 2 ^ 16 → HasPlace (log.Tried leg.xid leg.branch call e.images)
+  pub confirmed : (leg : Leg) → FitsLeg leg → HasPlace (log.Confirmed leg.xid leg.branch e.images)
+  pub cancelled : (leg : Leg) → FitsLeg leg → HasPlace (log.Cancelled leg.xid leg.branch e.images)
+  pub local : (number : ℕ) → number < 2 ^ 16 → HasPlace (log.LocalCommitted number e.images)
+  pub outside : (number : ℕ) → number < 2 ^ 16 → HasPlace (log.Outside number e.images)
+
+abbrev pub RecordsHavePlaces : Type 0
+RecordsHavePlaces = (e : Effect) → IsEffectWithin e → HaveRecordsPlaces e
