@@ -38,7 +38,6 @@ use Rattle.tcc_branch.specs.Steps.{try_step}
 use Rattle.tcc_branch.specs.declared.answers.TryAnswer.{TryAnswer}
 use Rattle.tcc_branch.specs.declared.answers.TryAnswer.TheVariants as tries
 use Rattle.resource_core.specs.Holding.{Holds}
-use Rattle.resource_core.specs.Ready.{MayBeGranted}
 use Rattle.resource_core.specs.Stepping.{Answers, HearsOf, KeepsSettings, DropsOr, TriesOr, after_refusal, is_refusal, caller_at, caller_by, kind_of}
 use Rattle.resource_core.specs.Telling.{node_error}
 use Rattle.resource_core.specs.declared.branches.Branches.{Branches}
@@ -47,35 +46,6 @@ use Rattle.resource_core.proofs.DropLaws.{IsOpenFor, open_for, kind_in}
 use Rattle.resource_core.proofs.GrantLaws.{grant_input, after_grant, after_try, grants, runs_try}
 use Rattle.resource_core.proofs.StoreSteps.{IsRule, answers_ok, answers_err}
 use Rattle.resource_core.proofs.TicketSteps.{answers_not}
-
--- ---- that a granted ticket may be granted
-
-module _ (db : Database) (leg : Leg) (fits : FitsLeg leg) where
-  may_at : (c : Caller) (o : Open) (w : Owner) → o.owner ≡ w → caller_by w ≡ Some (c, kind.At) → MayBeGranted db o w → MayCommit db leg o
-  may_at c o (OfLocal k) owner e may = absurd cc
-  may_at c o (OfCall m x call (work.At stmts)) owner e may = may leg fits
-  may_at c o (OfCall m x call (work.Tcc action)) owner e may = let other : kind.Tcc ≡ kind.At = ap (kind_in kind.At) e in absurd cc
-
-  may_tcc : (c : Caller) (o : Open) (w : Owner) → o.owner ≡ w → caller_by w ≡ Some (c, kind.Tcc) → MayBeGranted db o w → MayTry db leg o
-  may_tcc c o (OfLocal k) owner e may = absurd cc
-  may_tcc c o (OfCall m x call (work.At stmts)) owner e may = let other : kind.At ≡ kind.Tcc = ap (kind_in kind.Tcc) e in absurd cc
-  may_tcc c o (OfCall m x call (work.Tcc action)) owner e may = may leg fits
-
-  pub may_commit : (c : Caller) (opens : List Open) (t : Ticket) → caller_at (open_at opens t) ≡ Some (c, kind.At) → ((o : Open) → open_at opens t ≡ Some o → MayBeGranted db o o.owner)
-      → IfSome (open_at opens t) (MayCommit db leg)
-  may_commit c opens t e may = by (open_at opens t) refl e
-    where
-      by : (p : Option Open) → open_at opens t ≡ p → caller_at p ≡ Some (c, kind.At) → IfSome p (MayCommit db leg)
-      by None found h = tt
-      by (Some o) found h = may_at c o o.owner refl h (may o found)
-
-  pub may_try : (c : Caller) (opens : List Open) (t : Ticket) → caller_at (open_at opens t) ≡ Some (c, kind.Tcc) → ((o : Open) → open_at opens t ≡ Some o → MayBeGranted db o o.owner)
-      → IfSome (open_at opens t) (MayTry db leg)
-  may_try c opens t e may = by (open_at opens t) refl e
-    where
-      by : (p : Option Open) → open_at opens t ≡ p → caller_at p ≡ Some (c, kind.Tcc) → IfSome p (MayTry db leg)
-      by None found h = tt
-      by (Some o) found h = may_tcc c o o.owner refl h (may o found)
 
 -- ---- the open tickets
 

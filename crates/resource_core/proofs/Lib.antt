@@ -17,3 +17,4 @@ pub mod LocalAnswers
 pub mod DoneLaws
 pub mod TurnLaws
 pub mod CountLaws
+pub mod ReadyLaws

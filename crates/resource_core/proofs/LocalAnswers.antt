@@ -20,31 +20,15 @@ use Rattle.history_rules.specs.ResourceMemory.{Memory}
 use Rattle.resource_store.specs.declared.store.Store.{Store}
 use Rattle.resource_store.specs.Keeping.{setting_of, is_down}
 use Rattle.resource_store.specs.Answers.{GivesBy, Leaves, tables_now}
-use Rattle.local_guard.specs.Locals as locals
 use Rattle.local_guard.specs.Locals.{freed, local_number, number_by, closed}
 use Rattle.local_guard.specs.Steps.{freed_step}
 use Rattle.resource_core.specs.Holding.{Holds}
-use Rattle.resource_core.specs.Ready.{MayBeGranted}
 use Rattle.resource_core.specs.Stepping.{Answers, Hears, KeepsSettings, with_tickets}
 use Rattle.resource_core.specs.Telling.{node_error}
 use Rattle.resource_core.specs.declared.branches.Branches.{Branches}
 use Rattle.resource_core.proofs.GrantAnswers.{with_both}
 use Rattle.resource_core.proofs.LocalRules.{after_free, free_input, frees, lock_ignored, lock_held}
 use Rattle.resource_core.proofs.StoreSteps.{IsRule, answers_ok, answers_err}
-
--- ---- that a free ticket may commit
-
-free_by : (db : Database) (o : Open) (w : Owner) (k : ℕ) → o.owner ≡ w → number_by w ≡ Some k → MayBeGranted db o w → locals.MayCommit db o
-free_by db o (OfCall m x c w) k owner e may = absurd cc
-free_by db o (OfLocal j) k owner e may = may
-
-pub may_free : (db : Database) (opens : List Open) (t : Ticket) (k : ℕ) → local_number (open_at opens t) ≡ Some k → ((o : Open) → open_at opens t ≡ Some o → MayBeGranted db o o.owner)
-    → IfSome (open_at opens t) (locals.MayCommit db)
-may_free db opens t k e may = by (open_at opens t) refl e
-  where
-    by : (p : Option Open) → open_at opens t ≡ p → local_number p ≡ Some k → IfSome p (locals.MayCommit db)
-    by None found h = tt
-    by (Some o) found h = free_by db o o.owner k refl h (may o found)
 
 -- ---- the open tickets
 

@@ -1,8 +1,7 @@
--- What a resource needs to answer, whatever its disks keep: it is up, there are tickets left, the one that was sent
--- longest ago is open once, and what its open tickets and its statements come to has places in its journal.
-use Rattle.std.specs.Prelude.{◌≡◌, ℕ, ◌<◌, ◌≤◌, ◌-◌, ◌^◌, false, List, length, Some}
-use Rattle.seata_types.specs.declared.ids.Leg.{Leg}
-use Rattle.seata_types.specs.declared.ids.Ticket.{Ticket}
+-- What a resource needs to answer, whatever its disks keep: it is up, there are tickets left, and what it knows, its open tickets
+-- and its statements have places in its journal.
+use Rattle.std.specs.Prelude.{◌≡◌, ℕ, ◌<◌, ◌≤◌, ◌-◌, ◌^◌, true, false, List, [], length}
+use Rattle.std.specs.List.{AllByRecursion}
 use Rattle.seata_types.specs.declared.messages.Input.{Input}
 use Rattle.seata_types.specs.declared.messages.Input.TheVariants as input
 use Rattle.seata_types.specs.declared.messages.Message.{Message}
@@ -11,51 +10,78 @@ use Rattle.seata_types.specs.declared.statements.Action.{Action}
 use Rattle.seata_types.specs.declared.statements.Stmt.{Stmt}
 use Rattle.seata_types.specs.declared.statements.Work.{Work}
 use Rattle.seata_types.specs.declared.statements.Work.TheVariants as work
-use Rattle.byte_fields.specs.Parts.{FitsLeg}
 use Rattle.local_tables.specs.Rows.{Database}
-use Rattle.durable_records.specs.declared.resources.ResourceRecord.TheVariants as log
-use Rattle.local_txn.specs.OpenTickets.{Owner, OfCall, OfLocal, Open, open_at, last_of}
-use Rattle.history_rules.specs.ResourceMemory.{action_of, local_of}
-use Rattle.at_branch.specs.Grants.{MayCommit}
-use Rattle.tcc_branch.specs.Tries.{MayTry}
-use Rattle.local_guard.specs.Locals as locals
+use Rattle.local_tables.specs.declared.schemas.Effect.{Effect}
+use Rattle.local_txn.specs.OpenTickets.{Owner, OfCall, OfLocal, Open}
+use Rattle.resource_memory.specs.Changes.{fit}
+use Rattle.resource_memory.specs.Keeping.{FitsParts, IsKept}
+use Rattle.resource_memory.specs.Known.{Known}
 use Rattle.resource_store.specs.Keeping.{setting_of, known, is_down}
-use Rattle.resource_store.specs.Answers.{HasPlaces}
-use Rattle.resource_core.specs.Holding.{setup_of}
+use Rattle.record_places.specs.Within.{IsEffectWithin, IsStmtWithin, IsTableWithin}
 use Rattle.resource_core.specs.declared.branches.Branches.{Branches}
 
--- an open ticket may be granted, at any branch
-abbrev pub MayBeGranted : Database → Open → Owner → Type 0
-MayBeGranted db o (OfCall m x c (work.At stmts)) = (leg : Leg) → FitsLeg leg → MayCommit db leg o
-MayBeGranted db o (OfCall m x c (work.Tcc action)) = (leg : Leg) → FitsLeg leg → MayTry db leg o
-MayBeGranted db o (OfLocal k) = locals.MayCommit db o
+-- ---- what is known
 
--- the second phase of a call may run, at any branch
-pub record MayEnd (db : Database) (action : Action) : Type 0 where
-  pub confirms : length action.confirms ≤ 65535
-  pub cancels : length action.cancels ≤ 65535
-  pub confirmed : (leg : Leg) → FitsLeg leg → HasPlaces db action.confirms (log.Confirmed leg.xid leg.branch)
-  pub cancelled : (leg : Leg) → FitsLeg leg → HasPlaces db action.cancels (log.Cancelled leg.xid leg.branch)
+-- what is known stands in order, and has places in a snapshot; its tables are no larger than a scenario's
+pub record IsKnownWithin (k : Known) : Type 0 where
+  pub resource : k.tables.resource < 2 ^ 16
+  pub schema : AllByRecursion IsTableWithin k.tables.schema.tables
+  pub kept : IsKept k
+  pub parts : FitsParts k
 
--- a local transaction or an outside write may run
-pub record MayWrite (db : Database) (number : ℕ) (stmts : List Stmt) : Type 0 where
+-- ---- statements
+
+-- no more statements than a list has, whose values have places
+pub record AreStmtsWithin (stmts : List Stmt) : Type 0 where
   pub count : length stmts ≤ 65535
-  pub places : HasPlaces db stmts (log.Outside number)
+  pub each : AllByRecursion IsStmtWithin stmts
+
+pub record IsActionWithin (action : Action) : Type 0 where
+  pub tries : AreStmtsWithin action.tries
+  pub confirms : AreStmtsWithin action.confirms
+  pub cancels : AreStmtsWithin action.cancels
+
+-- ---- open tickets
+
+-- the effect that a ticket was opened with
+abbrev pub effect_in : Open → Effect
+effect_in o = record { images = o.images; reads = o.reads; touched = [] }
+
+-- its rows are of these tables, and have places
+pub record HasRows (db : Database) (o : Open) : Type 0 where
+  pub fits : fit db o.images o.reads ≡ true
+  pub places : IsEffectWithin (effect_in o)
+
+abbrev pub IsOwnedWithin : Database → Open → Owner → Type 0
+IsOwnedWithin db o (OfCall m x c (work.At stmts)) = (c < 2 ^ 16) × HasRows db o
+IsOwnedWithin db o (OfCall m x c (work.Tcc action)) = (c < 2 ^ 16) × AreStmtsWithin action.tries
+IsOwnedWithin db o (OfLocal k) = (k < 2 ^ 16) × HasRows db o
+
+abbrev pub IsTicketWithin : Database → Open → Type 0
+IsTicketWithin db o = IsOwnedWithin db o o.owner
+
+-- ---- a resource
+
+abbrev pub HasActionWithin : ℕ × ℕ × Action → Type 0
+HasActionWithin a = IsActionWithin a.2
+
+abbrev pub HasStmtsWithin : ℕ × List Stmt → Type 0
+HasStmtsWithin l = AreStmtsWithin l.1
 
 pub record IsReady {D : Type 0} (b : Branches D) : Type 0 where
   pub up : is_down b.store ≡ false
   pub room : b.txns.opened < 2 ^ 32 - 1
   pub numbered : b.number ≡ (setting_of b.store).resource
-  pub once : (o : Open) → last_of b.txns.opens ≡ Some o → open_at b.txns.opens o.ticket ≡ Some o
-  pub tickets : (t : Ticket) (o : Open) → open_at b.txns.opens t ≡ Some o → MayBeGranted (known b.store).tables o o.owner
-  pub actions : (m c : ℕ) (action : Action) → action_of (setup_of b) m c ≡ Some action → MayEnd (known b.store).tables action
-  pub locals : (k : ℕ) (stmts : List Stmt) → local_of (setup_of b) k ≡ Some stmts → MayWrite (known b.store).tables k stmts
+  pub knows : IsKnownWithin (known b.store)
+  pub tickets : AllByRecursion (IsTicketWithin (known b.store).tables) b.txns.opens
+  pub actions : AllByRecursion HasActionWithin b.actions
+  pub locals : AllByRecursion HasStmtsWithin b.locals
 
 -- ---- what is asked of an input
 
 abbrev pub ServesWork : Work → Type 0
-ServesWork (work.At stmts) = length stmts ≤ 65535
-ServesWork (work.Tcc action) = Unit {0}
+ServesWork (work.At stmts) = AreStmtsWithin stmts
+ServesWork (work.Tcc action) = AreStmtsWithin action.tries
 
 abbrev pub ServesMessage : Message → Type 0
 ServesMessage (message.Call xid manager resource call asked) = (1 ≤ call) × ServesWork asked

@@ -22,9 +22,10 @@ pub struct Branches<D> {
 }
 
 impl<D: Disk> Branches<D> {
-    ghost use Rattle.std.specs.Prelude.{◌≡◌, Some, IfOk, is_some, true};
+    ghost use Rattle.std.specs.Prelude.{◌≡◌, Some, IfOk, is_some, option_map, true};
     ghost use Rattle.seata_types.specs.declared.messages.Input.TheVariants as input;
-    ghost use Rattle.local_txn.specs.OpenTickets.{open_at};
+    ghost use Rattle.local_txn.specs.OpenTickets.{Open, last_of, open_at};
+    ghost use Rattle.local_txn.specs.Answers.{ticket_of};
     ghost use Rattle.resource_core.specs.Stepping.{Answers, Hears, asks_of};
     ghost use Rattle.resource_core.specs.Ready.{IsReady, Serves, ServesMessage};
 
@@ -104,7 +105,7 @@ impl<D: Disk> Branches<D> {
         requires { IsReady self.old }
         ensures { Answers D.state self.old self.new input.Turn result }
     {
-        let Some(ticket) = self.txns.next_to_send() else {
+        let Some(ticket) = self.oldest() else {
             return Ok(still(Act::Nothing));
         };
         match self.request(alloc, ticket) {
@@ -114,6 +115,15 @@ impl<D: Disk> Branches<D> {
             }
             Err(NoMemory) => Err(NodeError::NoMemory),
         }
+    }
+
+    // The open ticket that was sent longest ago; it is open once.
+    fn oldest(&self) -> Option<Ticket>
+        ensures named { result ≡ option_map ticket_of (last_of self.now.txns.opens) }
+        ensures found { (o : Open) → last_of self.now.txns.opens ≡ Some o → open_at self.now.txns.opens o.ticket ≡ Some o }
+    {
+        let _opened = self.txns.opened();
+        self.txns.next_to_send()
     }
 
     /// What an open ticket asks the coordinator.

@@ -18,7 +18,7 @@ use std::alloc::Global;
 use undo_log::UndoRecord;
 
 impl<D: Disk> Branches<D> {
-    ghost use Rattle.std.specs.Prelude.{◌≡◌, ◌≤◌, true, List as Items, length, is_some, option_map};
+    ghost use Rattle.std.specs.Prelude.{◌≡◌, ◌≤◌, true, List as Items, is_some, option_map};
     ghost use Rattle.durable_records.specs.declared.resources.ResourceRecord.{ResourceRecord as Record};
     ghost use Rattle.local_txn.specs.OpenTickets.{Open, open_at};
     ghost use Rattle.local_txn.specs.Answers.{Tickets, last_ticket, with_open};
@@ -26,7 +26,7 @@ impl<D: Disk> Branches<D> {
     ghost use Rattle.resource_store.specs.Keeping.{setting_of, KeepsRecords};
     ghost use Rattle.seata_types.specs.declared.statements.Work.TheVariants as work;
     ghost use Rattle.resource_core.specs.Stepping.{HearsCall, IsNew, AsksOr, done_by, branch_number};
-    ghost use Rattle.resource_core.specs.Ready.{IsReady, ServesWork};
+    ghost use Rattle.resource_core.specs.Ready.{AreStmtsWithin, IsReady, ServesWork};
 
     /// Answers a call: done before, open already, refused, busy, or opened. A call of no transaction is ignored.
     pub(crate) fn call(
@@ -72,7 +72,7 @@ impl<D: Disk> Branches<D> {
     fn open_at(&mut self, alloc: Global, caller: Caller, stmts: &[Stmt]) -> Result<Step, NodeError>
         requires ready { IsReady self.old }
         requires fresh { IsNew D.state self.old caller (work.At stmts.now) }
-        requires statements { length stmts.now ≤ 65535 }
+        requires statements { AreStmtsWithin stmts.now }
         ensures { HearsCall D.state self.old self.new caller (work.At stmts.now) result }
     {
         let Caller { manager, xid, call } = caller;
@@ -99,6 +99,7 @@ impl<D: Disk> Branches<D> {
     ) -> Result<Step, NodeError>
         requires ready { IsReady self.old }
         requires fresh { IsNew D.state self.old caller (work.Tcc action.now) }
+        requires statements { AreStmtsWithin action.now.tries }
         ensures { HearsCall D.state self.old self.new caller (work.Tcc action.now) result }
     {
         let Caller { manager, xid, call } = caller;

@@ -1,5 +1,6 @@
 use Rattle.resource_store.specs.Keeping.{known}
-use Rattle.resource_core.proofs.GrantAnswers.{may_commit, grants_ok, grants_err}
+use Rattle.resource_core.proofs.GrantAnswers.{grants_ok, grants_err}
+use Rattle.resource_core.proofs.ReadyLaws.{may_commit, tables_within}
 use Rattle.resource_core.proofs.branches.Branches.at_granted.Goals as goal
 
 pub on_grant-requires-clause-up : goal.on_grant-requires-clause-up
@@ -7,8 +8,8 @@ on_grant-requires-clause-up g c = c.requires.ready.up
 
 pub on_grant-requires-clause-may : goal.on_grant-requires-clause-may
 on_grant-requires-clause-may g c =
-    may_commit (known c.args.self.now.store).tables (record { xid = c.args.caller.xid; branch = c.args.branch }) (c.in_range.ensures.xid, c.in_range.ensures.branch)
-    c.args.caller c.args.self.now.txns.opens c.args.ticket c.requires.is_open (c.requires.ready.tickets c.args.ticket)
+    may_commit (known c.args.self.now.store).tables (tables_within (known c.args.self.now.store) c.requires.ready.knows) c.args.self.now.txns.opens c.args.ticket c.requires.ready.tickets
+    (record { xid = c.args.caller.xid; branch = c.args.branch }) (c.in_range.ensures.xid, c.in_range.ensures.branch) c.args.caller c.requires.is_open
 
 pub returns-in-Ok : goal.returns-in-Ok
 returns-in-Ok g c =

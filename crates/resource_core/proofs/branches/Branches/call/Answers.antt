@@ -4,6 +4,7 @@ use Rattle.seata_types.specs.declared.messages.Step.{Step}
 use Rattle.seata_types.specs.declared.statements.Work.{Work}
 use Rattle.seata_types.specs.declared.statements.Work.TheVariants as work
 use Rattle.local_txn.specs.Answers.{is_for}
+use Rattle.resource_core.specs.Ready.{ServesWork}
 use Rattle.resource_core.specs.Stepping.{Answers, HearsCall, IsNew, branch_number}
 use Rattle.resource_core.proofs.CallLaws.{call_input, of_none, again, waiting}
 use Rattle.resource_core.proofs.CountLaws.{is_none, is_one}
@@ -42,6 +43,12 @@ open_tcc-requires-clause-fresh g c =
       undone = λ rs k. sym (c.done_for.ensures rs k) ∙ ap (option_map branch_number) c.in_default.is;
       closed = found_none (find (is_for c.args.caller.xid.0 c.args.caller.call) c.args.self.now.txns.opens) (ap is_some (sym c.find_call.ensures) ∙ sym c.is_some.ensures ∙ c.if-is_some.false);
     })
+
+pub open_at-requires-clause-statements : goal.open_at-requires-clause-statements
+open_at-requires-clause-statements g c = subst (λ (w : Work). ServesWork w) (c.in-At.is ∙ ap work.At (sym c.as_slice.ensures)) c.requires.served
+
+pub open_tcc-requires-clause-statements : goal.open_tcc-requires-clause-statements
+open_tcc-requires-clause-statements g c = subst (λ (w : Work). ServesWork w) c.in-Tcc.is c.requires.served
 
 pub returns-in-At : goal.returns-in-At
 returns-in-At g c =

@@ -7,6 +7,7 @@ use Rattle.history_rules.specs.ResourceMemory.{action_in}
 use Rattle.resource_core.specs.Setups.{actions_of}
 use Rattle.resource_core.specs.Stepping.{cancelling}
 use Rattle.resource_core.proofs.EndAnswers.{none_found, rollback_unknown, cancels_ok, cancels_err}
+use Rattle.resource_core.proofs.ReadyLaws.{action_within, may_cancel, tables_within}
 use Rattle.resource_core.proofs.branches.Branches.cancel.Goals as goal
 
 pub returns-in_default : goal.returns-in_default
@@ -19,12 +20,12 @@ cancel-requires-clause-up g c = c.requires.up
 
 pub cancel-requires-clause-statements : goal.cancel-requires-clause-statements
 cancel-requires-clause-statements g c =
-    (c.requires.actions c.args.manager c.args.call c.in-Some.action.now (ap (λ actions. action_in c.args.manager c.args.call (actions_of actions)) (sym c.as_slice.ensures) ∙ sym c.action_of.ensures ∙ ap (λ (o : Option _). option_copied o) c.in-Some.is)).cancels
+    (action_within c.args.self.now.actions c.args.manager c.args.call c.in-Some.action.now c.requires.actions (ap (λ actions. action_in c.args.manager c.args.call (actions_of actions)) (sym c.as_slice.ensures) ∙ sym c.action_of.ensures ∙ ap (λ (o : Option _). option_copied o) c.in-Some.is)).cancels.count
 
 pub cancel-requires-clause-places : goal.cancel-requires-clause-places
 cancel-requires-clause-places g c =
-    (c.requires.actions c.args.manager c.args.call c.in-Some.action.now (ap (λ actions. action_in c.args.manager c.args.call (actions_of actions)) (sym c.as_slice.ensures) ∙ sym c.action_of.ensures ∙ ap (λ (o : Option _). option_copied o) c.in-Some.is)).cancelled
-    c.args.leg (c.in_range.ensures.xid, c.in_range.ensures.branch)
+    may_cancel (known c.args.self.now.store).tables (tables_within (known c.args.self.now.store) c.requires.knows) c.args.leg (c.in_range.ensures.xid, c.in_range.ensures.branch) c.in-Some.action.now.cancels
+    (action_within c.args.self.now.actions c.args.manager c.args.call c.in-Some.action.now c.requires.actions (ap (λ actions. action_in c.args.manager c.args.call (actions_of actions)) (sym c.as_slice.ensures) ∙ sym c.action_of.ensures ∙ ap (λ (o : Option _). option_copied o) c.in-Some.is)).cancels
 
 pub returns-in-Ok : goal.returns-in-Ok
 returns-in-Ok g c =

@@ -1,8 +1,10 @@
 use Rattle.std.proofs.Common.{◌∙◌, Option, sym, ap}
 use Rattle.std.specs.Option.{option_copied}
 use Rattle.history_rules.specs.ResourceMemory.{action_in}
+use Rattle.resource_store.specs.Keeping.{known}
 use Rattle.resource_core.specs.Setups.{actions_of}
 use Rattle.resource_core.proofs.EndAnswers.{none_found, commit_unknown, confirms_ok, confirms_err}
+use Rattle.resource_core.proofs.ReadyLaws.{action_within, may_confirm, tables_within}
 use Rattle.resource_core.proofs.branches.Branches.confirm.Goals as goal
 
 pub returns-in_default : goal.returns-in_default
@@ -15,12 +17,12 @@ confirm-requires-clause-up g c = c.requires.up
 
 pub confirm-requires-clause-statements : goal.confirm-requires-clause-statements
 confirm-requires-clause-statements g c =
-    (c.requires.actions c.args.manager c.args.call c.in-Some.action.now (ap (λ actions. action_in c.args.manager c.args.call (actions_of actions)) (sym c.as_slice.ensures) ∙ sym c.action_of.ensures ∙ ap (λ (o : Option _). option_copied o) c.in-Some.is)).confirms
+    (action_within c.args.self.now.actions c.args.manager c.args.call c.in-Some.action.now c.requires.actions (ap (λ actions. action_in c.args.manager c.args.call (actions_of actions)) (sym c.as_slice.ensures) ∙ sym c.action_of.ensures ∙ ap (λ (o : Option _). option_copied o) c.in-Some.is)).confirms.count
 
 pub confirm-requires-clause-places : goal.confirm-requires-clause-places
 confirm-requires-clause-places g c =
-    (c.requires.actions c.args.manager c.args.call c.in-Some.action.now (ap (λ actions. action_in c.args.manager c.args.call (actions_of actions)) (sym c.as_slice.ensures) ∙ sym c.action_of.ensures ∙ ap (λ (o : Option _). option_copied o) c.in-Some.is)).confirmed
-    c.args.leg (c.in_range.ensures.xid, c.in_range.ensures.branch)
+    may_confirm (known c.args.self.now.store).tables (tables_within (known c.args.self.now.store) c.requires.knows) c.args.leg (c.in_range.ensures.xid, c.in_range.ensures.branch) c.in-Some.action.now.confirms
+    (action_within c.args.self.now.actions c.args.manager c.args.call c.in-Some.action.now c.requires.actions (ap (λ actions. action_in c.args.manager c.args.call (actions_of actions)) (sym c.as_slice.ensures) ∙ sym c.action_of.ensures ∙ ap (λ (o : Option _). option_copied o) c.in-Some.is)).confirms
 
 pub returns-in-Ok : goal.returns-in-Ok
 returns-in-Ok g c =

@@ -1,7 +1,8 @@
 use Rattle.std.proofs.Common.{◌∙◌, None, sym}
 use Rattle.resource_store.specs.Keeping.{known}
 use Rattle.resource_core.proofs.EndAnswers.{none_found}
-use Rattle.resource_core.proofs.LocalAnswers.{ignored_by, may_free, frees_ok, frees_err}
+use Rattle.resource_core.proofs.LocalAnswers.{ignored_by, frees_ok, frees_err}
+use Rattle.resource_core.proofs.ReadyLaws.{may_free, tables_within}
 use Rattle.resource_core.proofs.branches.Branches.free.Goals as goal
 
 pub returns-in_default : goal.returns-in_default
@@ -13,7 +14,8 @@ on_free-requires-clause-up g c = c.requires.up
 
 pub on_free-requires-clause-may : goal.on_free-requires-clause-may
 on_free-requires-clause-may g c =
-    may_free (known c.args.self.now.store).tables c.args.self.now.txns.opens c.args.ticket c.in-Some.number (sym c.local_at.ensures ∙ c.in-Some.is) (c.requires.tickets c.args.ticket)
+    may_free (known c.args.self.now.store).tables (tables_within (known c.args.self.now.store) c.requires.knows) c.args.self.now.txns.opens c.args.ticket c.requires.tickets c.in-Some.number
+    (sym c.local_at.ensures ∙ c.in-Some.is)
 
 pub returns-in-Ok : goal.returns-in-Ok
 returns-in-Ok g c =

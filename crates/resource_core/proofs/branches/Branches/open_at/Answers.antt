@@ -7,6 +7,9 @@ use Rattle.resource_store.specs.Keeping.{known}
 use Rattle.resource_core.proofs.OpenAnswers.{opened_last, opened_now, call_asks, call_fails, at_means, at_opens}
 use Rattle.resource_core.proofs.branches.Branches.open_at.Goals as goal
 
+pub phase_one-requires-clause-statements : goal.phase_one-requires-clause-statements
+phase_one-requires-clause-statements g c = c.requires.statements.count
+
 pub phase_one-requires-clause-tickets : goal.phase_one-requires-clause-tickets
 phase_one-requires-clause-tickets g c = c.requires.ready.room
 

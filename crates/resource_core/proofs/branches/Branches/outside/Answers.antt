@@ -1,11 +1,13 @@
-use Rattle.std.proofs.Common.{◌∙◌, Option, Ok, sym, ap, subst}
+use Rattle.std.proofs.Common.{◌∙◌, Option, Ok, sym, ap, subst, arith}
 use Rattle.std.specs.Option.{option_copied}
 use Rattle.seata_types.specs.declared.messages.Input.TheVariants as input
 use Rattle.seata_types.specs.declared.messages.Step.{Step}
 use Rattle.history_rules.specs.ResourceMemory.{local_in}
+use Rattle.resource_store.specs.Keeping.{known}
 use Rattle.resource_core.specs.Stepping.{Answers}
 use Rattle.resource_core.proofs.EndAnswers.{none_found}
 use Rattle.resource_core.proofs.OutsideRules.{with_store, outside_none, outside_done, outside_not}
+use Rattle.resource_core.proofs.ReadyLaws.{local_within, may_write, tables_within}
 use Rattle.resource_core.proofs.branches.Branches.outside.Goals as goal
 
 pub returns-in_default : goal.returns-in_default
@@ -18,11 +20,12 @@ outside-requires-clause-up g c = c.requires.up
 
 pub outside-requires-clause-statements : goal.outside-requires-clause-statements
 outside-requires-clause-statements g c =
-    (c.requires.locals c.args.number c.in-Some.stmts.now (ap (local_in c.args.number) (sym c.as_slice.ensures) ∙ sym c.local_of.ensures ∙ ap (λ (o : Option _). option_copied o) c.in-Some.is)).count
+    (local_within c.args.self.now.locals c.args.number c.in-Some.stmts.now c.requires.locals (ap (local_in c.args.number) (sym c.as_slice.ensures) ∙ sym c.local_of.ensures ∙ ap (λ (o : Option _). option_copied o) c.in-Some.is)).count
 
 pub outside-requires-clause-places : goal.outside-requires-clause-places
 outside-requires-clause-places g c =
-    (c.requires.locals c.args.number c.in-Some.stmts.now (ap (local_in c.args.number) (sym c.as_slice.ensures) ∙ sym c.local_of.ensures ∙ ap (λ (o : Option _). option_copied o) c.in-Some.is)).places
+    may_write (known c.args.self.now.store).tables (tables_within (known c.args.self.now.store) c.requires.knows) c.args.number (omega (arith, c.ranges.number.fits)) c.in-Some.stmts.now
+    (local_within c.args.self.now.locals c.args.number c.in-Some.stmts.now c.requires.locals (ap (local_in c.args.number) (sym c.as_slice.ensures) ∙ sym c.local_of.ensures ∙ ap (λ (o : Option _). option_copied o) c.in-Some.is))
 
 pub returns-in-Ok : goal.returns-in-Ok
 returns-in-Ok g c =
