@@ -2,6 +2,8 @@
 #![tactic(auto)]
 
 #[cfg(test)]
+mod damaged_sessions;
+#[cfg(test)]
 mod kept_sessions;
 #[cfg(test)]
 mod loaded_memories;

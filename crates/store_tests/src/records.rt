@@ -1,7 +1,8 @@
 //! Records and snapshots as bytes, also in the layouts of earlier programs.
 use durable_records::SessionRecord;
-use seata_types::{BranchKind, GlobalStatus, List, RowKey, Ticket, Value, Xid};
+use seata_types::{BranchKind, Duplicate, GlobalStatus, List, RowKey, Ticket, Value, Xid};
 use session_log::*;
+use std::alloc::Global;
 use std::test::*;
 
 // Transaction 1 of manager 1 began at 0, and may take 60,000 ticks.
@@ -9,7 +10,13 @@ const BEGUN: [u8; 27] = [
     1, 0, 0, 0, 0, 0, 0, 0, 1, 0, 1, 0, 0, 0, 0, 0, 0, 0, 0, 0, 0, 0, 0, 0, 0, 234, 96,
 ];
 
-// Branch 1 of transaction 1 at resource 1, call 1, ticket 1.1, AT, with the row acc:1, as earlier programs wrote it.
+// Branch 1 of transaction 1 at resource 1, call 1, ticket 1.1, AT, with the row acc:1.
+const GRANTED: [u8; 49] = [
+    18, 0, 0, 0, 0, 0, 0, 0, 1, 0, 0, 0, 0, 0, 0, 0, 1, 0, 1, 0, 1, 0, 0, 0, 1, 0, 0, 0, 1, 0, 0,
+    1, 0, 1, 0, 3, 97, 99, 99, 1, 0, 0, 0, 0, 0, 0, 0, 0, 1,
+];
+
+// The same as earlier programs wrote it.
 const OLD_GRANTED: [u8; 48] = [
     2, 0, 0, 0, 0, 0, 0, 0, 1, 0, 0, 0, 0, 0, 0, 0, 1, 0, 1, 0, 1, 0, 0, 0, 1, 0, 0, 0, 1, 0, 0, 1,
     0, 1, 0, 3, 97, 99, 99, 0, 0, 0, 0, 0, 0, 0, 0, 1,
@@ -41,30 +48,59 @@ fn a_record_of_a_beginning(rt: HostRuntime) -> Result<(), Fail> {
     Ok(())
 }
 
+fn copied(alloc: Global, record: SessionRecord) -> Option<SessionRecord> {
+    match record.copy(alloc) {
+        Ok(copy) => Some(copy),
+        Err(_) => None,
+    }
+}
+
+// A copy of the record that these bytes are.
+fn read_copy(alloc: Global, bytes: &[u8]) -> Option<SessionRecord> {
+    match read_record(alloc, bytes) {
+        Ok(record) => copied(alloc, record),
+        Err(_) => None,
+    }
+}
+
+// Whether a key is acc:1 of resource 1.
+fn is_row(key: &RowKey) -> bool {
+    key.resource == 1 && key.table.as_str() == "acc" && matches!(key.pk.as_slice(), [Value::Int(1)])
+}
+
+// Whether a record is that of the branch, with its row.
+fn is_granted(record: &SessionRecord) -> bool {
+    match record {
+        SessionRecord::Granted {
+            xid,
+            branch,
+            resource,
+            call,
+            ticket,
+            kind,
+            hold,
+        } => {
+            (xid.0, branch.0, *resource, *call) == (1, 1, 1, 1)
+                && *ticket == Ticket { boot: 1, seq: 1 }
+                && *kind == BranchKind::At
+                && hold.as_slice().len() == 1
+                && hold.as_slice().iter().all(is_row)
+        }
+        _ => false,
+    }
+}
+
+fn is_branch(alloc: Global, bytes: &[u8]) -> bool {
+    match read_copy(alloc, bytes) {
+        Some(record) => is_granted(&record),
+        None => false,
+    }
+}
+
 #[test]
-fn a_branch_of_earlier_programs(rt: HostRuntime) -> Result<(), Fail> {
-    let Ok(record) = read_record(rt.alloc(), &OLD_GRANTED) else {
-        return Err(Fail::from("no record"));
-    };
-    let SessionRecord::Granted {
-        xid,
-        branch,
-        resource,
-        call,
-        ticket,
-        kind,
-        hold,
-    } = &record
-    else {
-        return Err(Fail::from("another record"));
-    };
-    assert_eq!(rt; (xid.0, branch.0, *resource, *call), (1, 1, 1, 1));
-    assert!(rt; *ticket == Ticket { boot: 1, seq: 1 } && *kind == BranchKind::At);
-    let Some(RowKey { resource, pk, .. }) = hold.as_slice().first() else {
-        return Err(Fail::from("no row"));
-    };
-    assert!(rt; *resource == 1 && pk.as_slice() == [Value::Int(1)].as_slice());
-    Ok(())
+fn a_branch_in_either_layout(rt: HostRuntime) {
+    assert!(rt; is_branch(rt.alloc(), &GRANTED));
+    assert!(rt; is_branch(rt.alloc(), &OLD_GRANTED));
 }
 
 #[test]

@@ -67,33 +67,50 @@ fn numbers(rt: HostRuntime) -> Result<(), Fail> {
     Ok(())
 }
 
-// Each field but the numbers, once.
+// Each field but the numbers, the keys and the lists, once.
 fn appended(alloc: Global) -> Result<Vec<u8>, Fail> {
-    let mut out = Vec::new(alloc);
     let row = row(alloc, -2)?;
-    put_text(&mut out, "acc").map_err(|_| "text")?;
-    put_value(&mut out, &Value::Int(7)).map_err(|_| "value")?;
-    put_row(&mut out, &row).map_err(|_| "row")?;
-    put_option_row(&mut out, &None).map_err(|_| "no row")?;
-    put_option_row(&mut out, &Some(row)).map_err(|_| "some row")?;
+    let mut out = Vec::new(alloc);
+    put_text(&mut out, "acc")?;
+    put_value(&mut out, &Value::Int(7))?;
+    put_row(&mut out, &row)?;
+    put_option_row(&mut out, &None)?;
+    put_option_row(&mut out, &Some(row))?;
     Ok(out)
+}
+
+fn put_one_key(alloc: Global, out: &mut Vec<u8>) -> Result<(), Fail> {
+    let key = key(alloc, 1)?;
+    put_key(out, &key)?;
+    put_keys(out, &[key])?;
+    Ok(())
+}
+
+// The images of one row that comes.
+fn put_one_image(alloc: Global, out: &mut Vec<u8>) -> Result<(), Fail> {
+    let key = key(alloc, 1)?;
+    let after = row(alloc, -2)?;
+    let image = Image {
+        key,
+        before: None,
+        after: Some(after),
+    };
+    put_images(out, &[image])?;
+    Ok(())
+}
+
+fn put_one_read(alloc: Global, out: &mut Vec<u8>) -> Result<(), Fail> {
+    let key = key(alloc, 1)?;
+    let row = row(alloc, -2)?;
+    put_reads(out, &[ReadRow { key, row }])?;
+    Ok(())
 }
 
 fn appended_lists(alloc: Global) -> Result<Vec<u8>, Fail> {
     let mut out = Vec::new(alloc);
-    let image = Image {
-        key: key(alloc, 1)?,
-        before: None,
-        after: Some(row(alloc, -2)?),
-    };
-    let read = ReadRow {
-        key: key(alloc, 1)?,
-        row: row(alloc, -2)?,
-    };
-    put_key(&mut out, &image.key).map_err(|_| "key")?;
-    put_keys(&mut out, &[key(alloc, 1)?]).map_err(|_| "keys")?;
-    put_images(&mut out, &[image]).map_err(|_| "images")?;
-    put_reads(&mut out, &[read]).map_err(|_| "reads")?;
+    put_one_key(alloc, &mut out)?;
+    put_one_image(alloc, &mut out)?;
+    put_one_read(alloc, &mut out)?;
     Ok(out)
 }
 
@@ -221,27 +238,30 @@ fn faults(rt: HostRuntime) -> Result<(), Fail> {
     Ok(())
 }
 
+// Whether the next field is a key of the value 1, as earlier programs wrote it.
+fn takes_old_key(alloc: Global, fields: &mut Fields) -> bool {
+    match fields.take_old_key(alloc) {
+        Ok(key) => matches!(key.pk.as_slice(), [Value::Int(1)]),
+        Err(_) => false,
+    }
+}
+
 // Keys of one value without a count, as earlier programs wrote them.
+fn old_lists(alloc: Global) -> Result<Vec<u8>, Fail> {
+    let one: &[u8] = &[0, 1];
+    joined(
+        alloc,
+        &[
+            &OLD_KEY, one, &OLD_KEY, one, &OLD_KEY, one, &ROW, one, &OLD_KEY, &ROW,
+        ],
+    )
+}
+
 #[test]
 fn old_layout(rt: HostRuntime) -> Result<(), Fail> {
-    let bytes = joined(
-        rt.alloc(),
-        &[
-            &OLD_KEY,
-            &[0, 1],
-            &OLD_KEY,
-            &[0, 1],
-            &OLD_KEY,
-            &[0, 1],
-            &ROW,
-            &[0, 1],
-            &OLD_KEY,
-            &ROW,
-        ],
-    )?;
+    let bytes = old_lists(rt.alloc())?;
     let mut fields = Fields::new(&bytes);
-    let key = fields.take_old_key(rt.alloc()).map_err(|_| "key")?;
-    assert!(rt; key.pk.as_slice() == [Value::Int(1)].as_slice());
+    assert!(rt; takes_old_key(rt.alloc(), &mut fields));
     assert!(rt; fields.take_old_keys(rt.alloc()).is_ok());
     assert!(rt; fields.take_old_images(rt.alloc()).is_ok());
     assert!(rt; fields.take_old_reads(rt.alloc()).is_ok());

@@ -3,10 +3,11 @@ ghost use Rattle.std.specs.Prelude.{◌<◌, IfOk};
 ghost use Rattle.byte_fields.specs.Layout.{FitsKey, FitsKeys};
 ghost use Rattle.frame_codec.specs.Limits.{IsKeyWithin, AreKeysWithin, IsFramable};
 
-use frame_codec::{FeedError, FrameError, FrameFeed, Framed, decode, encode};
+use crate::copies::copied;
+use frame_codec::{FeedError, FrameError, FrameFeed, Framed, Packet, decode, encode};
 use seata_types::{
-    BranchId, BranchKind, BranchStatus, CallAnswer, GlobalStatus, List, Message, Registered,
-    RowKey, StmtError, Text, Ticket, Value, Why, Work, Xid,
+    BranchId, BranchKind, BranchStatus, CallAnswer, GlobalStatus, List, Message, NoMemory,
+    Registered, RowKey, StmtError, Text, Ticket, Value, Why, Work, Xid,
 };
 use std::alloc::Global;
 use std::test::*;
@@ -43,21 +44,29 @@ fn keys(alloc: Global) -> Result<List<RowKey>, Fail>
     Ok(List::of(keys))
 }
 
-// The bytes of the message's packet, once they are the bytes of the opened message's too.
+fn packet(alloc: Global, message: Message, stamp: u32) -> Result<Packet, NoMemory>
+    requires { IsFramable message }
+{
+    encode(alloc, &message, stamp)
+}
+
+// The packet of a copy of the opened message.
+fn packet_again(alloc: Global, packed: &Packet) -> Result<Packet, NoMemory> {
+    let (message, stamp) = packed.open(alloc)?;
+    let copy = copied(alloc, message)?;
+    packet(alloc, copy, stamp)
+}
+
+// The bytes of the message's packet, once they are the bytes of a copy of the opened message too.
 fn sent(alloc: Global, message: Message, stamp: u32) -> Result<Vec<u8>, Fail>
     requires { IsFramable message }
 {
-    let packet = encode(alloc, &message, stamp);
-    drop(message);
-    let packet = packet?;
-    let opened = packet.open(alloc)?;
-    let again = encode(alloc, &opened.0, opened.1);
-    drop(opened);
-    let again = again?;
-    if again.bytes() != packet.bytes() {
-        return Err("opened otherwise")?;
+    let first = packet(alloc, message, stamp)?;
+    let again = packet_again(alloc, &first)?;
+    if again.bytes() != first.bytes() {
+        return Err(Fail::from("opened otherwise"));
     }
-    Ok(Vec::from_slice(alloc, packet.bytes())?)
+    Ok(Vec::from_slice(alloc, first.bytes())?)
 }
 
 #[test]

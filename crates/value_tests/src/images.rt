@@ -102,16 +102,25 @@ fn turns_images_round(rt: HostRuntime) -> Result<(), Fail> {
     Ok(())
 }
 
+// Whether the present row, which has this cell, isn't the image's after.
+fn is_other(alloc: Global, told: Told, present: Option<i64>) -> Result<bool, Fail> {
+    let image = image(alloc, told)?;
+    let present = option_row(alloc, present)?;
+    Ok(differs(&image, present.as_ref()))
+}
+
 #[test]
 fn compares_with_the_present_row(rt: HostRuntime) -> Result<(), Fail> {
-    let alloc = rt.alloc();
-    let (five, six) = (row(alloc, 5)?, row(alloc, 6)?);
-    let changed = image(alloc, Told(1, Some(5), Some(6)))?;
-    assert!(rt; !differs(&changed, Some(&six)));
-    assert!(rt; differs(&changed, Some(&five)));
-    assert!(rt; differs(&changed, None));
-    let removed = image(alloc, Told(1, Some(5), None))?;
-    assert!(rt; !differs(&removed, None));
-    assert!(rt; differs(&removed, Some(&five)));
+    let changed = Told(1, Some(5), Some(6));
+    let removed = Told(1, Some(5), None);
+    for (told, present, other) in [
+        (changed, Some(6), false),
+        (changed, Some(5), true),
+        (changed, None, true),
+        (removed, None, false),
+        (removed, Some(5), true),
+    ] {
+        assert!(rt; is_other(rt.alloc(), told, present)? == other);
+    }
     Ok(())
 }

@@ -2,6 +2,8 @@
 #![tactic(auto)]
 
 #[cfg(test)]
+mod copies;
+#[cfg(test)]
 mod fields;
 #[cfg(test)]
 mod frames;
@@ -9,8 +11,6 @@ mod frames;
 mod images;
 #[cfg(test)]
 mod many_images;
-#[cfg(test)]
-mod records;
 #[cfg(test)]
 mod statements;
 #[cfg(test)]

@@ -259,24 +259,68 @@ const CALLS: [(&str, &str); 42] = [
     ),
 ];
 
+/// The first call of which something else is told, with that; nothing where there is none.
+fn first_other(alloc: Global, tables: &mut Tables, calls: &[(&str, &str)]) -> Result<String, Fail> {
+    for (words, wanted) in calls {
+        let told = effect(alloc, tables, words)?;
+        if told.as_str() != *wanted {
+            return Ok(format!(in alloc; "{words}: {told}")?);
+        }
+    }
+    Ok(String::new(alloc))
+}
+
+/// The first call that leaves other rows once it is undone, with these; nothing where there is none.
+fn first_left(alloc: Global, tables: &mut Tables, calls: &[(&str, &str)]) -> Result<String, Fail> {
+    for (words, _) in calls {
+        drop(effect(alloc, tables, words)?);
+        let left = effect(alloc, tables, ALL)?;
+        if left.as_str() != FILLED {
+            return Ok(format!(in alloc; "{words}: {left}")?);
+        }
+    }
+    Ok(String::new(alloc))
+}
+
+/// Three tables with three rows each.
+fn filled(alloc: Global) -> Result<Tables, Fail> {
+    let mut tables = opened(alloc)?;
+    drop(run(alloc, &mut tables, FILLING)?);
+    Ok(tables)
+}
+
 #[test]
 fn calls_on_three_tables(rt: HostRuntime) -> Result<(), Fail> {
-    let alloc = rt.alloc();
-    let mut tables = opened(alloc)?;
-    run(alloc, &mut tables, FILLING)?;
-    for (words, wanted) in CALLS {
-        let told = effect(alloc, &mut tables, words)?;
-        assert_eq!(rt; told.as_str(), wanted, "{words}");
-        let left = effect(alloc, &mut tables, ALL)?;
-        assert_eq!(rt; left.as_str(), FILLED, "{words}");
-    }
+    let mut tables = filled(rt.alloc())?;
+    let other = first_other(rt.alloc(), &mut tables, &CALLS)?;
+    assert_eq!(rt; other.as_str(), "");
+    Ok(())
+}
+
+#[test]
+fn calls_that_are_undone(rt: HostRuntime) -> Result<(), Fail> {
+    let mut tables = filled(rt.alloc())?;
+    let other = first_left(rt.alloc(), &mut tables, &CALLS)?;
+    assert_eq!(rt; other.as_str(), "");
     assert_eq!(rt; tables.rows(), 9);
+    Ok(())
+}
+
+/// Whether the table `acc` has a row with this key.
+fn stands(alloc: Global, tables: &Tables, number: i64) -> Result<bool, Fail> {
     let key = RowKey {
         resource: 1,
         table: text(alloc, "acc")?,
-        pk: List::of(Vec::from_array(alloc, [Value::Int(1)])?),
+        pk: List::of(Vec::from_array(alloc, [Value::Int(number)])?),
     };
-    assert!(rt; tables.get(&key).is_some());
+    Ok(tables.get(&key).is_some())
+}
+
+#[test]
+fn rows_by_their_keys(rt: HostRuntime) -> Result<(), Fail> {
+    let tables = filled(rt.alloc())?;
+    assert!(rt; stands(rt.alloc(), &tables, 1)?);
+    assert!(rt; !stands(rt.alloc(), &tables, 4)?);
     Ok(())
 }
 
@@ -291,23 +335,33 @@ fn many(alloc: Global, from: i64, count: i64) -> Result<String, Fail> {
     Ok(words)
 }
 
-#[test]
-fn limits_of_rows(rt: HostRuntime) -> Result<(), Fail> {
-    let alloc = rt.alloc();
+/// The table `acc` with 4,096 rows, put in by calls of 256.
+fn full(alloc: Global) -> Result<Tables, Fail> {
     let mut tables = opened(alloc)?;
-    let over = effect(alloc, &mut tables, many(alloc, 1, 257)?.as_str())?;
-    assert_eq!(rt; over.as_str(), "1 TooManyRows");
     let mut from = 1i64;
     for _ in 0..16 {
         let words = many(alloc, from, 256)?;
-        run(alloc, &mut tables, words.as_str())?;
+        drop(run(alloc, &mut tables, words.as_str())?);
         from = from.saturating_add(256);
     }
+    Ok(tables)
+}
+
+#[test]
+fn a_call_of_too_many_rows(rt: HostRuntime) -> Result<(), Fail> {
+    let mut tables = opened(rt.alloc())?;
+    let words = many(rt.alloc(), 1, 257)?;
+    let told = effect(rt.alloc(), &mut tables, words.as_str())?;
+    assert_eq!(rt; told.as_str(), "1 TooManyRows");
+    Ok(())
+}
+
+#[test]
+fn a_table_of_too_many_rows(rt: HostRuntime) -> Result<(), Fail> {
+    let mut tables = full(rt.alloc())?;
     assert_eq!(rt; tables.rows(), 4096);
-    for (words, wanted) in LIMITS {
-        let told = effect(alloc, &mut tables, words)?;
-        assert_eq!(rt; told.as_str(), wanted, "{words}");
-    }
+    let other = first_other(rt.alloc(), &mut tables, &LIMITS)?;
+    assert_eq!(rt; other.as_str(), "");
     Ok(())
 }
 

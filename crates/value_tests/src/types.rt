@@ -1,7 +1,6 @@
 //! The numbers of the statuses, the table of their changes, the order of keys, and copies.
 use seata_types::{
-    BranchStatus, Cond, CondNode, Duplicate, GlobalStatus, Image, List, Message, Op, Row, RowKey,
-    Text, Ticket, Value, Xid, may_follow,
+    BranchStatus, Duplicate, GlobalStatus, Image, List, Row, RowKey, Text, Value, may_follow,
 };
 use std::alloc::Global;
 use std::test::Fail;
@@ -31,27 +30,45 @@ const CHANGES: [(u8, u8); 21] = [
     (8, 10),
 ];
 
+/// Whether this number is a session's status with that number, exactly where it is at most 15.
+fn is_numbered(code: u8) -> bool {
+    match GlobalStatus::from_code(code) {
+        Some(status) => status.code() == code,
+        None => code > 15,
+    }
+}
+
+/// Whether this number is a branch's status with that number, exactly where it is at most 10.
+fn is_branch_numbered(code: u8) -> bool {
+    match BranchStatus::from_code(code) {
+        Some(status) => status.code() == code,
+        None => code > 10,
+    }
+}
+
+/// Whether the status with one number may follow that with the other.
+fn follows(old: u8, new: u8) -> Option<bool> {
+    let before = GlobalStatus::from_code(old)?;
+    let after = GlobalStatus::from_code(new)?;
+    Some(may_follow(before, after))
+}
+
 #[test]
-fn statuses_have_their_numbers_and_changes(rt: HostRuntime) -> Result<(), Fail> {
-    for code in 0..40_u8 {
-        match GlobalStatus::from_code(code) {
-            Some(status) => assert_eq!(rt; status.code(), code),
-            None => assert!(rt; code > 15),
-        }
-        match BranchStatus::from_code(code) {
-            Some(status) => assert_eq!(rt; status.code(), code),
-            None => assert!(rt; code > 10),
+fn statuses_have_their_numbers(rt: HostRuntime) {
+    for code in 0..40 {
+        assert!(rt; is_numbered(code), "{code}");
+        assert!(rt; is_branch_numbered(code), "{code}");
+    }
+}
+
+#[test]
+fn statuses_have_their_changes(rt: HostRuntime) {
+    for old in 0..16 {
+        for new in 0..16 {
+            let wanted = Some(CHANGES.contains(&(old, new)));
+            assert_eq!(rt; follows(old, new), wanted, "{old} {new}");
         }
     }
-    for pair in 0..256_u32 {
-        let (old, new) = ((pair / 16) as u8, (pair % 16) as u8);
-        if let Some(before) = GlobalStatus::from_code(old)
-            && let Some(after) = GlobalStatus::from_code(new)
-        {
-            assert_eq!(rt; may_follow(before, after), CHANGES.contains(&(old, new)));
-        }
-    }
-    Ok(())
 }
 
 fn text(alloc: Global, text: &str) -> Result<Text, Fail> {
@@ -71,97 +88,62 @@ fn key(alloc: Global, resource: u16, number: i64, word: &str) -> Result<RowKey, 
 }
 
 /// Keys in their order: by resource, then part by part, numbers by size and texts by bytes.
-#[test]
-fn keys_stand_in_order(rt: HostRuntime) -> Result<(), Fail> {
-    let mut keys = Vec::new(rt.alloc());
-    keys.push(key(rt.alloc(), 1, -3, "z")?)?;
-    keys.push(key(rt.alloc(), 1, 2, "a")?)?;
-    keys.push(key(rt.alloc(), 1, 2, "ab")?)?;
-    keys.push(key(rt.alloc(), 1, 10, "")?)?;
-    keys.push(key(rt.alloc(), 2, -9, "")?)?;
+fn rising(alloc: Global) -> Result<Vec<RowKey>, Fail> {
+    let mut keys = Vec::new(alloc);
+    for (resource, number, word) in [
+        (1, -3, "z"),
+        (1, 2, "a"),
+        (1, 2, "ab"),
+        (1, 10, ""),
+        (2, -9, ""),
+    ] {
+        keys.push(key(alloc, resource, number, word)?)?;
+    }
+    Ok(keys)
+}
+
+/// Whether keys compare as their places.
+fn are_ordered(keys: &[RowKey]) -> bool {
     for (low, first) in keys.iter().enumerate() {
         for (high, second) in keys.iter().enumerate() {
-            assert_eq!(rt; first.cmp(second), low.cmp(&high));
-            assert_eq!(rt; first == second, low == high);
+            if first.cmp(second) != low.cmp(&high) || (first == second) != (low == high) {
+                return false;
+            }
         }
     }
+    true
+}
+
+#[test]
+fn keys_stand_in_order(rt: HostRuntime) -> Result<(), Fail> {
+    let keys = rising(rt.alloc())?;
+    assert_eq!(rt; keys.len(), 5);
+    assert!(rt; are_ordered(&keys));
     Ok(())
+}
+
+/// A row with a number and a text comes.
+fn image(alloc: Global) -> Result<Image, Fail> {
+    let mut values = Vec::new(alloc);
+    values.push(Value::Int(-7))?;
+    values.push(Value::Text(text(alloc, "it's")?))?;
+    Ok(Image {
+        key: key(alloc, 2, 5, "x")?,
+        before: None,
+        after: Some(Row(List::of(values))),
+    })
+}
+
+fn is_copied(alloc: Global, image: &Image) -> Result<bool, Fail> {
+    match image.copy(alloc) {
+        Ok(copy) => Ok(copy == *image),
+        Err(_) => Err(Fail::from("no memory")),
+    }
 }
 
 #[test]
 fn rows_copy(rt: HostRuntime) -> Result<(), Fail> {
-    let mut values = Vec::new(rt.alloc());
-    values.push(Value::Int(-7))?;
-    values.push(Value::Text(text(rt.alloc(), "it's")?))?;
-    let image = Image {
-        key: key(rt.alloc(), 2, 5, "x")?,
-        before: None,
-        after: Some(Row(List::of(values))),
-    };
-    let Ok(copy) = image.copy(rt.alloc()) else {
-        return Err(Fail::from("no memory"));
-    };
-    assert!(rt; copy == image);
-    Ok(())
-}
-
-#[test]
-fn conditions_copy(rt: HostRuntime) -> Result<(), Fail> {
-    let first = Cond::cmp(text(rt.alloc(), "id")?, Op::Ge, Value::Int(3));
-    let second = Cond::cmp(text(rt.alloc(), "m")?, Op::Ne, Value::Int(4));
-    let third = Cond::cmp(text(rt.alloc(), "m")?, Op::Lt, Value::Int(9));
-    let Ok(opposite) = Cond::not(rt.alloc(), second) else {
-        return Err(Fail::from("no memory"));
-    };
-    let Ok(either) = Cond::or(rt.alloc(), opposite, third) else {
-        return Err(Fail::from("no memory"));
-    };
-    let Ok(both) = Cond::and(rt.alloc(), first, either) else {
-        return Err(Fail::from("no memory"));
-    };
-    let Ok(copy) = both.copy(rt.alloc()) else {
-        return Err(Fail::from("no memory"));
-    };
-    let CondNode::And(left, right) = &copy.node else {
-        return Err(Fail::from("another condition"));
-    };
-    assert!(rt;
-        matches!(
-            &left.node,
-            CondNode::Cmp {
-                op: Op::Ge,
-                value: Value::Int(3),
-                ..
-            }
-        )
-    );
-    let CondNode::Or(either, _) = &right.node else {
-        return Err(Fail::from("another condition"));
-    };
-    assert!(rt; matches!(&either.node, CondNode::Not(_)));
-    Ok(())
-}
-
-#[test]
-fn messages_copy(rt: HostRuntime) -> Result<(), Fail> {
-    let ticket = Ticket { boot: 4, seq: 6 };
-    let held = key(rt.alloc(), 1, 2, "a")?;
-    let answer = Message::LockAnswer {
-        ticket,
-        held: Some((held, Xid(9))),
-    };
-    let Ok(copy) = answer.copy(rt.alloc()) else {
-        return Err(Fail::from("no memory"));
-    };
-    let Message::LockAnswer {
-        ticket: again,
-        held: Some((kept, holder)),
-    } = &copy
-    else {
-        return Err(Fail::from("another message"));
-    };
-    assert!(rt; *again == ticket);
-    assert!(rt; *kept == key(rt.alloc(), 1, 2, "a")?);
-    assert!(rt; *holder == Xid(9));
+    let image = image(rt.alloc())?;
+    assert!(rt; is_copied(rt.alloc(), &image)?);
     Ok(())
 }
