@@ -4,6 +4,7 @@ ghost use Rattle.resource_log.specs.Records.{FitsRecord};
 use crate::samples::{IMAGES, LEG, OLD_IMAGES, joined};
 use durable_records::ResourceRecord;
 use resource_log::*;
+use seata_types::Duplicate;
 use std::alloc::Global;
 use std::test::*;
 
@@ -16,10 +17,19 @@ const OLD_READS: [u8; 29] = [
     0, 1, 0, 1, 0, 3, 97, 99, 99, 0, 0, 0, 0, 0, 0, 0, 0, 1, 0, 1, 0, 0, 0, 0, 0, 0, 0, 0, 1,
 ];
 
-// The bytes that the record of these bytes is written as: none where they are no record.
+// The bytes that a copy of the record of these bytes is written as: none where they are no record.
 pub fn again(alloc: Global, bytes: &[u8]) -> Option<Vec<u8>> {
     match read_record(alloc, bytes) {
-        Ok(record) => written(alloc, record),
+        Ok(record) => written_copy(alloc, record),
+        Err(_) => None,
+    }
+}
+
+fn written_copy(alloc: Global, item: ResourceRecord) -> Option<Vec<u8>>
+    requires { FitsRecord item }
+{
+    match item.copy(alloc) {
+        Ok(copy) => written(alloc, copy),
         Err(_) => None,
     }
 }

@@ -1,6 +1,6 @@
 -- The transaction that a turn takes, and the branch that is asked, by the memory and by the rules.
 use Rattle.std.proofs.Common.{◌≡◌, ◌==◌, ◌&&◌, ◌<◌, ◌≤◌, ◌+◌, ◌^◌, not, ℕ, Bool, true, false, cond, if◌then◌else◌, List, [], ◌∷◌, ◌++◌, length, map, Option, Some, None, option_map, is_some, is_none, refl, sym, ap, subst, ◌∙◌, arith}
-use Rattle.std.specs.Prelude.{find, filter, nat_lt, nat_le, min}
+use Rattle.std.specs.Prelude.{find, filter, nat_lt, nat_le}
 use Rattle.std.specs.Option.{option_and_then}
 use Rattle.std.proofs.lemmas.Bool.Decides.{nat_tests}
 use Rattle.seata_types.specs.declared.acts.Act.TheVariants as act
@@ -11,14 +11,14 @@ use Rattle.seata_types.specs.declared.messages.Message.TheVariants as message
 use Rattle.durable_records.specs.declared.coordinators.SessionRecord.{SessionRecord}
 use Rattle.durable_records.specs.declared.coordinators.SessionRecord.TheVariants as log
 use Rattle.durable_records.specs.Transactions.{Session as Began, sessions, session, has_xid, decided, is_forgotten, is_commit}
-use Rattle.durable_records.specs.Branches.{Grant, grants, branches, unended, is_unended, is_ended}
+use Rattle.durable_records.specs.Branches.{Grant, grants, branches, unended, is_unended}
 use Rattle.durable_records.specs.Progress.{is_known, status_of, is_on, may_decide, is_going as goes, is_finished as is_over, progress, is_done}
 use Rattle.durable_records.specs.SessionOrder.{Allowed, is_empty, is_counted}
 use Rattle.frame_codec.specs.Limits.{IsCounted}
 use Rattle.history_rules.specs.Own.{sends}
 use Rattle.history_rules.specs.CoordinatorMemory.{is_past, is_late, least, soonest}
 use Rattle.history_rules.specs.CoordinatorRules.{first_of, last_of, next_asked, asks, manager_of, xid_of as number, branch_of, due_answer}
-use Rattle.retry_turns.specs.Plans.{Plans, moment_of, goes_before, TellsDue, IsFirstDue, IsNoneDue}
+use Rattle.retry_turns.specs.Plans.{Plans, moment_of, IsFirstDue, IsNoneDue}
 use Rattle.session_log.specs.declared.sessions.Branch.{Branch}
 use Rattle.session_log.specs.declared.sessions.SessionEntry.{SessionEntry}
 use Rattle.session_log.specs.SnapshotOf.{in_order, branch_now, session_now, entry_now, is_kept_session, snapshot_of}
@@ -27,13 +27,13 @@ use Rattle.session_memory.specs.Changes.{is_begin, is_finished}
 use Rattle.session_memory.specs.Holding.{keeps_rows}
 use Rattle.session_memory.specs.Lookups.{or_else, xid_of, session_in}
 use Rattle.session_memory.specs.Order.{Each}
-use Rattle.session_memory.proofs.Small.{false_true, true_false, none_some, and_left, and_right, same_nat, nat_same, nat_differs}
+use Rattle.session_memory.proofs.Small.{false_true, none_some, and_left, and_right, same_nat, nat_same, nat_differs}
 use Rattle.session_memory.proofs.Lists.{AreCounted, each_same, each_pair, each_filtered, up_to, find_mapped, find_both, map_both, and_false}
 use Rattle.durable_records.proofs.RecordFacts.{numbered, began_xid}
 use Rattle.session_memory.proofs.StepLaws.{began_found}
 use Rattle.coordinator_core.specs.declared.questions.Question.{Question}
 use Rattle.coordinator_core.specs.Changes.{kept_moment}
-use Rattle.coordinator_core.specs.Choices.{is_late_entry, is_old_entry, is_by, has_passed_in, if_open, last_open, next_open, question_to, if_sendable, question_of, question_in}
+use Rattle.coordinator_core.specs.Choices.{is_late_entry, is_old_entry, is_by, if_open, last_open, next_open, question_to, if_sendable, question_of, question_in}
 use Rattle.coordinator_core.specs.Steps.{asked_step}
 use Rattle.coordinator_core.specs.Tracks.{AreSendable}
 use Rattle.coordinator_core.proofs.Firsts.{least_found, soonest_none, soonest_found}

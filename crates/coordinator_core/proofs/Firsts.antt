@@ -1,5 +1,5 @@
 -- The transaction that a turn takes is the first of those that stand in order.
-use Rattle.std.proofs.Common.{◌≡◌, ◌==◌, ◌&&◌, ◌||◌, ◌<◌, ◌≤◌, ◌+◌, ℕ, zero, suc, Bool, true, false, cond, if◌then◌else◌, List, [], ◌∷◌, ◌++◌, length, Option, Some, None, refl, sym, ap, ◌∙◌, arith, add-one}
+use Rattle.std.proofs.Common.{◌≡◌, ◌==◌, ◌&&◌, ◌||◌, ◌<◌, ◌≤◌, ◌+◌, ℕ, zero, suc, Bool, true, false, cond, if◌then◌else◌, List, [], ◌∷◌, length, Option, Some, None, refl, sym, ap, ◌∙◌, arith, add-one}
 use Rattle.std.specs.Prelude.{find, filter, option_map, nat_lt}
 use Rattle.std.proofs.lemmas.Bool.Decides.{nat_tests}
 use Rattle.history_rules.specs.CoordinatorMemory.{or_this, least, sooner, soonest}
@@ -7,7 +7,7 @@ use Rattle.retry_turns.specs.Plans.{goes_before}
 use Rattle.session_log.specs.SnapshotOf.{in_order}
 use Rattle.session_memory.specs.Lookups.{or_else}
 use Rattle.session_memory.specs.Order.{Each}
-use Rattle.session_memory.proofs.Small.{false_true, true_false, none_some, same_nat}
+use Rattle.session_memory.proofs.Small.{true_false, none_some, same_nat}
 use Rattle.session_memory.proofs.Lists.{AreCounted, find_both}
 
 -- ---- the least that passes

@@ -1,6 +1,5 @@
 -- The table stands for its own entries after a record, and after an entry without one.
-use Rattle.std.proofs.Common.{◌≡◌, ◌==◌, ◌&&◌, ◌<◌, ◌≤◌, ◌+◌, ◌^◌, ◌-◌, ℕ, Bool, true, false, cond, if◌then◌else◌, List, [], ◌∷◌, Option, Some, None, option_map, is_some, is_none, refl, sym, ap, subst, ◌∙◌, arith}
-use Rattle.std.specs.Prelude.{min, OnOk, OnErr, Result, Ok, Err}
+use Rattle.std.proofs.Common.{◌≡◌, ◌==◌, ◌<◌, ◌+◌, ◌^◌, ℕ, Bool, true, false, cond, if◌then◌else◌, List, ◌∷◌, Option, Some, None, is_some, refl, sym, ap, subst, ◌∙◌, arith}
 use Rattle.seata_types.specs.declared.acts.Act.{Act}
 use Rattle.seata_types.specs.declared.acts.Act.TheVariants as act
 use Rattle.seata_types.specs.declared.acts.Durable.{Durable}
@@ -8,29 +7,25 @@ use Rattle.seata_types.specs.declared.ids.Xid.{Xid}
 use Rattle.seata_types.specs.declared.ids.BranchId.{BranchId}
 use Rattle.seata_types.specs.declared.messages.Input.{Input}
 use Rattle.seata_types.specs.declared.messages.Outgoing.{Outgoing}
-use Rattle.seata_types.specs.declared.messages.Step.{Step}
 use Rattle.durable_records.specs.declared.coordinators.SessionRecord.{SessionRecord}
 use Rattle.durable_records.specs.declared.coordinators.SessionRecord.TheVariants as log
 use Rattle.durable_records.specs.Branches.{unended, unended_branch}
 use Rattle.durable_records.specs.Progress.{may_decide, is_going, is_finished}
 use Rattle.durable_records.specs.SessionOrder.{Allowed, May, may, is_empty}
-use Rattle.history_rules.specs.Own.{Event, Given, Own, added}
-use Rattle.history_rules.specs.Devices.{is_down, calls_left, spent}
-use Rattle.history_rules.specs.CoordinatorMemory.{session_record, due, due_by_durable, rests_since, rests_after}
-use Rattle.history_rules.specs.CoordinatorRules.{coordinator_answer}
+use Rattle.history_rules.specs.Own.{Given, Own, added}
+use Rattle.history_rules.specs.CoordinatorMemory.{session_record, due_by_durable, rests_after}
 use Rattle.history_text.specs.Promises.{own_step}
-use Rattle.retry_turns.specs.Plans.{Plans, moment_of, is_planned, with_plan, without_plan}
+use Rattle.retry_turns.specs.Plans.{moment_of, is_planned, with_plan}
 use Rattle.session_log.specs.declared.sessions.Snapshot.{Snapshot}
 use Rattle.session_log.specs.SnapshotOf.{snapshot_of}
 use Rattle.session_memory.specs.Changes.{may_come, after}
 use Rattle.session_memory.proofs.Small.{false_true, and_left, moved}
 use Rattle.session_memory.proofs.StepLaws.{snapshot_after}
 use Rattle.coordinator_core.specs.declared.moments.Moments.{Moments}
-use Rattle.coordinator_core.specs.declared.table.Table.{Table}
-use Rattle.coordinator_core.specs.Answers.{TakesAfter, Grows, IsUnanswered}
+use Rattle.coordinator_core.specs.Knowledge.{Knowledge}
+use Rattle.coordinator_core.specs.Answers.{is_answer, SameTimes, IsUnanswered}
 use Rattle.coordinator_core.specs.Changes.{kept_moment, prepared, withdrawn, settled, IsPlannedFor, Makes, PlansAgain}
-use Rattle.coordinator_core.specs.Standing.{times_in}
-use Rattle.coordinator_core.specs.Tracks.{Tracks, Stands, AreInOrder, IsSendable, AreSendable, records}
+use Rattle.coordinator_core.specs.Tracks.{Course, with_own, due_on, rests_on, Tracks, Follows, AreInOrder, IsSendable, AreSendable, records}
 use Rattle.coordinator_core.proofs.Laws.{may_alike, retry_going}
 use Rattle.coordinator_core.proofs.PlanLaws.{moment_with, moment_without, in_order_with, in_order_without}
 use Rattle.coordinator_core.proofs.Records.{going_by, finished_by, going_after, finished_after, going_not_finished, undecided_not_going}
@@ -281,29 +276,27 @@ abbrev stepped : Input → ℕ → Act → Option Outgoing → Own
 stepped given now done sent = own_step given now (record { act = done; sent = sent })
 
 -- the due moments go by the retry
-same_due : (retry retry' : ℕ) (owns : List Own) (q : ℕ) → retry' ≡ retry → due retry' 0 owns q ≡ due retry 0 owns q
-same_due retry retry' owns q e = ap (λ r. due r 0 owns q) e
+same_due : (retry retry' : ℕ) (owns : Course) (q : ℕ) → retry' ≡ retry → due_on retry' owns q ≡ due_on retry owns q
+same_due retry retry' owns q e = ap (λ r. due_on r owns q) e
 
-pub stands_made : (t t' : Table) (owns : List Own) (now : ℕ) (r : SessionRecord) (given : Input) (d : Durable) (sent : Option Outgoing)
-    → Stands t owns → now < 2 ^ 64 → Makes t t' r now → IsSendable r → session_record now (Given given) d ≡ Some r
+pub stands_made : (t t' : Knowledge) (owns : Course) (now : ℕ) (r : SessionRecord) (given : Input) (d : Durable) (sent : Option Outgoing)
+    → Follows t owns → now < 2 ^ 64 → Makes t t' r now → IsSendable r → session_record now (Given given) d ≡ Some r
     → ((x before : ℕ) → due_by_durable t.retry now d x before ≡ due_by t.retry now r x before)
     → ((x before : ℕ) → rests_after now (act.Durable d) x before ≡ rested_by now r x before)
-    → Stands t' (stepped given now (act.Durable d) sent ∷ owns)
+    → Follows t' (with_own (stepped given now (act.Durable d) sent) owns)
 stands_made t t' owns now r given d sent s in_time makes sendable asked dues rests = record {
-  up = s.up;
-  unarmed = ap (option_map spent) s.unarmed;
   tracks = tracks_same (after r t.memory) t'.memory (settled t.retry now r (prepared r now t.moments)) t'.moments (r ∷ records owns) (added (session_record now (Given given) d) (records owns))
-      (λ x. due_by t.retry now r x (due t.retry 0 owns x)) (λ x. due_by_durable t'.retry now d x (due t'.retry 0 owns x))
-      (λ x. rested_by now r x (rests_since 0 owns x)) (λ x. rests_after now (act.Durable d) x (rests_since 0 owns x))
-      (tracks_made t.memory t.moments (records owns) (due t.retry 0 owns) (rests_since 0 owns) s.tracks now in_time t.retry r makes.may sendable)
+      (λ x. due_by t.retry now r x (due_on t.retry owns x)) (λ x. due_by_durable t'.retry now d x (due_on t'.retry owns x))
+      (λ x. rested_by now r x (rests_on owns x)) (λ x. rests_after now (act.Durable d) x (rests_on owns x))
+      (tracks_made t.memory t.moments (records owns) (due_on t.retry owns) (rests_on owns) s.tracks now in_time t.retry r makes.may sendable)
       makes.memory (makes.moments planned) (ap (λ o. added o (records owns)) asked)
-      (λ x. ap (λ k. due_by_durable k now d x (due k 0 owns x)) makes.same_retry ∙ dues x (due t.retry 0 owns x))
-      (λ x. rests x (rests_since 0 owns x));
+      (λ x. ap (λ k. due_by_durable k now d x (due_on k owns x)) makes.same_retry ∙ dues x (due_on t.retry owns x))
+      (λ x. rests x (rests_on owns x));
 }
   where
     planned : IsPlannedFor r t.moments.turns
-    planned = planned_for t.memory t.moments (records owns) (due t.retry 0 owns) (rests_since 0 owns) s.tracks now in_time r
-        (may_by t.memory t.moments (records owns) (due t.retry 0 owns) (rests_since 0 owns) s.tracks now in_time r makes.may)
+    planned = planned_for t.memory t.moments (records owns) (due_on t.retry owns) (rests_on owns) s.tracks now in_time r
+        (may_by t.memory t.moments (records owns) (due_on t.retry owns) (rests_on owns) s.tracks now in_time r makes.may)
 
 -- acts at which nothing that is kept changes
 abbrev pub is_quiet : Act → Bool
@@ -318,84 +311,62 @@ is_quiet act.Ignored = true
 is_quiet act.Nothing = true
 is_quiet _ = false
 
-pub stands_quiet : (t : Table) (owns : List Own) (now : ℕ) (given : Input) (done : Act) (sent : Option Outgoing) → is_quiet done ≡ true → Stands t owns → Stands t (stepped given now done sent ∷ owns)
-stands_quiet t owns now given (act.Known xid) sent q s = record { up = s.up; unarmed = s.unarmed; tracks = s.tracks }
-stands_quiet t owns now given (act.Regranted xid branch) sent q s = record { up = s.up; unarmed = s.unarmed; tracks = s.tracks }
-stands_quiet t owns now given (act.Conflict xid key holder rolling) sent q s = record { up = s.up; unarmed = s.unarmed; tracks = s.tracks }
-stands_quiet t owns now given (act.Closed xid status) sent q s = record { up = s.up; unarmed = s.unarmed; tracks = s.tracks }
-stands_quiet t owns now given (act.Told xid status) sent q s = record { up = s.up; unarmed = s.unarmed; tracks = s.tracks }
-stands_quiet t owns now given (act.Held key holder) sent q s = record { up = s.up; unarmed = s.unarmed; tracks = s.tracks }
-stands_quiet t owns now given act.Free sent q s = record { up = s.up; unarmed = s.unarmed; tracks = s.tracks }
-stands_quiet t owns now given act.Ignored sent q s = record { up = s.up; unarmed = s.unarmed; tracks = s.tracks }
-stands_quiet t owns now given act.Nothing sent q s = record { up = s.up; unarmed = s.unarmed; tracks = s.tracks }
+pub quiet_answers : (done : Act) → is_quiet done ≡ true → is_answer done ≡ true
+quiet_answers (act.Down kept at) q = q
+quiet_answers (act.Restarted kept) q = q
+quiet_answers act.Armed q = q
+quiet_answers _ q = refl
+
+pub stands_quiet : (t : Knowledge) (owns : Course) (now : ℕ) (given : Input) (done : Act) (sent : Option Outgoing) → is_quiet done ≡ true → Follows t owns → Follows t (with_own (stepped given now done sent) owns)
+stands_quiet t owns now given (act.Known xid) sent q s = record { tracks = s.tracks }
+stands_quiet t owns now given (act.Regranted xid branch) sent q s = record { tracks = s.tracks }
+stands_quiet t owns now given (act.Conflict xid key holder rolling) sent q s = record { tracks = s.tracks }
+stands_quiet t owns now given (act.Closed xid status) sent q s = record { tracks = s.tracks }
+stands_quiet t owns now given (act.Told xid status) sent q s = record { tracks = s.tracks }
+stands_quiet t owns now given (act.Held key holder) sent q s = record { tracks = s.tracks }
+stands_quiet t owns now given act.Free sent q s = record { tracks = s.tracks }
+stands_quiet t owns now given act.Ignored sent q s = record { tracks = s.tracks }
+stands_quiet t owns now given act.Nothing sent q s = record { tracks = s.tracks }
 stands_quiet t owns now given _ sent q s = false_true q
 
 -- a branch was asked, or is to be asked again
-again : (t t' : Table) (owns : List Own) (now : ℕ) (xid : Xid) → Stands t owns → now < 2 ^ 64 → PlansAgain t t' xid.0 now → is_going (records owns) xid.0 ≡ true
-    → Tracks t'.memory t'.moments (records owns) (λ q. if xid.0 == q then now + t'.retry else due t'.retry 0 owns q) (rests_since 0 owns)
+again : (t t' : Knowledge) (owns : Course) (now : ℕ) (xid : Xid) → Follows t owns → now < 2 ^ 64 → PlansAgain t t' xid.0 now → is_going (records owns) xid.0 ≡ true
+    → Tracks t'.memory t'.moments (records owns) (λ q. if xid.0 == q then now + t'.retry else due_on t'.retry owns q) (rests_on owns)
 again t t' owns now xid s in_time plans going =
     tracks_same t.memory t'.memory t'.moments t'.moments (records owns) (records owns)
-    (λ q. if xid.0 == q then now + t.retry else due t.retry 0 owns q) (λ q. if xid.0 == q then now + t'.retry else due t'.retry 0 owns q) (rests_since 0 owns) (rests_since 0 owns)
-    (tracks_again t.memory t.moments (records owns) (due t.retry 0 owns) (rests_since 0 owns) s.tracks now in_time xid.0 (now + t.retry) t'.moments going plans.turns plans.rests)
-    plans.memory refl refl (λ q. ap (λ k. if xid.0 == q then now + k else due k 0 owns q) plans.same_retry) (λ q. refl)
+    (λ q. if xid.0 == q then now + t.retry else due_on t.retry owns q) (λ q. if xid.0 == q then now + t'.retry else due_on t'.retry owns q) (rests_on owns) (rests_on owns)
+    (tracks_again t.memory t.moments (records owns) (due_on t.retry owns) (rests_on owns) s.tracks now in_time xid.0 (now + t.retry) t'.moments going plans.turns plans.rests)
+    plans.memory refl refl (λ q. ap (λ k. if xid.0 == q then now + k else due_on k owns q) plans.same_retry) (λ q. refl)
 
-pub stands_asked : (t t' : Table) (owns : List Own) (now : ℕ) (given : Input) (xid : Xid) (branch : BranchId) (sent : Option Outgoing)
-    → Stands t owns → now < 2 ^ 64 → PlansAgain t t' xid.0 now → is_going (records owns) xid.0 ≡ true → Stands t' (stepped given now (act.Asked xid branch) sent ∷ owns)
-stands_asked t t' owns now given xid branch sent s in_time plans going = record { up = s.up; unarmed = s.unarmed; tracks = again t t' owns now xid s in_time plans going }
+pub stands_asked : (t t' : Knowledge) (owns : Course) (now : ℕ) (given : Input) (xid : Xid) (branch : BranchId) (sent : Option Outgoing)
+    → Follows t owns → now < 2 ^ 64 → PlansAgain t t' xid.0 now → is_going (records owns) xid.0 ≡ true → Follows t' (with_own (stepped given now (act.Asked xid branch) sent) owns)
+stands_asked t t' owns now given xid branch sent s in_time plans going = record { tracks = again t t' owns now xid s in_time plans going }
 
-pub stands_retry : (t t' : Table) (owns : List Own) (now : ℕ) (given : Input) (xid : Xid) (branch : BranchId) (sent : Option Outgoing)
-    → Stands t owns → now < 2 ^ 64 → PlansAgain t t' xid.0 now → is_going (records owns) xid.0 ≡ true → Stands t' (stepped given now (act.Retry xid branch) sent ∷ owns)
-stands_retry t t' owns now given xid branch sent s in_time plans going = record { up = s.up; unarmed = s.unarmed; tracks = again t t' owns now xid s in_time plans going }
+pub stands_retry : (t t' : Knowledge) (owns : Course) (now : ℕ) (given : Input) (xid : Xid) (branch : BranchId) (sent : Option Outgoing)
+    → Follows t owns → now < 2 ^ 64 → PlansAgain t t' xid.0 now → is_going (records owns) xid.0 ≡ true → Follows t' (with_own (stepped given now (act.Retry xid branch) sent) owns)
+stands_retry t t' owns now given xid branch sent s in_time plans going = record { tracks = again t t' owns now xid s in_time plans going }
 
--- ---- what a step takes, and what an error leaves
+-- ---- what an error leaves
 
-pub takes_by : (t t' : Table) (owns : List Own) (given : Input) (now : ℕ) (step done : Step)
-    → step ≡ done → done ≡ coordinator_answer (times_in t) [] owns (records owns) now given → Stands t' (own_step given now done ∷ owns) → TakesAfter owns t t' given now step
-takes_by t t' owns given now step done e is stands = (e ∙ is, subst (λ s. Stands t' (own_step given now s ∷ owns)) (sym e) stands)
-
-pub grows_none : (t : Table) (count : ℕ) → Grows t t count
-grows_none t count = record { retry = refl; forget = refl; acts = omega arith }
-
-after_acts : (r : SessionRecord) (s : Snapshot) → (after r s).acts ≡ s.acts + 1
-after_acts (log.Begun xid manager begun timeout) s = refl
-after_acts (log.Granted xid branch resource call ticket kind hold) s = refl
-after_acts (log.Decided xid how) s = refl
-after_acts (log.Ended xid branch) s = refl
-after_acts (log.Retrying xid) s = refl
-after_acts (log.Failed xid branch stmt) s = refl
-after_acts (log.Finished xid) s = refl
-after_acts (log.Forgot xid) s = refl
-
-pub grows_made : (t t' : Table) (r : SessionRecord) (now : ℕ) → Makes t t' r now → Grows t t' 1
-grows_made t t' r now m =
-    let acts : t'.memory.acts ≡ t.memory.acts + 1 = ap (λ (s : Snapshot). s.acts) m.memory ∙ after_acts r t.memory in
-    record { retry = m.same_retry; forget = m.same_forget; acts = omega (arith, acts) }
-
-pub grows_again : (t t' : Table) (x now count : ℕ) → PlansAgain t t' x now → Grows t t' count
-grows_again t t' x now count p =
-    let acts : t'.memory.acts ≡ t.memory.acts = ap (λ (s : Snapshot). s.acts) p.memory in
-    record { retry = p.same_retry; forget = p.same_forget; acts = omega (arith, acts) }
+pub same_times : (t : Knowledge) → SameTimes t t
+same_times t = record { retry = refl; forget = refl }
 
 -- nothing of the table changed, or only what can't be told apart
-pub unanswered_same : (t t' : Table) → t'.memory ≡ t.memory → t'.moments ≡ t.moments → t'.retry ≡ t.retry → t'.forget ≡ t.forget → IsUnanswered t t'
+pub unanswered_same : (t t' : Knowledge) → t'.memory ≡ t.memory → t'.moments ≡ t.moments → t'.retry ≡ t.retry → t'.forget ≡ t.forget → IsUnanswered t t'
 unanswered_same t t' memory moments retry forget = record {
   stands = λ owns s. record {
-    up = s.up;
-    unarmed = s.unarmed;
-    tracks = tracks_same t.memory t'.memory t.moments t'.moments (records owns) (records owns) (due t.retry 0 owns) (due t'.retry 0 owns) (rests_since 0 owns) (rests_since 0 owns) s.tracks
+    tracks = tracks_same t.memory t'.memory t.moments t'.moments (records owns) (records owns) (due_on t.retry owns) (due_on t'.retry owns) (rests_on owns) (rests_on owns) s.tracks
         memory moments refl (λ x. same_due t.retry t'.retry owns x retry) (λ x. refl);
   };
-  grows = record { retry = retry; forget = forget; acts = (let same : t'.memory.acts ≡ t.memory.acts = ap (λ (s : Snapshot). s.acts) memory in omega (arith, same)) };
+  same = record { retry = retry; forget = forget };
 }
 
-pub unanswered_back : (t t' : Table) (r : SessionRecord) (now : ℕ) → now < 2 ^ 64 → may_come t.memory r ≡ true → t'.memory ≡ t.memory → t'.moments ≡ withdrawn r (prepared r now t.moments) → t'.retry ≡ t.retry → t'.forget ≡ t.forget → IsUnanswered t t'
+pub unanswered_back : (t t' : Knowledge) (r : SessionRecord) (now : ℕ) → now < 2 ^ 64 → may_come t.memory r ≡ true → t'.memory ≡ t.memory → t'.moments ≡ withdrawn r (prepared r now t.moments) → t'.retry ≡ t.retry → t'.forget ≡ t.forget → IsUnanswered t t'
 unanswered_back t t' r now in_time may memory moments retry forget = record {
   stands = λ owns s. record {
-    up = s.up;
-    unarmed = s.unarmed;
-    tracks = tracks_same t.memory t'.memory (withdrawn r (prepared r now t.moments)) t'.moments (records owns) (records owns) (due t.retry 0 owns) (due t'.retry 0 owns) (rests_since 0 owns) (rests_since 0 owns)
-        (tracks_back t.memory t.moments (records owns) (due t.retry 0 owns) (rests_since 0 owns) s.tracks now in_time r may)
+    tracks = tracks_same t.memory t'.memory (withdrawn r (prepared r now t.moments)) t'.moments (records owns) (records owns) (due_on t.retry owns) (due_on t'.retry owns) (rests_on owns) (rests_on owns)
+        (tracks_back t.memory t.moments (records owns) (due_on t.retry owns) (rests_on owns) s.tracks now in_time r may)
         memory moments refl (λ x. same_due t.retry t'.retry owns x retry) (λ x. refl);
   };
-  grows = record { retry = retry; forget = forget; acts = (let same : t'.memory.acts ≡ t.memory.acts = ap (λ (s : Snapshot). s.acts) memory in omega (arith, same)) };
+  same = record { retry = retry; forget = forget };
 }

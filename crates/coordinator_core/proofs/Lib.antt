@@ -1,13 +1,22 @@
-mod PlanLaws
-mod Firsts
-mod Records
-mod Kept
-mod Laws
-mod Chosen
-mod Takes
-mod TakesBranches
-mod TakesRows
-mod TakesTurns
-mod Stepped
-mod Unended
-pub mod Facts
+pub mod PlanLaws
+pub mod Firsts
+pub mod Records
+pub mod Kept
+pub mod Laws
+pub mod Chosen
+pub mod Errors
+pub mod Takes
+pub mod TakesBranches
+pub mod TakesRows
+pub mod TakesTurns
+pub mod Registered
+pub mod Holds
+pub mod Disks
+pub mod Stays
+pub mod Arms
+pub mod Started
+pub mod Stepped
+pub mod Restarted
+pub mod Opened
+pub mod Unended
+pub mod Blank

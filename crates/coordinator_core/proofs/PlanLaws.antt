@@ -1,12 +1,10 @@
 -- The moment of a transaction after it was planned, and after it is planned no more.
-use Rattle.std.proofs.Common.{◌≡◌, ◌==◌, ◌<◌, ◌≤◌, ℕ, Bool, true, false, cond, List, [], ◌∷◌, Option, Some, None, Ordering, Less, Equal, Greater, refl, sym, ap, ◌∙◌, arith}
-use Rattle.std.specs.BTreeMap.{insert_entry, is_at}
-use Rattle.std.specs.Map.{lookup, remove_entry}
+use Rattle.std.proofs.Common.{◌≡◌, ◌==◌, ◌<◌, ◌≤◌, ℕ, Bool, true, false, cond, [], ◌∷◌, Option, Some, None, Ordering, Less, Equal, Greater, refl, sym, ap, ◌∙◌, arith}
+use Rattle.std.specs.BTreeMap.{insert_entry}
 use Rattle.std.specs.Ordering.{nat_cmp, is_eq, match_ordering}
 use Rattle.std.specs.Cmp.{unsigned_tied}
-use Rattle.std.proofs.lemmas.Bool.Decides.{nat_tests}
 use Rattle.retry_turns.specs.Plans.{Plans, moment_of, with_plan, without_plan}
-use Rattle.session_memory.specs.Order.{AreAbove, AreRising}
+use Rattle.session_memory.specs.Order.{AreAbove}
 use Rattle.session_memory.proofs.Small.{same_nat, nat_same, nat_differs, cmp_is, false_true}
 use Rattle.coordinator_core.specs.Tracks.{planned_xid, AreInOrder}
 

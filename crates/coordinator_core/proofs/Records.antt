@@ -1,5 +1,5 @@
 -- Which transactions are in their second phase, and which are finished, after one more record.
-use Rattle.std.proofs.Common.{◌≡◌, ◌==◌, ◌&&◌, ◌≤◌, ◌+◌, not, ℕ, Bool, true, false, cond, if◌then◌else◌, List, [], ◌∷◌, length, Option, Some, None, is_some, is_none, refl, sym, ap, ◌∙◌, arith}
+use Rattle.std.proofs.Common.{◌≡◌, ◌==◌, ◌&&◌, ◌≤◌, ◌+◌, not, ℕ, Bool, true, false, cond, if◌then◌else◌, List, ◌∷◌, length, Option, Some, None, is_some, is_none, refl, sym, ap, ◌∙◌, arith}
 use Rattle.std.specs.Prelude.{find}
 use Rattle.seata_types.specs.declared.ids.Xid.{Xid}
 use Rattle.seata_types.specs.declared.statuses.Decision.{Decision}
@@ -7,12 +7,11 @@ use Rattle.durable_records.specs.declared.coordinators.SessionRecord.{SessionRec
 use Rattle.durable_records.specs.declared.coordinators.SessionRecord.TheVariants as log
 use Rattle.durable_records.specs.Transactions.{Session as Began, sessions, session, session_for, has_xid, decided, is_forgotten, next_xid}
 use Rattle.durable_records.specs.Branches.{unended, unended_branch}
-use Rattle.durable_records.specs.Progress.{Progress, Goes, Retries, IsFailed, IsDone, progress, is_known, is_on, is_done, may_decide, is_going, is_finished, may_retry}
+use Rattle.durable_records.specs.Progress.{Progress, Goes, Retries, IsFailed, IsDone, progress, is_known, is_on, is_done, may_decide, is_going, is_finished}
 use Rattle.durable_records.specs.SessionOrder.{May, Allowed, is_empty}
-use Rattle.session_memory.specs.Order.{Each}
-use Rattle.session_memory.proofs.Small.{false_true, true_false, and_left, and_right, same_nat, nat_differs, moved}
+use Rattle.session_memory.proofs.Small.{false_true, and_left, and_right, same_nat, nat_differs, moved}
 use Rattle.session_memory.proofs.Lists.{AreCounted, each_same, up_to, find_missing, and_false}
-use Rattle.durable_records.proofs.RecordFacts.{Known, known, Numbered, numbered, began_xid, decide_none, going_decided, going_on, finished_known}
+use Rattle.durable_records.proofs.RecordFacts.{known, numbered, began_xid, decide_none, going_decided, going_on}
 use Rattle.coordinator_core.proofs.Laws.{retry_going}
 
 -- the next transaction isn't there yet

@@ -1,44 +1,315 @@
--- A step of the coordinator is what happens by the rules.
-use Rattle.std.proofs.Common.{◌≡◌, ◌+◌, ◌≤◌, ◌<◌, ◌^◌, ℕ, List, Ok, Err, refl, sym, ap, ◌∙◌, arith}
+-- A step of the coordinator is what happens by the rules, as far as its disks let it.
+use Rattle.std.proofs.Common.{◌≡◌, ◌⊎◌, inl, inr, ◌+◌, ℕ, Bool, true, false, List, ◌∷◌, Option, Some, option_map, refl, sym, ap, subst, ◌∙◌, arith}
+use Rattle.std.specs.Prelude.{Ok, Err}
+use Rattle.std.specs.Option.{option_and_then}
+use Rattle.disk_model.specs.Disk.{DiskState, IsLawful}
+use Rattle.disk_model.specs.Stop.{state_of}
+use Rattle.disk_model.specs.declared.stoppable.Stoppable.{Stoppable}
+use Rattle.seata_types.specs.declared.acts.Act.{Act}
+use Rattle.seata_types.specs.declared.acts.Act.TheVariants as act
+use Rattle.seata_types.specs.declared.acts.Durable.{Durable}
+use Rattle.seata_types.specs.declared.errors.Full.{Full}
+use Rattle.seata_types.specs.declared.errors.NodeError.{NodeError}
 use Rattle.seata_types.specs.declared.errors.NodeError.TheVariants as error
 use Rattle.seata_types.specs.declared.messages.Input.{Input}
+use Rattle.seata_types.specs.declared.messages.Input.TheVariants as input
 use Rattle.seata_types.specs.declared.messages.Step.{Step}
-use Rattle.history_rules.specs.Own.{Own, Given}
-use Rattle.history_rules.specs.CoordinatorRules.{coordinator_answer}
-use Rattle.history_rules.specs.Nodes.{happens}
+use Rattle.durable_records.specs.declared.coordinators.SessionRecord.{SessionRecord}
+use Rattle.session_log.specs.declared.sessions.Snapshot.{Snapshot}
+use Rattle.session_log.specs.Records.{record_bytes}
+use Rattle.session_store.specs.declared.sessions.Sessions.{Sessions}
+use Rattle.session_store.specs.Keeping.{known, is_down as sessions_down}
+use Rattle.history_rules.specs.Own.{Own, Left, Given, Event, leaves, added, asked_act}
+use Rattle.history_rules.specs.Devices.{calls_left, fails, fault_of, left_after, down_after, written, is_down as down_by}
+use Rattle.history_rules.specs.CoordinatorMemory.{Times, sessions_left, session_record, session_asked}
+use Rattle.history_rules.specs.Nodes.{Role, Resource, Manager, answer, happens, left_at}
+use Rattle.history_rules.specs.Nodes.{Coordinator as CoordinatorRole}
 use Rattle.history_text.specs.Framing.{ComesFramable}
-use Rattle.history_text.specs.Promises.{TakesStep}
-use Rattle.history_text.proofs.Served.{happens_plain}
+use Rattle.history_text.specs.Promises.{TakesStep, FailsAt, StandsAsBefore, Overflows, own_step, DisksFail}
 use Rattle.coordinator_core.specs.declared.nodes.Coordinator.{Coordinator}
-use Rattle.coordinator_core.specs.Answers.{IsAnswered, IsUnanswered}
-use Rattle.coordinator_core.specs.Standing.{StandsFor, times_of, role_of}
+use Rattle.coordinator_core.specs.Knowledge.{Knowledge, knowledge, times_in}
+use Rattle.coordinator_core.specs.Answers.{is_answer, Frames, IsUnanswered, IsCut, IsOver, Puts, AnswersWhere, SameTimes}
+use Rattle.coordinator_core.specs.Moving.{Misses}
+use Rattle.coordinator_core.specs.Serving.{ServesInput}
+use Rattle.coordinator_core.specs.Standing.{StandsAs, StandsOver, OnDisks, course, serves, disks_of, sessions_of, is_down, needs, size_of, times_of}
+use Rattle.coordinator_core.specs.Tracks.{with_own, rule_answer, Follows, IsSendable, AreSendable}
+use Rattle.coordinator_core.specs.NodeLaws.{on_same}
 use Rattle.coordinator_core.specs.Stepping.{StepsBy}
+use Rattle.coordinator_core.proofs.Stays.{remains_put, remains_lost, remains_same, stays_itself, same_picks}
+use Rattle.coordinator_core.proofs.Disks.{false_true, on_added, on_lost, long, cause, kept_now}
 
-module _ (c c' : Coordinator) (given : Input) (now : ℕ) where
-  takes : (step : Step) → IsAnswered (λ owns. ComesFramable given) c.table c'.table given now step → TakesStep StandsFor (role_of (times_of c)) c c' given now step
-  unfolding StandsFor
-  takes step a owns s served =
-      let taken = a.takes owns s served in (taken.0 ∙ sym (happens_plain (role_of (times_of c)) owns now given s.up s.unarmed), taken.1)
+-- what is served can be framed
+pub served_framable : (managers resources : ℕ) (given : Input) → ServesInput managers resources given → ComesFramable given
+served_framable managers resources (input.Message from heard) s = s.framable
+served_framable managers resources input.Turn s = tt
+served_framable managers resources (input.Local number) s = tt
+served_framable managers resources (input.Outside number) s = tt
 
-  pub stepped : (step : Step) → IsAnswered (λ owns. ComesFramable given) c.table c'.table given now step → c'.left + 1 ≡ c.left → StepsBy c c' given now (Ok step)
-  stepped step a counted = record {
-    answers = takes step a;
-    framable = a.framable;
-    after = tt;
-    cause = tt;
-    same = λ i. record { retry = a.grows.retry i; forget = a.grows.forget i };
-    counted = counted;
-    up = refl;
-  }
+-- ---- acts that are no records
 
-  pub refused : IsUnanswered c.table c'.table → c'.left ≡ c.left → StepsBy c c' given now (Err error.NoMemory)
-  unfolding StandsFor
-  refused u counted = record {
-    answers = tt;
-    framable = λ f. tt;
-    after = λ owns s. u.stands owns s;
-    cause = tt;
-    same = λ i. record { retry = u.grows.retry i; forget = u.grows.forget i };
-    counted = omega (arith, counted);
-    up = refl;
-  }
+abbrev pub is_still : Act → Bool
+is_still (act.Durable done) = false
+is_still (act.Down kept at) = false
+is_still (act.Restarted kept) = false
+is_still act.Armed = false
+is_still _ = true
+
+still_down : (a : Act) (b : Bool) → is_still a ≡ true → down_after a b ≡ b
+still_down (act.Durable done) b e = false_true e
+still_down (act.Down kept at) b e = false_true e
+still_down (act.Restarted kept) b e = false_true e
+still_down act.Armed b e = false_true e
+still_down _ b e = refl
+
+still_leaves : (a : Act) (asked : Option SessionRecord) (left : Left SessionRecord) → is_still a ≡ true → leaves a asked left ≡ left
+still_leaves (act.Durable done) asked left e = false_true e
+still_leaves (act.Down kept at) asked left e = false_true e
+still_leaves (act.Restarted kept) asked left e = false_true e
+still_leaves act.Armed asked left e = false_true e
+still_leaves _ asked left e = refl
+
+still_left : (given : Input) (a : Act) (before : Option ℕ) → is_still a ≡ true → left_after false (Given given) a before ≡ before
+still_left given (act.Durable done) before e = false_true e
+still_left given (act.Down kept at) before e = false_true e
+still_left given (act.Restarted kept) before e = false_true e
+still_left given act.Armed before e = false_true e
+still_left given _ before e = refl
+
+still_fault : (a : Act) (left : Option ℕ) → is_still a ≡ true → fault_of a left ≡ 0
+still_fault (act.Durable done) left e = false_true e
+still_fault (act.Down kept at) left e = false_true e
+still_fault (act.Restarted kept) left e = false_true e
+still_fault act.Armed left e = false_true e
+still_fault _ left e = refl
+
+still_puts : {D : Type 0} (state : D → DiskState) (event : Event) (now : ℕ) (a : Act) (old new : Sessions D) → is_still a ≡ true → Puts state event now a old new → new ≡ old
+still_puts state event now (act.Durable done) old new e p = false_true e
+still_puts state event now (act.Down kept at) old new e p = false_true e
+still_puts state event now (act.Restarted kept) old new e p = false_true e
+still_puts state event now act.Armed old new e p = false_true e
+still_puts state event now _ old new e p = p
+
+-- an answer is no record, or one
+answer_kind : (a : Act) → is_answer a ≡ true → (is_still a ≡ true) ⊎ ((d : Durable) × (a ≡ act.Durable d))
+answer_kind (act.Durable done) e = inr (done, refl)
+answer_kind (act.Down kept at) e = false_true e
+answer_kind (act.Restarted kept) e = false_true e
+answer_kind act.Armed e = false_true e
+answer_kind _ e = inl refl
+
+still_written : (b : Bool) (step : Step) (a : Act) → is_still a ≡ true → written b step a ≡ step
+still_written b step (act.Durable done) e = false_true e
+still_written b step (act.Down kept at) e = refl
+still_written b step (act.Restarted kept) e = refl
+still_written b step act.Armed e = refl
+still_written b step _ e = refl
+
+abbrev some_record : SessionRecord → Option SessionRecord
+some_record r = Some r
+
+one_record : (r q : SessionRecord) → some_record r ≡ Some q → r ≡ q
+one_record r q e = cc
+
+-- what happens at a node that is up: its rule's answer, written
+happens_up : (role : Role) (owns : List Own) (now : ℕ) (fault : Bool) (given : Input) (step : Step) → down_by owns ≡ false → step ≡ answer role owns now given
+    → happens role owns now fault false (Given given) ≡ written (fails fault (left_at role owns)) step step.act
+happens_up role owns now fault given step up is = rw up (ap (λ (s : Step). written (fails fault (left_at role owns)) s s.act) (sym is))
+
+pub times_same : (old new : Knowledge) → SameTimes old new → times_in new ≡ times_in old
+times_same old new s = λ i. record { retry = s.retry i; forget = s.forget i }
+
+module _ {D : Type 0} (state : D → DiskState) (law : (d : Stoppable D) → IsLawful (state_of state d)) (c c' : Coordinator D) (given : Input) (now : ℕ) (up : is_down c ≡ false) (served : serves c given) where
+  framable : ComesFramable given
+  framable = served_framable _ _ given served
+
+  upon : (past : List SessionRecord) (owns : List Own) → StandsOver state c past owns → down_by owns ≡ false
+  upon past owns s = sym s.disks.down ∙ up
+
+  -- the rule's answer, by what is known
+  is_rule : (times : Times) (past : List SessionRecord) (owns : List Own) (step : Step) → times ≡ times_of c → step ≡ rule_answer (times_of c) (course past owns) now given
+      → step ≡ answer (CoordinatorRole times past) owns now given
+  is_rule times past owns step same is = is ∙ ap (λ t. rule_answer t (course past owns) now given) (sym same)
+
+  -- ---- an answer
+
+  module _ (step : Step) (a : AnswersWhere (state_of state) (λ owns. ComesFramable given) c.table c'.table given now (Ok step)) where
+    stands_by : (past : List SessionRecord) (owns : List Own) (s : StandsOver state c past owns) → Follows (knowledge c'.table) (with_own (own_step given now step) (course past owns))
+        → (is_still step.act ≡ true) ⊎ ((d : Durable) × (step.act ≡ act.Durable d)) → OnDisks state (sessions_of c') past (own_step given now step ∷ owns)
+    stands_by past owns s f (inl e) =
+        let same = still_puts (state_of state) (Given given) now step.act (sessions_of c) (sessions_of c') e a.1 in
+        let none = still_fault step.act (calls_left false owns) e in
+        subst (λ q. OnDisks state q past (own_step given now step ∷ owns)) (sym same)
+        (on_same state (sessions_of c) past owns (own_step given now step ∷ owns) (still_down step.act (down_by owns) e) (still_leaves step.act _ (sessions_left past owns) e)
+        (still_left given step.act (calls_left false owns) e) (omega (arith, none)) s.disks)
+    stands_by past owns s f (inr (d, is)) =
+        let puts = subst (λ k. Puts (state_of state) (Given given) now k (sessions_of c) (sessions_of c')) is a.1 in
+        subst (λ k. OnDisks state (sessions_of c') past (own_step given now (record { act = k; sent = step.sent }) ∷ owns)) (sym is)
+        (on_added state law (sessions_of c) (sessions_of c') past owns s.disks up given now d puts.0 puts.1 puts.2 step.sent)
+
+    written_by : (past : List SessionRecord) (owns : List Own) (s : StandsOver state c past owns) → (is_still step.act ≡ true) ⊎ ((d : Durable) × (step.act ≡ act.Durable d))
+        → written (fails false (calls_left false owns)) step step.act ≡ step
+    written_by past owns s (inl e) = still_written _ step step.act e
+    written_by past owns s (inr (d, is)) =
+        let puts = subst (λ k. Puts (state_of state) (Given given) now k (sessions_of c) (sessions_of c')) is a.1 in
+        ap (λ b. written b step step.act) (long state law (sessions_of c) (sessions_of c') past owns s.disks up given now d puts.0 puts.1 puts.2) ∙ ap (written false step) is
+
+    pub takes_step : TakesStep (StandsAs state) c c' given now step
+    takes_step (CoordinatorRole times past) owns (same, s) =
+        let taken = a.0.takes (course past owns) (s.follows (upon past owns s)) framable in
+        let kind = answer_kind step.act taken.2 in (
+          sym (happens_up (CoordinatorRole times past) owns now false given step (upon past owns s) (is_rule times past owns step same taken.0) ∙ written_by past owns s kind),
+          (
+            same ∙ sym (times_same (knowledge c.table) (knowledge c'.table) a.0.same),
+            record {
+              disks = stands_by past owns s taken.1 kind;
+              follows = λ e. taken.1;
+              fallen = λ e. false_true (sym (downs_by past owns s taken.1 kind) ∙ e);
+            },
+          ),
+        )
+      where
+        downs_by : (past : List SessionRecord) (owns : List Own) (s : StandsOver state c past owns) → Follows (knowledge c'.table) (with_own (own_step given now step) (course past owns))
+            → (is_still step.act ≡ true) ⊎ ((d : Durable) × (step.act ≡ act.Durable d)) → down_after step.act (down_by owns) ≡ false
+        downs_by past owns s f (inl e) = still_down step.act (down_by owns) e ∙ upon past owns s
+        downs_by past owns s f (inr (d, is)) = ap (λ k. down_after k (down_by owns)) is ∙ upon past owns s
+    takes_step (Resource setup past) owns s = absurd s
+    takes_step (Manager settings) owns s = absurd s
+
+  -- ---- the disks failed
+
+  -- the record of a durable act
+  asked_by : (a : Act) (done : Durable) (r : SessionRecord) → a ≡ act.Durable done → session_record now (Given given) done ≡ Some r
+      → option_and_then (session_record now (Given given)) (asked_act a) ≡ Some r
+  asked_by a done r is asked = ap (λ k. option_and_then (session_record now (Given given)) (asked_act k)) is ∙ asked
+
+  -- what is known after a record has it
+  sendable_by : (past : List SessionRecord) (owns : List Own) (k : Knowledge) (step : Step) (done : Durable) (r : SessionRecord) → step.act ≡ act.Durable done → session_record now (Given given) done ≡ Some r
+      → Follows k (with_own (own_step given now step) (course past owns)) → AreSendable (r ∷ (sessions_left past owns).records)
+  sendable_by past owns k step done r is asked f =
+      subst (λ i. AreSendable (added i (sessions_left past owns).records)) asked
+      (subst (λ q. AreSendable (leaves q (option_and_then (session_record now (Given given)) (asked_act q)) (sessions_left past owns)).records) is f.tracks.sendable)
+
+  module _ (done : Durable) (i : IsCut (state_of state) (λ owns. ComesFramable given) c.table c'.table given now done) (flight : c'.flight ≡ Some done) (count : c'.records ≡ (known (sessions_of c)).acts) where
+    pub fails_at : FailsAt (StandsAs state) (DisksFail (disks_of state c) (disks_of state c')) c c' given now done
+    fails_at (CoordinatorRole times past) owns (same, s) =
+        let taken = i.due.answered.takes (course past owns) (s.follows (upon past owns s)) framable in
+        let kept = kept_now state law (sessions_of c) (sessions_of c') past owns s.disks up given now done i.r i.due.asked in
+        let sends = sendable_by past owns (knowledge c'.table) i.due.step done i.r i.due.durable i.due.asked taken.1 in (
+          sym (happens_up (CoordinatorRole times past) owns now true given i.due.step (upon past owns s) (is_rule times past owns i.due.step same taken.0) ∙ ap (written true i.due.step) i.due.durable),
+          (
+            same ∙ sym (times_same (knowledge c.table) (knowledge c'.table) i.due.answered.same),
+            record {
+              disks = on_lost state law (sessions_of c) (sessions_of c') past owns s.disks up given now done i.r i.due.asked i.loses;
+              follows = λ e. false_true (sym e);
+              fallen = λ e. record {
+                flight = flight;
+                count = count ∙ ap (λ (k : Snapshot). k.acts) kept.knows;
+                sendable = sends.0;
+                pending = λ q is. subst IsSendable (one_record i.r q (sym i.due.asked ∙ is)) sends.1;
+              };
+            },
+          ),
+          cause state law (sessions_of c) (sessions_of c') past owns s.disks up given now done i.r i.due.asked i.loses,
+        )
+    fails_at (Resource setup past) owns s = absurd s
+    fails_at (Manager settings) owns s = absurd s
+
+  -- ---- nothing changed
+
+  module _ (u : IsUnanswered (knowledge c.table) (knowledge c'.table)) (same_sessions : sessions_of c' ≡ sessions_of c) where
+    pub stands_before : StandsAsBefore (StandsAs state) c c'
+    stands_before (CoordinatorRole times past) owns (same, s) = (
+      same ∙ sym (times_same (knowledge c.table) (knowledge c'.table) u.same),
+      record {
+        disks = subst (λ q. OnDisks state q past owns) (sym same_sessions) s.disks;
+        follows = λ e. u.stands (course past owns) (s.follows e);
+        fallen = λ e. false_true (sym (upon past owns s) ∙ e);
+      },
+    )
+    stands_before (Resource setup past) owns s = absurd s
+    stands_before (Manager settings) owns s = absurd s
+
+  pub overflows : (full : Full) → IsOver (state_of state) (λ owns. ComesFramable given) c.table c'.table given now full → Overflows (StandsAs state) (needs c) (size_of state c) c given now full
+  overflows full i (CoordinatorRole times past) owns (same, s) =
+      let taken = i.due.answered.takes (course past owns) (s.follows (upon past owns s)) framable in
+      let kept = s.disks.keeps (upon past owns s) in
+      let asked = asked_by i.due.step.act i.done i.r i.due.durable i.due.asked in (
+        record_bytes i.r,
+        ap (λ (k : Step). option_map record_bytes (session_asked (own_step given now k))) (sym (is_rule times past owns i.due.step same taken.0)) ∙ ap (option_map record_bytes) asked,
+        i.no_room kept.found kept.store,
+      )
+  overflows full i (Resource setup past) owns s = absurd s
+  overflows full i (Manager settings) owns s = absurd s
+
+-- ---- all that is promised of a step
+
+-- what is kept of a step without an answer
+abbrev pub MissesOnly : {D : Type 0} → (records : ℕ) → NodeError → Coordinator D → Coordinator D → Type 0
+MissesOnly records (error.Failed done) old new = (new.flight ≡ Some done) × (new.records ≡ records) × (new.left + 1 ≡ old.left)
+MissesOnly records (error.Full full) old new = new.left ≡ old.left
+MissesOnly records error.NoMemory old new = new.left ≡ old.left
+
+module _ {D : Type 0} (state : D → DiskState) (law : (d : Stoppable D) → IsLawful (state_of state d)) (c c' : Coordinator D) (given : Input) (now : ℕ) (up : is_down c ≡ false) (served : serves c given) where
+  -- it is up after an answer
+  up_after : (a : Act) → Puts (state_of state) (Given given) now a (sessions_of c) (sessions_of c') → is_down c' ≡ false
+  up_after (act.Durable done) p = p.2.up
+  up_after _ p = ap sessions_down p ∙ up
+
+  pub stepped : (step : Step) → AnswersWhere (state_of state) (λ owns. ComesFramable given) c.table c'.table given now (Ok step) → Frames given (Ok step) → c'.left + 1 ≡ c.left
+      → StepsBy state c c' given now (Ok step)
+  stepped step a f counted =
+      let remains = remains_put state (Given given) now step.act (sessions_of c) (sessions_of c') a.1 in record {
+        answers = takes_step state law c c' given now up served step a;
+        framable = f;
+        after = tt;
+        same = stays_itself state c c' remains;
+        picks = same_picks state c c' remains;
+        counted = counted;
+        down = up_after step.act a.1;
+      }
+
+  -- it ends without an answer
+  pub missed : (failed : NodeError) → AnswersWhere (state_of state) (λ owns. ComesFramable given) c.table c'.table given now (Err failed) → MissesOnly (known (sessions_of c)).acts failed c c'
+      → StepsBy state c c' given now (Err failed)
+  missed (error.Failed done) i m =
+      let remains = remains_lost state i.r (sessions_of c) (sessions_of c') i.loses in record {
+        answers = tt;
+        framable = λ f. tt;
+        after = fails_at state law c c' given now up served done i m.0 m.1;
+        same = stays_itself state c c' remains;
+        picks = same_picks state c c' remains;
+        counted = m.2;
+        down = i.loses.down;
+      }
+  missed (error.Full full) i m =
+      let remains = remains_same state (sessions_of c) (sessions_of c') i.sessions in record {
+        answers = tt;
+        framable = λ f. tt;
+        after = (stands_before state law c c' given now up served i.unanswered i.sessions, overflows state law c c' given now up served full i);
+        same = stays_itself state c c' remains;
+        picks = same_picks state c c' remains;
+        counted = omega (arith, m);
+        down = ap sessions_down i.sessions ∙ up;
+      }
+  missed error.NoMemory i m =
+      let remains = remains_same state (sessions_of c) (sessions_of c') i.1 in record {
+        answers = tt;
+        framable = λ f. tt;
+        after = stands_before state law c c' given now up served i.0 i.1;
+        same = stays_itself state c c' remains;
+        picks = same_picks state c c' remains;
+        counted = omega (arith, m);
+        down = ap sessions_down i.1 ∙ up;
+      }
+
+  -- the same where the act in flight is kept after the table's answer
+  pub missed_after : (mid : Coordinator D) (count : ℕ) → count ≡ (known (sessions_of c)).acts → mid.left ≡ c.left → (failed : NodeError)
+      → AnswersWhere (state_of state) (λ owns. ComesFramable given) c.table mid.table given now (Err failed) → Misses count failed mid c' → StepsBy state c c' given now (Err failed)
+  missed_after mid count counted left (error.Failed done) a (table, start, flight, records, less) =
+      missed (error.Failed done) (subst (λ t. AnswersWhere (state_of state) (λ owns. ComesFramable given) c.table t given now (Err (error.Failed done))) (sym table) a) (flight, records ∙ counted, less ∙ left)
+  missed_after mid count counted left (error.Full full) a same =
+      missed (error.Full full) (subst (λ (q : Coordinator D). AnswersWhere (state_of state) (λ owns. ComesFramable given) c.table q.table given now (Err (error.Full full))) (sym same) a)
+      (ap (λ (q : Coordinator D). q.left) same ∙ left)
+  missed_after mid count counted left error.NoMemory a same =
+      missed error.NoMemory (subst (λ (q : Coordinator D). AnswersWhere (state_of state) (λ owns. ComesFramable given) c.table q.table given now (Err error.NoMemory)) (sym same) a)
+      (ap (λ (q : Coordinator D). q.left) same ∙ left)

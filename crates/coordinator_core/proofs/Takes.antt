@@ -1,14 +1,11 @@
 -- The steps of the table are the answers of the rules.
-use Rattle.std.proofs.Common.{◌≡◌, ◌==◌, ◌&&◌, ◌<◌, ◌≤◌, ◌+◌, ◌^◌, not, ℕ, Bool, true, false, cond, if◌then◌else◌, List, [], ◌∷◌, ◌++◌, length, Option, Some, None, option_map, is_some, is_none, refl, sym, ap, subst, ◌∙◌, arith}
-use Rattle.std.specs.Prelude.{nat_le, nat_lt, IfSome}
+use Rattle.std.proofs.Common.{◌≡◌, ◌==◌, ◌<◌, ◌+◌, ◌^◌, ℕ, Bool, true, false, if◌then◌else◌, List, ◌∷◌, Option, Some, None, option_map, is_none, refl, sym, ap, subst, ◌∙◌}
 use Rattle.seata_types.specs.declared.acts.Act.{Act}
 use Rattle.seata_types.specs.declared.acts.Act.TheVariants as act
 use Rattle.seata_types.specs.declared.acts.Durable.{Durable}
 use Rattle.seata_types.specs.declared.acts.Durable.TheVariants as durable
 use Rattle.seata_types.specs.declared.ids.Xid.{Xid}
 use Rattle.seata_types.specs.declared.ids.BranchId.{BranchId}
-use Rattle.seata_types.specs.declared.ids.Leg.{Leg}
-use Rattle.seata_types.specs.declared.ids.Ticket.{Ticket}
 use Rattle.seata_types.specs.declared.ids.Place.{Place}
 use Rattle.seata_types.specs.declared.ids.Place.TheVariants as place
 use Rattle.seata_types.specs.declared.messages.Input.{Input}
@@ -28,25 +25,24 @@ use Rattle.durable_records.specs.Branches.{branches, all_at}
 use Rattle.durable_records.specs.Progress.{Progress, Goes, IsDone, progress, status_by, status_of, is_known, may_decide, is_going as goes}
 use Rattle.durable_records.specs.SessionOrder.{Allowed, May}
 use Rattle.frame_codec.specs.Limits.{IsFramable}
-use Rattle.history_rules.specs.Own.{Event, Given, Own, still, sends}
-use Rattle.history_rules.specs.CoordinatorMemory.{session_record, is_past, due, rests_since, due_by_durable, rests_after}
-use Rattle.history_rules.specs.CoordinatorRules.{coordinator_answer, begin_answer, commit_answer, commit_decides, rollback_answer, decided_status}
+use Rattle.history_rules.specs.Own.{Given, still, sends}
+use Rattle.history_rules.specs.CoordinatorMemory.{session_record, is_past, due_by_durable, rests_after}
+use Rattle.history_rules.specs.CoordinatorRules.{begin_answer, commit_answer, commit_decides, rollback_answer, decided_status}
 use Rattle.history_text.specs.Framing.{ComesFramable, SendsFramable}
 use Rattle.history_text.specs.Promises.{own_step}
 use Rattle.session_log.specs.declared.sessions.Snapshot.{Snapshot}
-use Rattle.session_log.specs.SnapshotOf.{session_now, snapshot_of}
+use Rattle.session_log.specs.SnapshotOf.{session_now}
 use Rattle.session_memory.specs.Changes.{may_come, after}
 use Rattle.session_memory.specs.Lookups.{status_in, session_in, xid_for}
-use Rattle.session_memory.proofs.Small.{false_true, true_false, none_some, and_left, and_both, same_nat, nat_same, is_none_none}
+use Rattle.session_memory.proofs.Small.{false_true, true_false, none_some, and_left, and_both, nat_same}
 use Rattle.session_memory.proofs.StepLaws.{snapshot_after}
 use Rattle.durable_records.proofs.RecordFacts.{known, decide_none}
-use Rattle.coordinator_core.specs.declared.table.Table.{Table}
-use Rattle.coordinator_core.specs.Answers.{TakesAfter, IsAnswered, Grows}
+use Rattle.coordinator_core.specs.Knowledge.{Knowledge, times_in}
+use Rattle.coordinator_core.specs.Answers.{is_answer, IsAnswered}
 use Rattle.coordinator_core.specs.Changes.{Makes, IsMade, PlansAgain}
 use Rattle.coordinator_core.specs.Choices.{has_passed_in}
-use Rattle.coordinator_core.specs.Standing.{times_in}
-use Rattle.coordinator_core.specs.Tracks.{Stands, IsSendable, records}
-use Rattle.coordinator_core.proofs.Kept.{due_by, rested_by, may_by, may_is, is_quiet, stands_made, stands_quiet, stands_asked, stands_retry, grows_none, grows_made, grows_again}
+use Rattle.coordinator_core.specs.Tracks.{Course, with_own, rule_answer, due_on, rests_on, Follows, IsSendable, records}
+use Rattle.coordinator_core.proofs.Kept.{due_by, rested_by, may_by, may_is, is_quiet, quiet_answers, stands_made, stands_quiet, stands_asked, stands_retry, same_times}
 use Rattle.coordinator_core.proofs.Laws.{AnswersAlike, answers_alike, began_as}
 
 abbrev pub of_act : Act → Option Outgoing → Step
@@ -54,69 +50,68 @@ of_act done sent = record { act = done; sent = sent }
 
 -- ---- steps of each kind
 
-module _ (Applies : List Own → Type 0) (t : Table) (given : Input) (now : ℕ) (step : Step) where
+module _ (Applies : Course → Type 0) (t : Knowledge) (given : Input) (now : ℕ) (step : Step) where
   abbrev pub Rule : Step → Type 0
-  Rule done = (owns : List Own) → Stands t owns → Applies owns → done ≡ coordinator_answer (times_in t) [] owns (records owns) now given
+  Rule done = (owns : Course) → Follows t owns → Applies owns → done ≡ rule_answer (times_in t) owns now given
 
   -- nothing changes
-  pub answered_quiet : (done : Act) (sent : Option Outgoing) → step ≡ of_act done sent → is_quiet done ≡ true → Rule (of_act done sent) → (ComesFramable given → SendsFramable step)
+  pub answered_quiet : (done : Act) (sent : Option Outgoing) → step ≡ of_act done sent → is_quiet done ≡ true → Rule (of_act done sent)
       → IsAnswered Applies t t given now step
-  answered_quiet done sent e quiet rule framable = record {
+  answered_quiet done sent e quiet rule = record {
     takes = λ owns s applies. (
       e ∙ rule owns s applies,
-      subst (λ k. Stands t (own_step given now k ∷ owns)) (sym e) (stands_quiet t owns now given done sent quiet s),
+      subst (λ k. Follows t (with_own (own_step given now k) owns)) (sym e) (stands_quiet t owns now given done sent quiet s),
+      ap (λ (k : Step). is_answer k.act) e ∙ quiet_answers done quiet,
     );
-    framable = framable;
-    grows = grows_none t 1;
+    same = same_times t;
   }
 
   -- a record is made
-  pub answered_made : (t' : Table) (r : SessionRecord) (d : Durable) (sent : Option Outgoing) → now < 2 ^ 64 → Makes t t' r now → step ≡ of_act (act.Durable d) sent
+  pub answered_made : (t' : Knowledge) (r : SessionRecord) (d : Durable) (sent : Option Outgoing) → now < 2 ^ 64 → Makes t t' r now → step ≡ of_act (act.Durable d) sent
       → session_record now (Given given) d ≡ Some r
       → ((x before : ℕ) → due_by_durable t.retry now d x before ≡ due_by t.retry now r x before)
       → ((x before : ℕ) → rests_after now (act.Durable d) x before ≡ rested_by now r x before)
-      → ((owns : List Own) → Stands t owns → Applies owns → IsSendable r)
-      → Rule (of_act (act.Durable d) sent) → (ComesFramable given → SendsFramable step) → IsAnswered Applies t t' given now step
-  answered_made t' r d sent in_time makes e asked dues rests sendable rule framable = record {
+      → ((owns : Course) → Follows t owns → Applies owns → IsSendable r)
+      → Rule (of_act (act.Durable d) sent) → IsAnswered Applies t t' given now step
+  answered_made t' r d sent in_time makes e asked dues rests sendable rule = record {
     takes = λ owns s applies. (
       e ∙ rule owns s applies,
-      subst (λ k. Stands t' (own_step given now k ∷ owns)) (sym e) (stands_made t t' owns now r given d sent s in_time makes (sendable owns s applies) asked dues rests),
+      subst (λ k. Follows t' (with_own (own_step given now k) owns)) (sym e) (stands_made t t' owns now r given d sent s in_time makes (sendable owns s applies) asked dues rests),
+      ap (λ (k : Step). is_answer k.act) e,
     );
-    framable = framable;
-    grows = grows_made t t' r now makes;
+    same = record { retry = makes.same_retry; forget = makes.same_forget };
   }
 
   -- a branch is asked, or is to be asked again
-  pub answered_asked : (t' : Table) (xid : Xid) (branch : BranchId) (sent : Option Outgoing) → now < 2 ^ 64 → PlansAgain t t' xid.0 now → step ≡ of_act (act.Asked xid branch) sent
-      → ((owns : List Own) → Stands t owns → Applies owns → goes (records owns) xid.0 ≡ true)
-      → Rule (of_act (act.Asked xid branch) sent) → (ComesFramable given → SendsFramable step) → IsAnswered Applies t t' given now step
-  answered_asked t' xid branch sent in_time plans e going rule framable = record {
+  pub answered_asked : (t' : Knowledge) (xid : Xid) (branch : BranchId) (sent : Option Outgoing) → now < 2 ^ 64 → PlansAgain t t' xid.0 now → step ≡ of_act (act.Asked xid branch) sent
+      → ((owns : Course) → Follows t owns → Applies owns → goes (records owns) xid.0 ≡ true)
+      → Rule (of_act (act.Asked xid branch) sent) → IsAnswered Applies t t' given now step
+  answered_asked t' xid branch sent in_time plans e going rule = record {
     takes = λ owns s applies. (
       e ∙ rule owns s applies,
-      subst (λ k. Stands t' (own_step given now k ∷ owns)) (sym e) (stands_asked t t' owns now given xid branch sent s in_time plans (going owns s applies)),
+      subst (λ k. Follows t' (with_own (own_step given now k) owns)) (sym e) (stands_asked t t' owns now given xid branch sent s in_time plans (going owns s applies)),
+      ap (λ (k : Step). is_answer k.act) e,
     );
-    framable = framable;
-    grows = grows_again t t' xid.0 now 1 plans;
+    same = record { retry = plans.same_retry; forget = plans.same_forget };
   }
 
-  pub answered_retry : (t' : Table) (xid : Xid) (branch : BranchId) (sent : Option Outgoing) → now < 2 ^ 64 → PlansAgain t t' xid.0 now → step ≡ of_act (act.Retry xid branch) sent
-      → ((owns : List Own) → Stands t owns → Applies owns → goes (records owns) xid.0 ≡ true)
-      → Rule (of_act (act.Retry xid branch) sent) → (ComesFramable given → SendsFramable step) → IsAnswered Applies t t' given now step
-  answered_retry t' xid branch sent in_time plans e going rule framable = record {
+  pub answered_retry : (t' : Knowledge) (xid : Xid) (branch : BranchId) (sent : Option Outgoing) → now < 2 ^ 64 → PlansAgain t t' xid.0 now → step ≡ of_act (act.Retry xid branch) sent
+      → ((owns : Course) → Follows t owns → Applies owns → goes (records owns) xid.0 ≡ true)
+      → Rule (of_act (act.Retry xid branch) sent) → IsAnswered Applies t t' given now step
+  answered_retry t' xid branch sent in_time plans e going rule = record {
     takes = λ owns s applies. (
       e ∙ rule owns s applies,
-      subst (λ k. Stands t' (own_step given now k ∷ owns)) (sym e) (stands_retry t t' owns now given xid branch sent s in_time plans (going owns s applies)),
+      subst (λ k. Follows t' (with_own (own_step given now k) owns)) (sym e) (stands_retry t t' owns now given xid branch sent s in_time plans (going owns s applies)),
+      ap (λ (k : Step). is_answer k.act) e,
     );
-    framable = framable;
-    grows = grows_again t t' xid.0 now 1 plans;
+    same = record { retry = plans.same_retry; forget = plans.same_forget };
   }
 
   -- what never comes: the rule's case excludes it
-  pub answered_never : ((owns : List Own) → Stands t owns → Applies owns → false ≡ true) → SendsFramable step → IsAnswered Applies t t given now step
-  answered_never never framable = record {
+  pub answered_never : ((owns : Course) → Follows t owns → Applies owns → false ≡ true) → IsAnswered Applies t t given now step
+  answered_never never = record {
     takes = λ owns s applies. false_true (never owns s applies);
-    framable = λ f. framable;
-    grows = grows_none t 1;
+    same = same_times t;
   }
 
 pub framable_still : (step : Step) (done : Act) → step ≡ still done → SendsFramable step
@@ -127,7 +122,7 @@ framable_sends step done to m e f = subst SendsFramable (sym e) f
 
 -- ---- what is known
 
-module _ (t : Table) (owns : List Own) (s : Stands t owns) where
+module _ (t : Knowledge) (owns : Course) (s : Follows t owns) where
   abbrev pub stood : List SessionRecord
   stood = records owns
 
@@ -155,9 +150,9 @@ module _ (t : Table) (owns : List Own) (s : Stands t owns) where
   MayBy r = may_come t.memory r ≡ true → May stood r
 
   -- the status of a transaction after a record
-  pub status_after : (t' : Table) (r : SessionRecord) (now : ℕ) (x : ℕ) → now < 2 ^ 64 → Makes t t' r now → status_in t'.memory x ≡ status_of (r ∷ stood) x
+  pub status_after : (t' : Knowledge) (r : SessionRecord) (now : ℕ) (x : ℕ) → now < 2 ^ 64 → Makes t t' r now → status_in t'.memory x ≡ status_of (r ∷ stood) x
   status_after t' r now x in_time makes =
-      let may = may_by t.memory t.moments stood (due t.retry 0 owns) (rests_since 0 owns) s.tracks now in_time r makes.may in
+      let may = may_by t.memory t.moments stood (due_on t.retry owns) (rests_on owns) s.tracks now in_time r makes.may in
       ap (λ m. status_in m x) (makes.memory ∙ ap (after r) s.tracks.known ∙ sym (snapshot_after stood s.tracks.allowed r may))
       ∙ ((answers_alike (r ∷ stood) (s.tracks.allowed, may)).transaction x).status
 
@@ -197,31 +192,30 @@ unknown_by (Some b) e = false_true e
 same_xid : (x y : Xid) → x.0 ≡ y.0 → x ≡ y
 same_xid x y e = λ i. record { 0 = e i }
 
-module _ (t t' : Table) (now : ℕ) (step : Step) (from : Place) (manager timeout : ℕ) where
+module _ (t t' : Knowledge) (now : ℕ) (step : Step) (from : Place) (manager timeout : ℕ) where
   abbrev begins : Input
   begins = input.Message from (message.Begin manager timeout)
 
-  pub begin_known : (xid : Xid) → xid_for t.memory manager ≡ Some xid → step ≡ sends (act.Known xid) (place.Man manager) (message.Begun xid) → SendsFramable step
+  pub begin_known : (xid : Xid) → xid_for t.memory manager ≡ Some xid → step ≡ sends (act.Known xid) (place.Man manager) (message.Begun xid)
       → IsAnswered (λ owns. ComesFramable begins) t t begins now step
-  begin_known xid there e framable =
+  begin_known xid there e =
       answered_quiet (λ owns. ComesFramable begins) t begins now step (act.Known xid) (Some (record { to = place.Man manager; message = message.Begun xid })) e refl
       (λ owns s f. known_by (records owns) manager xid (session_for (records owns) manager) (sym ((alike t owns s).manager manager) ∙ ap (λ m. xid_for m manager) (sym s.tracks.known) ∙ there))
-      (λ f. framable)
 
   pub begin_made : (made : Bool) (xid : Xid) → now < 2 ^ 64 → xid_for t.memory manager ≡ None → xid.0 ≡ t.memory.begun + 1 → IsMade made t t' (log.Begun xid manager now timeout) now
-      → made ≡ true → step ≡ sends (act.Durable (durable.Begun xid)) (place.Man manager) (message.Begun xid) → SendsFramable step
+      → made ≡ true → step ≡ sends (act.Durable (durable.Begun xid)) (place.Man manager) (message.Begun xid)
       → IsAnswered (λ owns. ComesFramable begins) t t' begins now step
-  begin_made true xid in_time none number makes is e framable =
+  begin_made true xid in_time none number makes is e =
       answered_made (λ owns. ComesFramable begins) t begins now step t' (log.Begun xid manager now timeout) (durable.Begun xid) (Some (record { to = place.Man manager; message = message.Begun xid }))
       in_time makes e refl (λ x before. refl) (λ x before. refl) (λ owns s f. f.limits.0)
-      (λ owns s f. begun_by owns s) (λ f. framable)
+      (λ owns s f. begun_by owns s)
     where
-      begun_by : (owns : List Own) → Stands t owns → sends (act.Durable (durable.Begun xid)) (place.Man manager) (message.Begun xid) ≡ begin_answer (records owns) manager (session_for (records owns) manager)
+      begun_by : (owns : Course) → Follows t owns → sends (act.Durable (durable.Begun xid)) (place.Man manager) (message.Begun xid) ≡ begin_answer (records owns) manager (session_for (records owns) manager)
       begun_by owns s =
           let next : xid ≡ record { 0 = next_xid (records owns) } = same_xid xid (record { 0 = next_xid (records owns) }) (number ∙ ap (λ (m : Snapshot). m.begun + 1) s.tracks.known ∙ (alike t owns s).next_xid) in
           let unknown : session_for (records owns) manager ≡ None = unknown_by (session_for (records owns) manager) (ap is_none (sym ((alike t owns s).manager manager) ∙ ap (λ m. xid_for m manager) (sym s.tracks.known) ∙ none)) in
           ap (λ x. sends (act.Durable (durable.Begun x)) (place.Man manager) (message.Begun x)) next ∙ ap (begin_answer (records owns) manager) (sym unknown)
-  begin_made false xid in_time none number makes is e framable = false_true is
+  begin_made false xid in_time none number makes is e = false_true is
 
   pub begin_never : (xid : Xid) → xid_for t.memory manager ≡ None → xid.0 ≡ t.memory.begun + 1 → may_come t.memory (log.Begun xid manager now timeout) ≡ false → false ≡ true
   begin_never xid none number refused = sym refused ∙ and_both (xid.0 == t.memory.begun + 1) (is_none (xid_for t.memory manager)) (nat_same xid.0 (t.memory.begun + 1) number) (ap is_none none)
@@ -249,17 +243,17 @@ rollback_told : (rs : List SessionRecord) (from : Place) (xid : Xid) (may : Bool
 rollback_told rs from xid false e = refl
 rollback_told rs from xid true e = true_false e
 
-module _ (t t' : Table) (now : ℕ) (in_time : now < 2 ^ 64) (step : Step) (from : Place) (xid : Xid) (st : GlobalStatus) (st_is : st ≡ status_in t'.memory xid.0) where
+module _ (t t' : Knowledge) (now : ℕ) (in_time : now < 2 ^ 64) (step : Step) (from : Place) (xid : Xid) (st : GlobalStatus) (st_is : st ≡ status_in t'.memory xid.0) where
   -- the status after a decision
-  decided_as : (d : Decision) (owns : List Own) → Stands t owns → Makes t t' (log.Decided xid d) now → (may_decide (records owns) xid.0 ≡ true) × (st ≡ decided_status (records owns) xid.0 d)
+  decided_as : (d : Decision) (owns : Course) → Follows t owns → Makes t t' (log.Decided xid d) now → (may_decide (records owns) xid.0 ≡ true) × (st ≡ decided_status (records owns) xid.0 d)
   decided_as d owns s makes =
-      let may : may_decide (records owns) xid.0 ≡ true = may_by t.memory t.moments (records owns) (due t.retry 0 owns) (rests_since 0 owns) s.tracks now in_time (log.Decided xid d) makes.may in
+      let may : may_decide (records owns) xid.0 ≡ true = may_by t.memory t.moments (records owns) (due_on t.retry owns) (rests_on owns) s.tracks now in_time (log.Decided xid d) makes.may in
       (may, st_is ∙ status_after t owns s t' (log.Decided xid d) now xid.0 in_time makes ∙ decided_here (records owns) s.tracks.allowed xid d may)
 
   -- the status where nothing was decided
-  told_as : (d : Decision) (owns : List Own) → Stands t owns → may_come t.memory (log.Decided xid d) ≡ false → t' ≡ t → (may_decide (records owns) xid.0 ≡ false) × (st ≡ status_of (records owns) xid.0)
+  told_as : (d : Decision) (owns : Course) → Follows t owns → may_come t.memory (log.Decided xid d) ≡ false → t' ≡ t → (may_decide (records owns) xid.0 ≡ false) × (st ≡ status_of (records owns) xid.0)
   told_as d owns s refused same =
-      (sym (may_is t.memory t.moments (records owns) (due t.retry 0 owns) (rests_since 0 owns) s.tracks now in_time (log.Decided xid d)) ∙ refused, st_is ∙ ap (λ k. status_in k.memory xid.0) same ∙ status_is t owns s xid.0)
+      (sym (may_is t.memory t.moments (records owns) (due_on t.retry owns) (rests_on owns) s.tracks now in_time (log.Decided xid d)) ∙ refused, st_is ∙ ap (λ k. status_in k.memory xid.0) same ∙ status_is t owns s xid.0)
 
   abbrev commits : Input
   commits = input.Message from (message.GlobalCommit xid)
@@ -268,49 +262,44 @@ module _ (t t' : Table) (now : ℕ) (in_time : now < 2 ^ 64) (step : Step) (from
   told_or_made made d = if made then act.Durable (durable.Decided xid d) else act.Told xid st
 
   pub commit_answered : (made : Bool) (d : Decision) → d ≡ (if has_passed_in (session_in t.memory xid.0) now then how.Timeout else how.Commit) → IsMade made t t' (log.Decided xid d) now
-      → step ≡ sends (told_or_made made d) from (message.CommitStatus xid st) → SendsFramable step → IsAnswered (λ owns. ComesFramable commits) t t' commits now step
-  commit_answered true d is makes e framable =
+      → step ≡ sends (told_or_made made d) from (message.CommitStatus xid st) → IsAnswered (λ owns. ComesFramable commits) t t' commits now step
+  commit_answered true d is makes e =
       answered_made (λ owns. ComesFramable commits) t commits now step t' (log.Decided xid d) (durable.Decided xid d) (Some (record { to = from; message = message.CommitStatus xid st }))
       in_time makes e refl (λ x before. refl) (λ x before. refl) (λ owns s f. tt)
       (λ owns s f. let done = decided_as d owns s makes in
       ap (λ k. sends (act.Durable (durable.Decided xid d)) from (message.CommitStatus xid k)) done.1
       ∙ commit_rule (records owns) from xid (may_decide (records owns) xid.0) (is_past (session (records owns) xid.0) now) d done.0
       (is ∙ ap (λ b. if b then how.Timeout else how.Commit) (passed_is t owns s now xid.0 (known_may t owns s xid.0 done.0))))
-      (λ f. framable)
-  commit_answered false d is (refused, same) e framable =
+  commit_answered false d is (refused, same) e =
       subst (λ k. IsAnswered (λ owns. ComesFramable commits) t k commits now step) (sym same)
       (answered_quiet (λ owns. ComesFramable commits) t commits now step (act.Told xid st) (Some (record { to = from; message = message.CommitStatus xid st })) e refl
       (λ owns s f. let told = told_as d owns s refused same in
       ap (λ k. sends (act.Told xid k) from (message.CommitStatus xid k)) told.1
-      ∙ commit_told (records owns) from xid (may_decide (records owns) xid.0) (is_past (session (records owns) xid.0) now) told.0)
-      (λ f. framable))
+      ∙ commit_told (records owns) from xid (may_decide (records owns) xid.0) (is_past (session (records owns) xid.0) now) told.0))
 
   abbrev rolls : Input
   rolls = input.Message from (message.GlobalRollback xid)
 
   pub rollback_answered : (made : Bool) → IsMade made t t' (log.Decided xid how.Rollback) now
-      → step ≡ sends (told_or_made made how.Rollback) from (message.RollbackStatus xid st) → SendsFramable step → IsAnswered (λ owns. ComesFramable rolls) t t' rolls now step
-  rollback_answered true makes e framable =
+      → step ≡ sends (told_or_made made how.Rollback) from (message.RollbackStatus xid st) → IsAnswered (λ owns. ComesFramable rolls) t t' rolls now step
+  rollback_answered true makes e =
       answered_made (λ owns. ComesFramable rolls) t rolls now step t' (log.Decided xid how.Rollback) (durable.Decided xid how.Rollback) (Some (record { to = from; message = message.RollbackStatus xid st }))
       in_time makes e refl (λ x before. refl) (λ x before. refl) (λ owns s f. tt)
       (λ owns s f. let done = decided_as how.Rollback owns s makes in
       ap (λ k. sends (act.Durable (durable.Decided xid how.Rollback)) from (message.RollbackStatus xid k)) done.1
       ∙ rollback_rule (records owns) from xid (may_decide (records owns) xid.0) done.0)
-      (λ f. framable)
-  rollback_answered false (refused, same) e framable =
+  rollback_answered false (refused, same) e =
       subst (λ k. IsAnswered (λ owns. ComesFramable rolls) t k rolls now step) (sym same)
       (answered_quiet (λ owns. ComesFramable rolls) t rolls now step (act.Told xid st) (Some (record { to = from; message = message.RollbackStatus xid st })) e refl
       (λ owns s f. let told = told_as how.Rollback owns s refused same in
       ap (λ k. sends (act.Told xid k) from (message.RollbackStatus xid k)) told.1
-      ∙ rollback_told (records owns) from xid (may_decide (records owns) xid.0) told.0)
-      (λ f. framable))
+      ∙ rollback_told (records owns) from xid (may_decide (records owns) xid.0) told.0))
 
-module _ (t : Table) (now : ℕ) (step : Step) (from : Place) (xid : Xid) (st : GlobalStatus) where
+module _ (t : Knowledge) (now : ℕ) (step : Step) (from : Place) (xid : Xid) (st : GlobalStatus) where
   abbrev asks : Input
   asks = input.Message from (message.GlobalStatus xid)
 
-  pub told_answered : st ≡ status_in t.memory xid.0 → step ≡ sends (act.Told xid st) from (message.StatusAnswer xid st) → SendsFramable step → IsAnswered (λ owns. ComesFramable asks) t t asks now step
-  told_answered is e framable =
+  pub told_answered : st ≡ status_in t.memory xid.0 → step ≡ sends (act.Told xid st) from (message.StatusAnswer xid st) → IsAnswered (λ owns. ComesFramable asks) t t asks now step
+  told_answered is e =
       answered_quiet (λ owns. ComesFramable asks) t asks now step (act.Told xid st) (Some (record { to = from; message = message.StatusAnswer xid st })) e refl
       (λ owns s f. ap (λ k. sends (act.Told xid k) from (message.StatusAnswer xid k)) (is ∙ status_is t owns s xid.0))
-      (λ f. framable)

@@ -1,13 +1,10 @@
 -- The steps on registrations and rows are the answers of the rules.
-use Rattle.std.proofs.Common.{◌≡◌, ◌==◌, ◌&&◌, ◌<◌, ◌≤◌, ◌+◌, ◌^◌, not, ℕ, Bool, true, false, cond, if◌then◌else◌, List, [], ◌∷◌, ◌++◌, length, Option, Some, None, option_map, is_some, is_none, refl, sym, ap, subst, ◌∙◌, arith}
-use Rattle.std.specs.Prelude.{All, IfSome, IfOk, Result, Ok, Err}
-use Rattle.seata_types.specs.declared.copies.NoMemory.{NoMemory}
+use Rattle.std.proofs.Common.{◌≡◌, ◌==◌, ◌&&◌, ◌<◌, ◌+◌, ◌^◌, not, ℕ, Bool, true, false, if◌then◌else◌, List, [], ◌∷◌, ◌++◌, Option, Some, None, option_map, is_none, refl, sym, ap, subst, ◌∙◌, arith}
+use Rattle.std.specs.Prelude.{All, IfSome}
 use Rattle.std.specs.List.{AllByRecursion}
 use Rattle.std.proofs.lemmas.List.{append-nil}
 use Rattle.std.proofs.lemmas.List.Elements.{recursion_from_All}
-use Rattle.seata_types.specs.declared.acts.Act.{Act}
 use Rattle.seata_types.specs.declared.acts.Act.TheVariants as act
-use Rattle.seata_types.specs.declared.acts.Durable.{Durable}
 use Rattle.seata_types.specs.declared.acts.Durable.TheVariants as durable
 use Rattle.seata_types.specs.declared.ids.Xid.{Xid}
 use Rattle.seata_types.specs.declared.ids.BranchId.{BranchId}
@@ -17,50 +14,42 @@ use Rattle.seata_types.specs.declared.ids.Place.{Place}
 use Rattle.seata_types.specs.declared.ids.Place.TheVariants as place
 use Rattle.seata_types.specs.declared.messages.Input.{Input}
 use Rattle.seata_types.specs.declared.messages.Input.TheVariants as input
-use Rattle.seata_types.specs.declared.messages.Message.{Message}
 use Rattle.seata_types.specs.declared.messages.Message.TheVariants as message
 use Rattle.seata_types.specs.declared.messages.Registered.TheVariants as registered
 use Rattle.seata_types.specs.declared.messages.Step.{Step}
 use Rattle.seata_types.specs.declared.rows.RowKey.{RowKey}
 use Rattle.seata_types.specs.declared.statuses.BranchKind.{BranchKind}
 use Rattle.seata_types.specs.declared.statuses.BranchKind.TheVariants as kind
-use Rattle.seata_types.specs.declared.statuses.BranchStatus.{BranchStatus}
 use Rattle.seata_types.specs.declared.statuses.Decision.TheVariants as how
 use Rattle.durable_records.specs.declared.coordinators.SessionRecord.{SessionRecord}
 use Rattle.durable_records.specs.declared.coordinators.SessionRecord.TheVariants as log
-use Rattle.durable_records.specs.Transactions.{Session as Began, session, decided, is_commit, is_rollback}
-use Rattle.durable_records.specs.Branches.{Grant, granted, unended_branch}
-use Rattle.durable_records.specs.Progress.{status_of, is_known, is_on, progress, may_decide, is_going as goes, may_retry}
+use Rattle.durable_records.specs.Transactions.{session, decided, is_rollback}
+use Rattle.durable_records.specs.Branches.{Grant, granted}
+use Rattle.durable_records.specs.Progress.{status_of, may_decide}
 use Rattle.durable_records.specs.Locks.{first_held as held_first}
-use Rattle.durable_records.specs.SessionOrder.{May}
 use Rattle.byte_fields.specs.Layout.{FitsKey}
-use Rattle.frame_codec.specs.Limits.{IsFramable, IsKeyWithin}
-use Rattle.history_rules.specs.Own.{Given, Own, still, sends}
-use Rattle.history_rules.specs.CoordinatorMemory.{is_past, due, rests_since}
-use Rattle.history_rules.specs.CoordinatorRules.{Request, coordinator_answer, end_answer, retry_answer, branch_answer, register_answer, open_answer, timely_answer, hold_answer, query_answer}
-use Rattle.history_text.specs.Framing.{ComesFramable, SendsFramable}
-use Rattle.lock_table.specs.Locks.{Locks, Holds, locked, if_other, first_locked, first_held, locks}
-use Rattle.lock_table.specs.declared.errors.HoldError.{HoldError}
-use Rattle.lock_table.specs.declared.errors.HoldError.TheVariants as errors
+use Rattle.frame_codec.specs.Limits.{IsKeyWithin}
+use Rattle.history_rules.specs.Own.{sends}
+use Rattle.history_rules.specs.CoordinatorMemory.{is_past}
+use Rattle.history_rules.specs.CoordinatorRules.{Request, register_answer, open_answer, timely_answer, hold_answer, query_answer}
+use Rattle.history_text.specs.Framing.{ComesFramable}
+use Rattle.lock_table.specs.Locks.{Locks, locked, if_other, first_locked, first_held, locks}
 use Rattle.session_log.specs.declared.sessions.RegisterPlace.{RegisterPlace}
 use Rattle.session_log.specs.declared.sessions.Snapshot.{Snapshot}
-use Rattle.session_log.specs.SnapshotOf.{snapshot_of}
-use Rattle.session_memory.specs.Changes.{may_come, after, is_begin, is_going, is_new, are_free, is_open, granted_record}
+use Rattle.session_memory.specs.Changes.{may_come, after, is_begin, is_new, are_free, granted_record}
 use Rattle.session_memory.specs.Holding.{keeps_rows, held_in}
 use Rattle.session_memory.specs.Lookups.{status_in, session_in, ticket_leg, call_leg}
-use Rattle.session_memory.proofs.Small.{false_true, true_false, none_some, and_left, and_right, and_both, nat_same}
-use Rattle.session_memory.proofs.Lists.{and_false}
-use Rattle.coordinator_core.specs.declared.table.Table.{Table}
-use Rattle.coordinator_core.specs.Answers.{IsAnswered, AnswersWhere, TellsConflict, HasFramableRow}
-use Rattle.session_memory.specs.Answers.{Grants}
-use Rattle.coordinator_core.specs.Changes.{Makes, IsMade, PlansAgain}
-use Rattle.coordinator_core.specs.Choices.{has_passed_in, leg_of_kind, leg_in, nobody}
-use Rattle.coordinator_core.specs.Standing.{times_in}
+use Rattle.session_memory.proofs.Small.{false_true, true_false, none_some, and_both, nat_same}
+use Rattle.coordinator_core.specs.Knowledge.{Knowledge}
+use Rattle.coordinator_core.specs.Answers.{IsAnswered}
+use Rattle.coordinator_core.specs.Changes.{IsMade}
+use Rattle.coordinator_core.specs.Choices.{has_passed_in, leg_of_kind, leg_in, nobody, is_rolling}
 use Rattle.coordinator_core.specs.Steps.{regranted_step, closed_step, late_step, granted_step, conflict_step, held_step, IsFramableKey, IsFramableRow}
-use Rattle.coordinator_core.specs.Tracks.{Stands, records}
-use Rattle.coordinator_core.proofs.Kept.{is_quiet, unanswered_same}
-use Rattle.coordinator_core.proofs.Laws.{AnswersAlike, leg_of_grant, held_row, may_alike}
-use Rattle.coordinator_core.proofs.Takes.{of_act, answered_quiet, answered_made, answered_retry, framable_still, alike, status_is, passed_is, known_may}
+use Rattle.coordinator_core.specs.Tracks.{Course, Follows, records}
+use Rattle.coordinator_core.proofs.Kept.{is_quiet}
+use Rattle.coordinator_core.proofs.Errors.{is_unrecorded}
+use Rattle.coordinator_core.proofs.Laws.{leg_of_grant, held_row}
+use Rattle.coordinator_core.proofs.Takes.{answered_quiet, answered_made, alike, status_is, passed_is, known_may}
 
 -- ---- rows
 
@@ -75,6 +64,14 @@ free_more x a more less below (Some y) e = kept_by a y more less below (y.0 == x
 first_of_more : (ls : Locks) (x : Xid) (front bs : List RowKey) → first_locked ls x (front ++ bs) ≡ None → first_locked ls x front ≡ None
 first_of_more ls x [] bs e = refl
 first_of_more ls x (a ∷ front) bs e = free_more x a (first_locked ls x (front ++ bs)) (first_locked ls x front) (first_of_more ls x front bs) (locked ls a) e
+
+-- no branch was registered for this
+new_of_kind : (s : Snapshot) (xid : Xid) (p : RegisterPlace) (k : BranchKind) → leg_of_kind s xid p.resource p.call p.ticket k ≡ None → is_new s xid p.resource p.call p.ticket k ≡ true
+new_of_kind s xid p kind.At e = ap is_none e
+new_of_kind s xid p kind.Tcc e = ap is_none e
+
+pub is_new_branch : (s : Snapshot) (xid : Xid) (p : RegisterPlace) → leg_in s xid p ≡ None → is_new s xid p.resource p.call p.ticket p.kind ≡ true
+is_new_branch s xid p e = new_of_kind s xid p p.kind e
 
 -- the row that is found is one of those that were asked for
 module _ (P : RowKey → Type 0) where
@@ -112,82 +109,76 @@ none_granted : (o : Option Grant) → option_map leg_of_grant o ≡ None → o �
 none_granted None e = refl
 none_granted (Some g) e = none_some (sym e)
 
-module _ (t : Table) (now : ℕ) (in_time : now < 2 ^ 64) (step : Step) (from : Place) (xid : Xid) (p : RegisterPlace) (hold check : List RowKey) where
+module _ (t : Knowledge) (now : ℕ) (in_time : now < 2 ^ 64) (step : Step) (from : Place) (xid : Xid) (p : RegisterPlace) (hold check : List RowKey) where
   abbrev pub asked : Input
   asked = input.Message from (message.Register xid p.resource p.call p.ticket p.kind hold check)
 
   abbrev request : Request
   request = record { xid = xid.0; resource = p.resource; call = p.call; ticket = p.ticket; kind = p.kind; hold = hold; check = check }
 
-  abbrev Asked : List Own → Type 0
+  abbrev Asked : Course → Type 0
   Asked owns = ComesFramable asked
 
-  abbrev granted_now : List Own → Option Grant
+  abbrev granted_now : Course → Option Grant
   granted_now owns = granted (records owns) xid.0 p.resource p.call p.ticket p.kind
 
-  leg_by : (owns : List Own) → Stands t owns → (k : BranchKind) → leg_of_kind t.memory xid p.resource p.call p.ticket k ≡ option_map leg_of_grant (granted (records owns) xid.0 p.resource p.call p.ticket k)
+  leg_by : (owns : Course) → Follows t owns → (k : BranchKind) → leg_of_kind t.memory xid p.resource p.call p.ticket k ≡ option_map leg_of_grant (granted (records owns) xid.0 p.resource p.call p.ticket k)
   leg_by owns s kind.At = ap (λ m. ticket_leg m p.resource p.ticket) s.tracks.known ∙ (alike t owns s).ticket xid.0 p.resource p.call p.ticket
   leg_by owns s kind.Tcc = ap (λ m. call_leg m xid p.resource p.call) s.tracks.known ∙ (alike t owns s).call xid p.resource p.call p.ticket
 
-  pub regranted_answered : (leg : Leg) → leg_in t.memory xid p ≡ Some leg → step ≡ regranted_step p leg → SendsFramable step → IsAnswered Asked t t asked now step
-  regranted_answered leg there e framable =
+  pub regranted_answered : (leg : Leg) → leg_in t.memory xid p ≡ Some leg → step ≡ regranted_step p leg → IsAnswered Asked t t asked now step
+  regranted_answered leg there e =
       answered_quiet Asked t asked now step (act.Regranted leg.xid leg.branch) (regranted_step p leg).sent e refl
       (λ owns s f. found_by (records owns) now request p leg (granted_now owns) refl refl (sym (leg_by owns s p.kind) ∙ there))
-      (λ f. framable)
 
   -- nothing was registered for this
   module _ (new : leg_in t.memory xid p ≡ None) where
-    not_granted : (owns : List Own) → Stands t owns → granted_now owns ≡ None
+    not_granted : (owns : Course) → Follows t owns → granted_now owns ≡ None
     not_granted owns s = none_granted (granted_now owns) (sym (leg_by owns s p.kind) ∙ new)
 
     closed_by : (rs : List SessionRecord) (may : Bool) → may ≡ false → closed_step p xid (status_of rs xid.0) ≡ open_answer rs now request may
     closed_by rs false e = refl
     closed_by rs true e = true_false e
 
-    may_begin : (owns : List Own) → Stands t owns → is_begin (status_in t.memory xid.0) ≡ may_decide (records owns) xid.0
+    may_begin : (owns : Course) → Follows t owns → is_begin (status_in t.memory xid.0) ≡ may_decide (records owns) xid.0
     may_begin owns s = ap (λ m. is_begin (status_in m xid.0)) s.tracks.known ∙ ((alike t owns s).transaction xid.0).undecided
 
-    pub closed_answered : is_begin (status_in t.memory xid.0) ≡ false → step ≡ closed_step p xid (status_in t.memory xid.0) → SendsFramable step → IsAnswered Asked t t asked now step
-    closed_answered refused e framable =
+    pub closed_answered : is_begin (status_in t.memory xid.0) ≡ false → step ≡ closed_step p xid (status_in t.memory xid.0) → IsAnswered Asked t t asked now step
+    closed_answered refused e =
         answered_quiet Asked t asked now step (act.Closed xid (status_in t.memory xid.0)) (closed_step p xid (status_in t.memory xid.0)).sent e refl
         (λ owns s f. ap (closed_step p xid) (status_is t owns s xid.0)
         ∙ closed_by (records owns) (may_decide (records owns) xid.0) (sym (may_begin owns s) ∙ refused)
         ∙ ap (register_answer (records owns) now request) (sym (not_granted owns s)))
-        (λ f. framable)
 
     module _ (begins : is_begin (status_in t.memory xid.0) ≡ true) where
-      may_here : (owns : List Own) → Stands t owns → may_decide (records owns) xid.0 ≡ true
+      may_here : (owns : Course) → Follows t owns → may_decide (records owns) xid.0 ≡ true
       may_here owns s = sym (may_begin owns s) ∙ begins
 
-      past_here : (owns : List Own) → Stands t owns → has_passed_in (session_in t.memory xid.0) now ≡ is_past (session (records owns) xid.0) now
+      past_here : (owns : Course) → Follows t owns → has_passed_in (session_in t.memory xid.0) now ≡ is_past (session (records owns) xid.0) now
       past_here owns s = passed_is t owns s now xid.0 (known_may t owns s xid.0 (may_here owns s))
 
-      open_here : (owns : List Own) → Stands t owns → (past : Bool) → has_passed_in (session_in t.memory xid.0) now ≡ past
+      open_here : (owns : Course) → Follows t owns → (past : Bool) → has_passed_in (session_in t.memory xid.0) now ≡ past
           → timely_answer (records owns) now request past ≡ register_answer (records owns) now request (granted_now owns)
       open_here owns s past e =
           ap (timely_answer (records owns) now request) (sym e ∙ past_here owns s)
           ∙ ap (open_answer (records owns) now request) (sym (may_here owns s))
           ∙ ap (register_answer (records owns) now request) (sym (not_granted owns s))
 
-      pub late_answered : (t' : Table) (made : Bool) → has_passed_in (session_in t.memory xid.0) now ≡ true → IsMade made t t' (log.Decided xid how.Timeout) now → made ≡ true → step ≡ late_step p xid → SendsFramable step
+      pub late_answered : (t' : Knowledge) (made : Bool) → has_passed_in (session_in t.memory xid.0) now ≡ true → IsMade made t t' (log.Decided xid how.Timeout) now → made ≡ true → step ≡ late_step p xid
           → IsAnswered Asked t t' asked now step
-      late_answered t' true past makes is e framable =
+      late_answered t' true past makes is e =
           answered_made Asked t asked now step t' (log.Decided xid how.Timeout) (durable.Late xid) (late_step p xid).sent in_time makes e refl (λ x before. refl) (λ x before. refl) (λ owns s f. tt)
-          (λ owns s f. open_here owns s true past) (λ f. framable)
-      late_answered t' false past makes is e framable = false_true is
+          (λ owns s f. open_here owns s true past)
+      late_answered t' false past makes is e = false_true is
 
-      pub late_made : (t' : Table) (made : Bool) → IsMade made t t' (log.Decided xid how.Timeout) now → made ≡ false → false ≡ true
+      pub late_made : (t' : Knowledge) (made : Bool) → IsMade made t t' (log.Decided xid how.Timeout) now → made ≡ false → false ≡ true
       late_made t' true makes is = sym is
       late_made t' false (refused, same) is = sym refused ∙ begins
 
       -- the branch was registered
       module _ (timely : has_passed_in (session_in t.memory xid.0) now ≡ false) where
-        held_rows_by : (owns : List Own) → Stands t owns → first_held (held_in t.memory) xid (hold ++ check) ≡ option_map held_row (held_first (records owns) xid.0 (hold ++ check))
+        held_rows_by : (owns : Course) → Follows t owns → first_held (held_in t.memory) xid (hold ++ check) ≡ option_map held_row (held_first (records owns) xid.0 (hold ++ check))
         held_rows_by owns s = ap (λ m. first_held (held_in m) xid (hold ++ check)) s.tracks.known ∙ (alike t owns s).held xid (hold ++ check)
-
-        new_by : (k : BranchKind) → leg_of_kind t.memory xid p.resource p.call p.ticket k ≡ None → is_new t.memory xid p.resource p.call p.ticket k ≡ true
-        new_by kind.At e = ap is_none e
-        new_by kind.Tcc e = ap is_none e
 
         free_by : (rs : List SessionRecord) (o : Option (RowKey × Grant)) → option_map held_row o ≡ None → o ≡ None
         free_by rs None e = refl
@@ -196,33 +187,33 @@ module _ (t : Table) (now : ℕ) (in_time : now < 2 ^ 64) (step : Step) (from : 
         abbrev granted_as : SessionRecord
         granted_as = granted_record xid (t.memory.granted + 1) p hold
 
-        granted_may : first_held (held_in t.memory) xid (hold ++ check) ≡ None → may_come t.memory granted_as ≡ true
+        pub granted_may : first_held (held_in t.memory) xid (hold ++ check) ≡ None → may_come t.memory granted_as ≡ true
         granted_may free =
             and_both (is_begin (status_in t.memory xid.0)) _ begins
             (and_both (t.memory.granted + 1 == t.memory.granted + 1) _ (nat_same (t.memory.granted + 1) (t.memory.granted + 1) refl)
-            (and_both (is_new t.memory xid p.resource p.call p.ticket p.kind) (are_free t.memory xid hold) (new_by p.kind new)
+            (and_both (is_new t.memory xid p.resource p.call p.ticket p.kind) (are_free t.memory xid hold) (is_new_branch t.memory xid p new)
             (ap is_none (first_of_more (locks (held_in t.memory)) xid hold check free))))
 
-        pub granted_answered : (t' : Table) (branch : BranchId) → branch.0 ≡ t.memory.granted + 1 → first_held (held_in t.memory) xid (hold ++ check) ≡ None → t'.memory ≡ after granted_as t.memory
-            → t'.moments ≡ t.moments → t'.retry ≡ t.retry → t'.forget ≡ t.forget → step ≡ granted_step p (record { xid = xid; branch = branch }) → SendsFramable step → IsAnswered Asked t t' asked now step
-        granted_answered t' branch number free memory moments retry forget e framable =
+        pub granted_answered : (t' : Knowledge) (branch : BranchId) → branch.0 ≡ t.memory.granted + 1 → first_held (held_in t.memory) xid (hold ++ check) ≡ None → t'.memory ≡ after granted_as t.memory
+            → t'.moments ≡ t.moments → t'.retry ≡ t.retry → t'.forget ≡ t.forget → step ≡ granted_step p (record { xid = xid; branch = branch }) → IsAnswered Asked t t' asked now step
+        granted_answered t' branch number free memory moments retry forget e =
             answered_made Asked t asked now step t' granted_as (durable.Granted xid (record { 0 = t.memory.granted + 1 })) (granted_step p (record { xid = xid; branch = record { 0 = t.memory.granted + 1 } })).sent in_time
             (record { may = granted_may free; memory = memory; moments = λ planned. moments; same_retry = retry; same_forget = forget })
             (e ∙ ap (λ b. granted_step p (record { xid = xid; branch = b })) same) refl (λ x before. refl) (λ x before. refl) (λ owns s f. f.limits.1)
-            (λ owns s f. granted_by owns s) (λ f. framable)
+            (λ owns s f. granted_by owns s)
           where
             same : branch ≡ record { 0 = t.memory.granted + 1 }
             same = λ i. record { 0 = number i }
 
-            granted_by : (owns : List Own) → Stands t owns → granted_step p (record { xid = xid; branch = record { 0 = t.memory.granted + 1 } }) ≡ register_answer (records owns) now request (granted_now owns)
+            granted_by : (owns : Course) → Follows t owns → granted_step p (record { xid = xid; branch = record { 0 = t.memory.granted + 1 } }) ≡ register_answer (records owns) now request (granted_now owns)
             granted_by owns s =
                 ap (λ n. granted_step p (record { xid = xid; branch = record { 0 = n } })) (ap (λ (m : Snapshot). m.granted + 1) s.tracks.known ∙ (alike t owns s).next_branch)
                 ∙ ap (hold_answer (records owns) now request) (sym (free_by (records owns) (held_first (records owns) xid.0 (hold ++ check)) (sym (held_rows_by owns s) ∙ free)))
                 ∙ open_here owns s false timely
 
         -- another transaction holds a row
-        conflict_by : (owns : List Own) (s : Stands t owns) (key : RowKey) (by : Xid) (o : Option (RowKey × Grant)) → held_first (records owns) xid.0 (hold ++ check) ≡ o → option_map held_row o ≡ Some (key, by)
-            → conflict_step p xid key by (keeps_rows (status_in t.memory by.0) && not (is_begin (status_in t.memory by.0))) ≡ hold_answer (records owns) now request o
+        conflict_by : (owns : Course) (s : Follows t owns) (key : RowKey) (by : Xid) (o : Option (RowKey × Grant)) → held_first (records owns) xid.0 (hold ++ check) ≡ o → option_map held_row o ≡ Some (key, by)
+            → conflict_step p xid key by (is_rolling (status_in t.memory by.0)) ≡ hold_answer (records owns) now request o
         conflict_by owns s key by None there e = none_some e
         conflict_by owns s key by (Some (k, g)) there e =
             let pair : held_row (k, g) ≡ (key, by) = cc in
@@ -231,33 +222,19 @@ module _ (t : Table) (now : ℕ) (in_time : now < 2 ^ 64) (step : Step) (from : 
             ap (λ (h : RowKey × Xid). conflict_step p xid h.0 h.1 (keeps_rows (status_in t.memory h.1.0) && not (is_begin (status_in t.memory h.1.0)))) (sym pair)
             ∙ ap (conflict_step p xid k (record { 0 = g.xid })) rolling
 
-        pub conflict_answered : (key : RowKey) (by : Xid) → first_held (held_in t.memory) xid (hold ++ check) ≡ Some (key, by) → step ≡ conflict_step p xid key by (keeps_rows (status_in t.memory by.0) && not (is_begin (status_in t.memory by.0)))
-            → (IsFramableKey key → SendsFramable step) → IsAnswered Asked t t asked now step
-        conflict_answered key by there e framable =
-            answered_quiet Asked t asked now step (act.Conflict xid key by (keeps_rows (status_in t.memory by.0) && not (is_begin (status_in t.memory by.0)))) (conflict_step p xid key by (keeps_rows (status_in t.memory by.0) && not (is_begin (status_in t.memory by.0)))).sent e refl
+        pub conflict_answered : (key : RowKey) (by : Xid) → first_held (held_in t.memory) xid (hold ++ check) ≡ Some (key, by) → step ≡ conflict_step p xid key by (is_rolling (status_in t.memory by.0))
+            → IsAnswered Asked t t asked now step
+        conflict_answered key by there e =
+            answered_quiet Asked t asked now step (act.Conflict xid key by (is_rolling (status_in t.memory by.0))) (conflict_step p xid key by (is_rolling (status_in t.memory by.0))).sent e refl
             (λ owns s f. conflict_by owns s key by (held_first (records owns) xid.0 (hold ++ check)) refl (sym (held_rows_by owns s) ∙ there) ∙ open_here owns s false timely)
-            (λ f. framable (record {
-              layout = row_among FitsKey (locks (held_in t.memory)) xid hold check key by f.layout.4.each f.layout.5.each there;
-              limits = row_among IsKeyWithin (locks (held_in t.memory)) xid hold check key by f.limits.2.each f.limits.3.each there;
-            }))
 
--- the answer where rows weren't taken
-module _ (t t' : Table) (now : ℕ) (in_time : now < 2 ^ 64) (from : Place) (xid : Xid) (p : RegisterPlace) (hold check : List RowKey) (new : leg_in t.memory xid p ≡ None)
-    (begins : is_begin (status_in t.memory xid.0) ≡ true) (timely : has_passed_in (session_in t.memory xid.0) now ≡ false) where
-  abbrev registers : Input
-  registers = input.Message from (message.Register xid p.resource p.call p.ticket p.kind hold check)
-
-  pub conflict_result : (error : HoldError) (result : Result Step NoMemory) → Grants (granted_record xid (t.memory.granted + 1) p hold) xid hold check t.memory (Err error) t'.memory
-      → t'.moments ≡ t.moments → t'.retry ≡ t.retry → t'.forget ≡ t.forget
-      → IfOk result (TellsConflict t'.memory xid p error) → (HasFramableRow error → IfOk result SendsFramable) → AnswersWhere (λ owns. ComesFramable registers) t t' registers now result
-  conflict_result (errors.Held key by) (Ok answer) (there, same) moments retry forget told framable =
-      let table : t' ≡ t = λ i. record { retry = retry i; forget = forget i; memory = same i; moments = moments i } in
-      subst (λ k. IsAnswered (λ owns. ComesFramable registers) t k registers now answer) (sym table)
-      (conflict_answered t now in_time answer from xid p hold check new begins timely key by there
-      (told ∙ ap (λ m. conflict_step p xid key by (keeps_rows (status_in m by.0) && not (is_begin (status_in m by.0)))) same) framable)
-  conflict_result (errors.Held key by) (Err refused) (there, same) moments retry forget told framable = unanswered_same t t' same moments retry forget
-  conflict_result errors.NoMemory (Ok answer) same moments retry forget told framable = absurd told
-  conflict_result errors.NoMemory (Err refused) same moments retry forget told framable = unanswered_same t t' same moments retry forget
+-- a row that is told is one of those that came
+pub conflict_framable : (s : Snapshot) (from : Place) (xid : Xid) (p : RegisterPlace) (hold check : List RowKey) (key : RowKey) (by : Xid) → first_held (held_in s) xid (hold ++ check) ≡ Some (key, by)
+    → ComesFramable (input.Message from (message.Register xid p.resource p.call p.ticket p.kind hold check)) → IsFramableKey key
+conflict_framable s from xid p hold check key by there f = record {
+  layout = row_among FitsKey (locks (held_in s)) xid hold check key by f.layout.4.each f.layout.5.each there;
+  limits = row_among IsKeyWithin (locks (held_in s)) xid hold check key by f.limits.2.each f.limits.3.each there;
+}
 
 -- ---- questions for rows
 
@@ -265,7 +242,11 @@ held_by : (rs : List SessionRecord) (from : Place) (ticket : Ticket) (o : Option
 held_by rs from ticket None = refl
 held_by rs from ticket (Some (key, g)) = refl
 
-module _ (t : Table) (now : ℕ) (step : Step) (from : Place) (resource : ℕ) (ticket : Ticket) (check : List RowKey) where
+pub unrecorded_held : (from : Place) (ticket : Ticket) (found : Option (RowKey × Xid)) → is_unrecorded (held_step from ticket found).act ≡ true
+unrecorded_held from ticket None = refl
+unrecorded_held from ticket (Some h) = refl
+
+module _ (t : Knowledge) (now : ℕ) (step : Step) (from : Place) (resource : ℕ) (ticket : Ticket) (check : List RowKey) where
   abbrev queried : Input
   queried = input.Message from (message.LockQuery resource ticket check)
 
@@ -273,16 +254,15 @@ module _ (t : Table) (now : ℕ) (step : Step) (from : Place) (resource : ℕ) (
   quiet_by None = refl
   quiet_by (Some h) = refl
 
-  framable_by : (found : Option (RowKey × Xid)) → first_held (held_in t.memory) nobody check ≡ found → ComesFramable queried → IfSome found IsFramableRow
-  framable_by None e f = tt
-  framable_by (Some (key, by)) e f = record {
+  pub query_framable : (found : Option (RowKey × Xid)) → first_held (held_in t.memory) nobody check ≡ found → ComesFramable queried → IfSome found IsFramableRow
+  query_framable None e f = tt
+  query_framable (Some (key, by)) e f = record {
     layout = row_among FitsKey (locks (held_in t.memory)) nobody check [] key by f.layout.2.each (λ k d lt. absurd (omega (arith, lt))) (ap (first_locked (locks (held_in t.memory)) nobody) (append-nil check) ∙ e);
     limits = row_among IsKeyWithin (locks (held_in t.memory)) nobody check [] key by f.limits.1.each (λ k d lt. absurd (omega (arith, lt))) (ap (first_locked (locks (held_in t.memory)) nobody) (append-nil check) ∙ e);
   }
 
-  pub query_answered : (found : Option (RowKey × Xid)) → found ≡ first_held (held_in t.memory) nobody check → step ≡ held_step from ticket found → (IfSome found IsFramableRow → SendsFramable step)
-      → IsAnswered (λ owns. ComesFramable queried) t t queried now step
-  query_answered found is e framable =
+  pub query_answered : step ≡ held_step from ticket (first_held (held_in t.memory) nobody check) → IsAnswered (λ owns. ComesFramable queried) t t queried now step
+  query_answered e =
+      let found = first_held (held_in t.memory) nobody check in
       answered_quiet (λ owns. ComesFramable queried) t queried now step (held_step from ticket found).act (held_step from ticket found).sent e (quiet_by found)
-      (λ owns s f. ap (held_step from ticket) (is ∙ ap (λ m. first_held (held_in m) nobody check) s.tracks.known ∙ (alike t owns s).held nobody check) ∙ held_by (records owns) from ticket (held_first (records owns) 0 check))
-      (λ f. framable (framable_by found (sym is) f))
+      (λ owns s f. ap (held_step from ticket) (ap (λ m. first_held (held_in m) nobody check) s.tracks.known ∙ (alike t owns s).held nobody check) ∙ held_by (records owns) from ticket (held_first (records owns) 0 check))

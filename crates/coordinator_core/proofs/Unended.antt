@@ -1,12 +1,12 @@
 -- How many transactions of a memory are neither finished nor failed.
 use Rattle.std.proofs.Common.{◌≡◌, ◌&&◌, ◌||◌, ◌+◌, not, ℕ, Bool, true, false, cond, if◌then◌else◌, List, [], ◌∷◌, map, is_some, is_none, refl, sym, ap, ◌∙◌, arith}
 use Rattle.std.specs.Prelude.{count_by, filter}
-use Rattle.std.specs.List.{sum_by}
 use Rattle.std.proofs.lemmas.List.{map-append}
 use Rattle.std.proofs.lemmas.List.Sums.{sum_by-cons, sum_by_push}
+use Rattle.disk_model.specs.Disk.{DiskState}
 use Rattle.durable_records.specs.declared.coordinators.SessionRecord.{SessionRecord}
 use Rattle.durable_records.specs.Transactions.{Session as Began, sessions, session, decided, is_forgotten}
-use Rattle.durable_records.specs.Progress.{status_of, progress, is_on, may_decide, is_going as goes}
+use Rattle.durable_records.specs.Progress.{status_of, progress, is_on, may_decide}
 use Rattle.durable_records.specs.SessionOrder.{Allowed}
 use Rattle.history_rules.specs.Own.{Own}
 use Rattle.session_log.specs.declared.sessions.SessionEntry.{SessionEntry}
@@ -15,7 +15,8 @@ use Rattle.session_log.specs.SnapshotOf.{in_order, entry_now, is_kept_session, s
 use Rattle.session_memory.specs.Changes.{is_begin, is_going}
 use Rattle.coordinator_core.specs.declared.nodes.Coordinator.{Coordinator}
 use Rattle.coordinator_core.specs.Choices.{is_unended_entry}
-use Rattle.coordinator_core.specs.Standing.{StandsFor, is_unended_session, unended_sessions}
+use Rattle.coordinator_core.specs.Knowledge.{memory}
+use Rattle.coordinator_core.specs.Standing.{StandsOver, course, is_down, is_unended_session, unended_sessions}
 use Rattle.coordinator_core.specs.Tracks.{records}
 use Rattle.coordinator_core.proofs.Laws.{answers_alike}
 
@@ -66,8 +67,8 @@ module _ (rs : List SessionRecord) (a : Allowed rs) where
   pub unended_alike : count_by is_unended_entry (snapshot_of rs).sessions ≡ unended_sessions rs
   unended_alike = counted_alike (sessions rs)
 
-pub unended_told : (c : Coordinator) (n : ℕ) (es : List SessionEntry) → n ≡ count_by is_unended_entry es → es ≡ c.table.memory.sessions
-    → (owns : List Own) → StandsFor c owns → n ≡ unended_sessions (records owns)
-unfolding StandsFor
-unended_told c n es told known owns t =
-    told ∙ ap (count_by is_unended_entry) (known ∙ ap (λ (m : Snapshot). m.sessions) t.tracks.known) ∙ unended_alike (records owns) t.tracks.allowed
+pub unended_told : {D : Type 0} (state : D → DiskState) (c : Coordinator D) (n : ℕ) (es : List SessionEntry) → n ≡ count_by is_unended_entry es → es ≡ (memory c.table).sessions → is_down c ≡ false
+    → (past : List SessionRecord) (owns : List Own) → StandsOver state c past owns → n ≡ unended_sessions (records (course past owns))
+unended_told state c n es told known up past owns t =
+    let tracks = (t.follows (sym t.disks.down ∙ up)).tracks in
+    told ∙ ap (count_by is_unended_entry) (known ∙ ap (λ (m : Snapshot). m.sessions) tracks.known) ∙ unended_alike (records (course past owns)) tracks.allowed

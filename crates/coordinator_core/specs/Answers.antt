@@ -1,88 +1,152 @@
 -- What an answer of the coordinator's table promises.
-use Rattle.std.specs.Prelude.{◌≡◌, ◌+◌, ◌≤◌, ◌∷◌, ◌&&◌, not, ℕ, List, [], Option, Some, None, Result, Ok, Err}
-use Rattle.seata_types.specs.declared.copies.NoMemory.{NoMemory}
-use Rattle.seata_types.specs.declared.ids.Xid.{Xid}
+use Rattle.std.specs.Prelude.{◌≡◌, ℕ, Bool, true, false, List, Option, Some, None, Result, Ok, Err, IfOk}
+use Rattle.disk_model.specs.Disk.{DiskState}
+use Rattle.seata_types.specs.declared.acts.Act.{Act}
+use Rattle.seata_types.specs.declared.acts.Act.TheVariants as act
+use Rattle.seata_types.specs.declared.acts.Durable.{Durable}
+use Rattle.seata_types.specs.declared.errors.Full.{Full}
+use Rattle.seata_types.specs.declared.errors.NodeError.{NodeError}
+use Rattle.seata_types.specs.declared.errors.NodeError.TheVariants as error
+use Rattle.seata_types.specs.declared.errors.StoreError.{StoreError}
+use Rattle.seata_types.specs.declared.errors.StoreError.TheVariants as store_error
 use Rattle.seata_types.specs.declared.messages.Input.{Input}
 use Rattle.seata_types.specs.declared.messages.Step.{Step}
 use Rattle.durable_records.specs.declared.coordinators.SessionRecord.{SessionRecord}
-use Rattle.history_rules.specs.Own.{Own}
-use Rattle.history_rules.specs.CoordinatorMemory.{Times, late_one, due_one, old_one}
-use Rattle.history_rules.specs.CoordinatorRules.{coordinator_answer}
+use Rattle.history_rules.specs.Own.{Event, Given}
+use Rattle.history_rules.specs.CoordinatorMemory.{Times, session_record, late_one, due_one, old_one}
 use Rattle.history_text.specs.Framing.{ComesFramable, SendsFramable}
-use Rattle.history_text.specs.Promises.{StandsAsBefore, own_step}
-use Rattle.lock_table.specs.declared.errors.HoldError.{HoldError}
-use Rattle.lock_table.specs.declared.errors.HoldError.TheVariants as errors
-use Rattle.session_log.specs.declared.sessions.RegisterPlace.{RegisterPlace}
-use Rattle.session_log.specs.declared.sessions.Snapshot.{Snapshot}
-use Rattle.session_memory.specs.Changes.{is_begin}
-use Rattle.session_memory.specs.Holding.{keeps_rows}
-use Rattle.session_memory.specs.Lookups.{status_in}
+use Rattle.history_text.specs.Promises.{own_step}
+use Rattle.session_memory.specs.Changes.{may_come}
+use Rattle.session_store.specs.declared.sessions.Sessions.{Sessions}
+use Rattle.session_store.specs.Keeping.{Adds, Loses, HasNoRoom}
 use Rattle.coordinator_core.specs.declared.table.Table.{Table}
-use Rattle.coordinator_core.specs.Standing.{times_in}
-use Rattle.coordinator_core.specs.Steps.{conflict_step, IsFramableKey}
-use Rattle.coordinator_core.specs.Tracks.{Stands, records}
+use Rattle.coordinator_core.specs.Knowledge.{Knowledge, knowledge, times_in, times_of}
+use Rattle.coordinator_core.specs.Changes.{Makes, IsMade}
+use Rattle.coordinator_core.specs.Tracks.{Course, with_own, rule_answer, Follows, records}
 
--- at these own entries: the step is the rule's answer, and the table is then the one of the entries with the step's own
-abbrev pub TakesAfter : List Own → (old new : Table) → Input → ℕ → Step → Type 0
+-- ---- what is known
+
+-- an act that a rule answers with
+abbrev pub is_answer : Act → Bool
+is_answer (act.Down kept at) = false
+is_answer (act.Restarted kept) = false
+is_answer act.Armed = false
+is_answer _ = true
+
+-- the step is the rule's answer, and what is known is then that of the entries with the step's own
+abbrev pub TakesAfter : Course → (old new : Knowledge) → Input → ℕ → Step → Type 0
 TakesAfter owns old new given now step =
-    (step ≡ coordinator_answer (times_in old) [] owns (records owns) now given) × Stands new (own_step given now step ∷ owns)
+    (step ≡ rule_answer (times_in old) owns now given) × Follows new (with_own (own_step given now step) owns) × (is_answer step.act ≡ true)
 
--- the settings stay, and at most so many records more are known
-pub record Grows (old new : Table) (count : ℕ) : Type 0 where
+pub record SameTimes (old new : Knowledge) : Type 0 where
   pub retry : new.retry ≡ old.retry
   pub forget : new.forget ≡ old.forget
-  pub acts : new.memory.acts ≤ old.memory.acts + count
 
--- where Applies holds of the own entries, the answer is the rule's; it can be framed where the input came so
-pub record IsAnswered (Applies : List Own → Type 0) (old new : Table) (given : Input) (now : ℕ) (step : Step) : Type 0 where
-  pub takes : (owns : List Own) → Stands old owns → Applies owns → TakesAfter owns old new given now step
-  pub framable : ComesFramable given → SendsFramable step
-  pub grows : Grows old new 1
+-- where Applies holds of the own entries, the answer is the rule's
+pub record IsAnswered (Applies : Course → Type 0) (old new : Knowledge) (given : Input) (now : ℕ) (step : Step) : Type 0 where
+  pub takes : (owns : Course) → Follows old owns → Applies owns → TakesAfter owns old new given now step
+  pub same : SameTimes old new
 
--- there is no answer, and the table stands for all that it stood for
-pub record IsUnanswered (old new : Table) : Type 0 where
-  pub stands : StandsAsBefore Stands old new
-  pub grows : Grows old new 0
+-- there is no answer, and what is known is that of all that it was of
+pub record IsUnanswered (old new : Knowledge) : Type 0 where
+  pub stands : (owns : Course) → Follows old owns → Follows new owns
+  pub same : SameTimes old new
 
--- the table answered, or memory was refused
-abbrev pub AnswersWhere : (List Own → Type 0) → Table → Table → Input → ℕ → Result Step NoMemory → Type 0
-AnswersWhere Applies old new given now (Ok step) = IsAnswered Applies old new given now step
-AnswersWhere Applies old new given now (Err refused) = IsUnanswered old new
+-- ---- records
+
+-- a durable act's record is on the disks; at another act nothing of them changed
+abbrev pub Puts : {D : Type 0} → (D → DiskState) → Event → ℕ → Act → Sessions D → Sessions D → Type 0
+Puts state event now (act.Durable done) old new = (r : SessionRecord) × (session_record now event done ≡ Some r) × Adds state r old new
+Puts state event now _ old new = new ≡ old
+
+-- it would be answered by a step with this act, which asks for this record
+pub record WouldMake (Applies : Course → Type 0) (old new : Knowledge) (given : Input) (now : ℕ) (done : Durable) (r : SessionRecord) : Type 0 where
+  pub step : Step
+  pub durable : step.act ≡ act.Durable done
+  pub asked : session_record now (Given given) done ≡ Some r
+  pub answered : IsAnswered Applies old new given now step
+
+-- the disks failed as they took the record
+pub record IsCut {D : Type 0} (state : D → DiskState) (Applies : Course → Type 0) (old new : Table D) (given : Input) (now : ℕ) (done : Durable) : Type 0 where
+  pub r : SessionRecord
+  pub due : WouldMake Applies (knowledge old) (knowledge new) given now done r
+  pub loses : Loses state r old.sessions new.sessions
+
+-- the record doesn't fit, and nothing changed
+pub record IsOver {D : Type 0} (state : D → DiskState) (Applies : Course → Type 0) (old new : Table D) (given : Input) (now : ℕ) (full : Full) : Type 0 where
+  pub done : Durable
+  pub r : SessionRecord
+  pub after : Knowledge
+  pub due : WouldMake Applies (knowledge old) after given now done r
+  pub no_room : HasNoRoom state r old.sessions full
+  pub unanswered : IsUnanswered (knowledge old) (knowledge new)
+  pub sessions : new.sessions ≡ old.sessions
+
+-- ---- answers
+
+-- the table answered, or the disks failed, or the record doesn't fit, or memory was refused
+abbrev pub AnswersWhere : {D : Type 0} → (D → DiskState) → (Course → Type 0) → Table D → Table D → Input → ℕ → Result Step NodeError → Type 0
+AnswersWhere state Applies old new given now (Ok step) =
+    IsAnswered Applies (knowledge old) (knowledge new) given now step × Puts state (Given given) now step.act old.sessions new.sessions
+AnswersWhere state Applies old new given now (Err (error.Failed done)) = IsCut state Applies old new given now done
+AnswersWhere state Applies old new given now (Err (error.Full full)) = IsOver state Applies old new given now full
+AnswersWhere state Applies old new given now (Err error.NoMemory) = IsUnanswered (knowledge old) (knowledge new) × (new.sessions ≡ old.sessions)
 
 -- the same at every input that can be framed
-abbrev pub Answers : Table → Table → Input → ℕ → Result Step NoMemory → Type 0
-Answers old new given now result = AnswersWhere (λ owns. ComesFramable given) old new given now result
+abbrev pub Answers : {D : Type 0} → (D → DiskState) → Table D → Table D → Input → ℕ → Result Step NodeError → Type 0
+Answers state old new given now result = AnswersWhere state (λ owns. ComesFramable given) old new given now result
 
 -- the same where the rule's answer is this step by the records
-abbrev pub AnswersAs : (List SessionRecord → Step) → Table → Table → ℕ → Result Step NoMemory → Type 0
-AnswersAs rule old new now result =
-    (given : Input) → AnswersWhere (λ owns. coordinator_answer (times_in old) [] owns (records owns) now given ≡ rule (records owns)) old new given now result
+abbrev pub AnswersAs : {D : Type 0} → (D → DiskState) → (List SessionRecord → Step) → Table D → Table D → ℕ → Result Step NodeError → Type 0
+AnswersAs state rule old new now result =
+    (given : Input) → AnswersWhere state (λ owns. rule_answer (times_of old) owns now given ≡ rule (records owns)) old new given now result
+
+-- what is sent can be framed where the input came so
+abbrev pub Frames : Input → Result Step NodeError → Type 0
+Frames given result = ComesFramable given → IfOk result SendsFramable
+
+-- ---- one record
+
+-- it is on the disks where it was made
+abbrev pub PutsWhere : {D : Type 0} → (D → DiskState) → Bool → SessionRecord → Sessions D → Sessions D → Type 0
+PutsWhere state true r old new = Adds state r old new
+PutsWhere state false r old new = new ≡ old
+
+-- why it isn't made though it may come: the disks failed, or it doesn't fit, or memory was refused
+abbrev pub IsUnmade : {D : Type 0} → (D → DiskState) → Table D → Table D → SessionRecord → ℕ → StoreError → Type 0
+IsUnmade state old new r now store_error.Failed = Makes (knowledge old) (knowledge new) r now × Loses state r old.sessions new.sessions
+IsUnmade state old new r now (store_error.Full full) =
+    (may_come (knowledge old).memory r ≡ true) × HasNoRoom state r old.sessions full
+    × IsUnanswered (knowledge old) (knowledge new) × (new.sessions ≡ old.sessions)
+IsUnmade state old new r now store_error.NoMemory = IsUnanswered (knowledge old) (knowledge new) × (new.sessions ≡ old.sessions)
+
+-- a record was made, or may not come and nothing changed; or it isn't made
+abbrev pub MakesOn : {D : Type 0} → (D → DiskState) → Table D → Table D → SessionRecord → ℕ → Result Bool StoreError → Type 0
+MakesOn state old new r now (Ok made) = IsMade made (knowledge old) (knowledge new) r now × PutsWhere state made r old.sessions new.sessions
+MakesOn state old new r now (Err error) = IsUnmade state old new r now error
+
+-- a record that may come was added, or isn't made
+abbrev pub AddsOn : {D : Type 0} → (D → DiskState) → Table D → Table D → SessionRecord → ℕ → Result (Unit {0}) StoreError → Type 0
+AddsOn state old new r now (Ok done) = Makes (knowledge old) (knowledge new) r now × Adds state r old.sessions new.sessions
+AddsOn state old new r now (Err error) = IsUnmade state old new r now error
+
+-- ---- choices
 
 -- the transaction that a turn takes
-abbrev pub late_at : Times → ℕ → List Own → Option ℕ
-late_at times now owns = late_one times [] owns (records owns) now
+abbrev pub late_at : Times → ℕ → Course → Option ℕ
+late_at times now owns = late_one times owns.past owns.owns (records owns) now
 
-abbrev pub due_at : Times → ℕ → List Own → Option (ℕ × ℕ)
-due_at times now owns = due_one times [] owns (records owns) now
+abbrev pub due_at : Times → ℕ → Course → Option (ℕ × ℕ)
+due_at times now owns = due_one times owns.past owns.owns (records owns) now
 
-abbrev pub old_at : Times → ℕ → List Own → Option ℕ
-old_at times now owns = old_one times [] owns (records owns) now
+abbrev pub old_at : Times → ℕ → Course → Option ℕ
+old_at times now owns = old_one times owns.past owns.owns (records owns) now
 
-abbrev pub IsLate : Times → (now x : ℕ) → List Own → Type 0
+abbrev pub IsLate : Times → (now x : ℕ) → Course → Type 0
 IsLate times now x owns = late_at times now owns ≡ Some x
 
-abbrev pub IsDue : Times → (now x : ℕ) → List Own → Type 0
+abbrev pub IsDue : Times → (now x : ℕ) → Course → Type 0
 IsDue times now x owns = (late_at times now owns ≡ None) × ((moment : ℕ) × (due_at times now owns ≡ Some (x, moment)))
 
-abbrev pub IsOld : Times → (now x : ℕ) → List Own → Type 0
+abbrev pub IsOld : Times → (now x : ℕ) → Course → Type 0
 IsOld times now x owns = (late_at times now owns ≡ None) × ((due_at times now owns ≡ None) × (old_at times now owns ≡ Some x))
-
--- the conflict's answer, by what taking rows said
-abbrev pub TellsConflict : Snapshot → Xid → RegisterPlace → HoldError → Step → Type 0
-TellsConflict s xid place (errors.Held key by) step =
-    step ≡ conflict_step place xid key by (keeps_rows (status_in s by.0) && not (is_begin (status_in s by.0)))
-TellsConflict s xid place errors.NoMemory step = ⊥
-
-abbrev pub HasFramableRow : HoldError → Type 0
-HasFramableRow (errors.Held key by) = IsFramableKey key
-HasFramableRow errors.NoMemory = Unit {0}

@@ -1,11 +1,11 @@
 -- What one more record does to the moments that a coordinator keeps.
-use Rattle.std.specs.Prelude.{◌≡◌, ℕ, ◌+◌, ◌-◌, ◌^◌, min, Bool, true, false, if◌then◌else◌}
+use Rattle.std.specs.Prelude.{◌≡◌, ℕ, ◌+◌, ◌-◌, ◌^◌, min, Bool, true, false}
 use Rattle.durable_records.specs.declared.coordinators.SessionRecord.{SessionRecord}
 use Rattle.durable_records.specs.declared.coordinators.SessionRecord.TheVariants as log
 use Rattle.retry_turns.specs.Plans.{Plans, is_planned, with_plan, without_plan}
 use Rattle.session_memory.specs.Changes.{may_come, after}
 use Rattle.coordinator_core.specs.declared.moments.Moments.{Moments}
-use Rattle.coordinator_core.specs.declared.table.Table.{Table}
+use Rattle.coordinator_core.specs.Knowledge.{Knowledge}
 
 -- a moment, as far as it can be kept: no clock comes to the last one
 abbrev pub kept_moment : ℕ → ℕ
@@ -43,10 +43,15 @@ IsPlannedFor (log.Ended xid branch) ps = is_planned ps xid.0 ≡ true
 IsPlannedFor (log.Retrying xid) ps = is_planned ps xid.0 ≡ true
 IsPlannedFor _ ps = Unit {0}
 
+-- after a record that isn't made: where the disks failed as they took it, it is known
+abbrev pub GivesUp : (failed : Bool) → (retry now : ℕ) → SessionRecord → Moments → Moments → Type 0
+GivesUp true retry now r old new = IsPlannedFor r old.turns → new ≡ settled retry now r old
+GivesUp false retry now r old new = new ≡ withdrawn r old
+
 -- ---- a record is made
 
 -- the record may come, and the memory and the moments are those with it; the settings stay
-pub record Makes (old new : Table) (r : SessionRecord) (now : ℕ) : Type 0 where
+pub record Makes (old new : Knowledge) (r : SessionRecord) (now : ℕ) : Type 0 where
   pub may : may_come old.memory r ≡ true
   pub memory : new.memory ≡ after r old.memory
   pub moments : IsPlannedFor r old.moments.turns → new.moments ≡ settled old.retry now r (prepared r now old.moments)
@@ -54,12 +59,12 @@ pub record Makes (old new : Table) (r : SessionRecord) (now : ℕ) : Type 0 wher
   pub same_forget : new.forget ≡ old.forget
 
 -- the record was made, or it may not come and nothing changed
-abbrev pub IsMade : Bool → (old new : Table) → SessionRecord → ℕ → Type 0
+abbrev pub IsMade : Bool → (old new : Knowledge) → SessionRecord → ℕ → Type 0
 IsMade true old new r now = Makes old new r now
 IsMade false old new r now = (may_come old.memory r ≡ false) × (new ≡ old)
 
 -- transaction x is planned `retry` ticks later, and all else stays
-pub record PlansAgain (old new : Table) (x now : ℕ) : Type 0 where
+pub record PlansAgain (old new : Knowledge) (x now : ℕ) : Type 0 where
   pub turns : new.moments.turns ≡ with_plan old.moments.turns x (kept_moment (now + old.retry))
   pub rests : new.moments.rests ≡ old.moments.rests
   pub memory : new.memory ≡ old.memory

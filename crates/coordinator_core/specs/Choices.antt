@@ -6,6 +6,7 @@ use Rattle.seata_types.specs.declared.ids.Ticket.{Ticket}
 use Rattle.seata_types.specs.declared.limits.TheConstants.{MANAGERS, CALLS}
 use Rattle.seata_types.specs.declared.statuses.BranchKind.{BranchKind}
 use Rattle.seata_types.specs.declared.statuses.BranchKind.TheVariants as kind
+use Rattle.seata_types.specs.declared.statuses.GlobalStatus.{GlobalStatus}
 use Rattle.durable_records.specs.SessionOrder.{is_counted}
 use Rattle.seata_types.specs.declared.ids.Xid.{Xid}
 use Rattle.retry_turns.specs.Plans.{Plans, moment_of}
@@ -27,6 +28,10 @@ has_passed t now = nat_lt (t.begun + t.timeout) now
 abbrev pub has_passed_in : Option Session → ℕ → Bool
 has_passed_in None now = false
 has_passed_in (Some t) now = has_passed t now
+
+-- a transaction that is known is decided rollback, asked for or by its timeout
+abbrev pub is_rolling : GlobalStatus → Bool
+is_rolling status = keeps_rows status && not (is_begin status)
 
 -- a transaction isn't decided, and its timeout is over
 abbrev pub is_late_entry : ℕ → SessionEntry → Bool

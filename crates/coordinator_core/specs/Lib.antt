@@ -1,7 +1,16 @@
+pub mod Plain
 pub mod Changes
 pub mod Choices
 pub mod Steps
+pub mod Knowledge
 pub mod Tracks
+pub mod Costs
+pub mod Refusing
+pub mod Serving
+pub mod Answers
+pub mod Starting
 pub mod Standing
 pub mod Stepping
-pub mod Answers
+pub mod Moving
+pub mod Opening
+pub mod NodeLaws

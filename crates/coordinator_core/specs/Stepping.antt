@@ -1,20 +1,42 @@
--- What a step of the coordinator promises: all that `Node` promises of a step.
-use Rattle.std.specs.Prelude.{◌≡◌, ◌+◌, ℕ, false, Result, IfOk, IfErr}
-use Rattle.disk_model.specs.Disk.{Rose}
+-- What a step and a restart of the coordinator promise: all that `Node` promises of them.
+use Rattle.std.specs.Prelude.{◌≡◌, ◌+◌, ℕ, List, Option, Result, Err, IfOk, IfErr, OnOk, OnErr}
+use Rattle.disk_model.specs.Disk.{DiskState}
+use Rattle.seata_types.specs.declared.acts.Act.{Act}
 use Rattle.seata_types.specs.declared.errors.NodeError.{NodeError}
+use Rattle.seata_types.specs.declared.errors.OpenError.{OpenError}
+use Rattle.seata_types.specs.declared.errors.OpenError.TheVariants as open_error
+use Rattle.seata_types.specs.declared.ids.Place.{Place}
+use Rattle.seata_types.specs.declared.ids.Place.TheVariants as place
 use Rattle.seata_types.specs.declared.messages.Input.{Input}
 use Rattle.seata_types.specs.declared.messages.Step.{Step}
+use Rattle.history_rules.specs.Own.{Own}
+use Rattle.history_rules.specs.Nodes.{Role}
+use Rattle.history_text.specs.Durable.{SamePicks, HavePick}
 use Rattle.history_text.specs.Framing.{ComesFramable, SendsFramable}
-use Rattle.history_text.specs.Promises.{TakesStep, AfterError, HasCause, goes_down}
-use Rattle.history_text.specs.Promises.{steps_of as steps_taken}
+use Rattle.history_text.specs.Promises.{TakesStep, AfterError, DisksFail, StaysItself, goes_down, steps_of, AreTold, StandsAsBefore, Restarts, IsRestartError, stays_down}
 use Rattle.coordinator_core.specs.declared.nodes.Coordinator.{Coordinator}
-use Rattle.coordinator_core.specs.Standing.{StandsFor, times_of, role_of, steps_of}
+use Rattle.coordinator_core.specs.Standing.{StandsAs, serves, disks_of, needs, size_of, steps_left, is_down}
 
-pub record StepsBy (old new : Coordinator) (given : Input) (now : ℕ) (result : Result Step NodeError) : Type 0 where
-  pub answers : IfOk result (λ step. TakesStep StandsFor (role_of (times_of old)) old new given now step)
+-- where it stands
+abbrev pub stands_at : {D : Type 0} → Coordinator D → Place
+stands_at c = place.Tc
+
+pub record StepsBy {D : Type 0} (state : D → DiskState) (old new : Coordinator D) (given : Input) (now : ℕ) (result : Result Step NodeError) : Type 0 where
+  pub answers : IfOk result (TakesStep (StandsAs state) old new given now)
   pub framable : ComesFramable given → IfOk result SendsFramable
-  pub after : IfErr result (AfterError StandsFor (role_of (times_of old)) old new given now)
-  pub cause : IfErr result (HasCause (Rose 0 0) (λ full. ⊥))
-  pub same : times_of new ≡ times_of old
-  pub counted : steps_of new + steps_taken result ≡ steps_of old
-  pub up : goes_down result ≡ false
+  pub after : IfErr result (AfterError (StandsAs state) (DisksFail (disks_of state old) (disks_of state new)) (needs old) (size_of state old) old new given now)
+  pub same : StaysItself stands_at serves (disks_of state) old new
+  pub picks : SamePicks (disks_of state old) (disks_of state new)
+  pub counted : steps_left new + steps_of result ≡ steps_left old
+  pub down : is_down new ≡ goes_down result
+
+pub record RestartsBy {D : Type 0} (state : D → DiskState) (old new : Coordinator D) (pick : ℕ) (calls : Option ℕ) (now : ℕ) (result : Result Act OpenError) : Type 0 where
+  pub restarts : AreTold (disks_of state old) → IfOk result (Restarts (StandsAs state) (DisksFail (disks_of state old) (disks_of state new)) old new pick calls now)
+  pub after : AreTold (disks_of state old) → OnErr result (StandsAsBefore (StandsAs state) old new)
+  pub cause : AreTold (disks_of state old) → (role : Role) (owns : List Own) → StandsAs state old role owns →
+      IfErr result (IsRestartError role (DisksFail (disks_of state old) (disks_of state new)) (needs new) (size_of state new))
+  pub picked : OnOk result (HavePick pick (disks_of state new))
+  pub failed : result ≡ Err open_error.Failed → DisksFail (disks_of state old) (disks_of state new)
+  pub same : StaysItself stands_at serves (disks_of state) old new
+  pub counted : steps_left new ≡ steps_left old
+  pub down : is_down new ≡ stays_down result

@@ -1,5 +1,7 @@
--- What the coordinator's table keeps of its own entries.
-use Rattle.std.specs.Prelude.{◌≡◌, ℕ, Bool, true, false, if◌then◌else◌, List, [], ◌∷◌, Option, Some, None}
+-- What a coordinator knows after its own entries.
+use Rattle.std.specs.Prelude.{◌≡◌, ℕ, if◌then◌else◌, List, [], ◌∷◌, Some, None}
+use Rattle.seata_types.specs.declared.messages.Input.{Input}
+use Rattle.seata_types.specs.declared.messages.Step.{Step}
 use Rattle.seata_types.specs.declared.limits.TheConstants.{MANAGERS, CALLS}
 use Rattle.durable_records.specs.declared.coordinators.SessionRecord.{SessionRecord}
 use Rattle.durable_records.specs.declared.coordinators.SessionRecord.TheVariants as log
@@ -7,19 +9,39 @@ use Rattle.durable_records.specs.Progress.{is_going, is_finished}
 use Rattle.durable_records.specs.SessionOrder.{Allowed}
 use Rattle.frame_codec.specs.Limits.{IsCounted}
 use Rattle.history_rules.specs.Own.{Own}
-use Rattle.history_rules.specs.Devices.{is_down, calls_left}
-use Rattle.history_rules.specs.CoordinatorMemory.{sessions_left, due, rests_since}
+use Rattle.history_rules.specs.CoordinatorMemory.{Times, sessions_left, start, due, rests_since}
+use Rattle.history_rules.specs.CoordinatorRules.{coordinator_answer}
 use Rattle.retry_turns.specs.Plans.{Plans, moment_of}
 use Rattle.session_log.specs.declared.sessions.Snapshot.{Snapshot}
 use Rattle.session_log.specs.SnapshotOf.{snapshot_of}
 use Rattle.session_memory.specs.Order.{AreRising}
 use Rattle.coordinator_core.specs.declared.moments.Moments.{Moments}
-use Rattle.coordinator_core.specs.declared.table.Table.{Table}
+use Rattle.coordinator_core.specs.Knowledge.{Knowledge}
 use Rattle.coordinator_core.specs.Changes.{kept_moment}
 
--- the records that stand after these own entries, on disks that had none before
-abbrev pub records : List Own → List SessionRecord
-records os = (sessions_left [] os).records
+-- own entries of a coordinator, over the records that its disks had before
+pub record Course : Type 0 where
+  pub past : List SessionRecord
+  pub owns : List Own
+
+-- one entry more
+abbrev pub with_own : Own → Course → Course
+with_own o c = record { past = c.past; owns = o ∷ c.owns }
+
+-- the records that stand
+abbrev pub records : Course → List SessionRecord
+records c = (sessions_left c.past c.owns).records
+
+-- when a transaction is due, and since when it rests
+abbrev pub due_on : (retry : ℕ) → Course → ℕ → ℕ
+due_on retry c x = due retry (start c.past) c.owns x
+
+abbrev pub rests_on : Course → ℕ → ℕ
+rests_on c x = rests_since (start c.past) c.owns x
+
+-- the answer of the coordinator's rule
+abbrev pub rule_answer : Times → Course → ℕ → Input → Step
+rule_answer times c now given = coordinator_answer times c.past c.owns (records c) now given
 
 -- a record's manager and call are numbers that a message may have
 abbrev pub IsSendable : SessionRecord → Type 0
@@ -49,8 +71,6 @@ pub record Tracks (memory : Snapshot) (moments : Moments) (rs : List SessionReco
   pub planned : (x : ℕ) → moment_of moments.turns x ≡ (if is_going rs x then Some (kept_moment (due_at x)) else None)
   pub resting : (x : ℕ) → moment_of moments.rests x ≡ (if is_finished rs x then Some (rested x) else None)
 
--- the table is the one of these own entries, of a node that is up and whose disk no stop arms
-pub record Stands (t : Table) (os : List Own) : Type 0 where
-  pub up : is_down os ≡ false
-  pub unarmed : calls_left false os ≡ None
-  pub tracks : Tracks t.memory t.moments (records os) (due t.retry 0 os) (rests_since 0 os)
+-- it is what is known after these own entries
+pub record Follows (k : Knowledge) (c : Course) : Type 0 where
+  pub tracks : Tracks k.memory k.moments (records c) (due_on k.retry c) (rests_on c)

@@ -1,13 +1,14 @@
 //! The answers of branches in their second phase.
 use crate::kinds;
-use crate::table::{Table, may_come};
+use crate::table::{Table, may_come, node_error};
+use disk_model::Disk;
 use durable_records::SessionRecord;
 use history_text::still;
-use seata_types::{Act, BranchStatus, Durable, Leg, NoMemory, Place, Step};
+use seata_types::{Act, BranchStatus, Durable, Leg, NoMemory, NodeError, Place, Step};
 use std::alloc::Global;
 
-impl Table {
-    ghost use Rattle.std.specs.Prelude.{◌≡◌, ◌<◌, ◌≤◌, ◌+◌, ◌^◌, ◌&&◌, not, true};
+impl<D: Disk> Table<D> {
+    ghost use Rattle.std.specs.Prelude.{◌≡◌, ◌≤◌, ◌^◌, ◌&&◌, not, true, false, IfOk};
     ghost use Rattle.seata_types.specs.declared.acts.Act.TheVariants as act;
     ghost use Rattle.seata_types.specs.declared.acts.Durable.TheVariants as durable;
     ghost use Rattle.seata_types.specs.declared.messages.Input.TheVariants as input;
@@ -18,7 +19,10 @@ impl Table {
     ghost use Rattle.session_memory.specs.Changes.{is_begin, is_open};
     ghost use Rattle.session_memory.specs.Holding.{keeps_rows};
     ghost use Rattle.session_memory.specs.Lookups.{status_in};
-    ghost use Rattle.coordinator_core.specs.Answers.{Answers, AnswersAs};
+    ghost use Rattle.session_store.specs.Keeping.{is_down};
+    ghost use Rattle.history_text.specs.Framing.{SendsFramable};
+    ghost use Rattle.coordinator_core.specs.Knowledge.{memory};
+    ghost use Rattle.coordinator_core.specs.Answers.{Answers, AnswersAs, Frames};
 
     /// Takes the answer of a branch that was asked to commit.
     pub(crate) fn branch_committed(
@@ -29,10 +33,11 @@ impl Table {
         status: BranchStatus,
         stmt: u16,
         now: u64,
-    ) -> Result<Step, NoMemory>
-        requires room { self.old.memory.acts + 1 < 2 ^ 32 }
+    ) -> Result<Step, NodeError>
+        requires up { is_down self.old.sessions ≡ false }
         requires moment { now ≤ 2 ^ 63 }
-        ensures { Answers self.old self.new (input.Message from (message.BranchCommitted leg.xid leg.branch status stmt)) now result }
+        ensures answers { Answers D.state self.old self.new (input.Message from (message.BranchCommitted leg.xid leg.branch status stmt)) now result }
+        ensures framable { Frames (input.Message from (message.BranchCommitted leg.xid leg.branch status stmt)) result }
     {
         if !self.may_commit(leg) {
             return Ok(still(Act::Ignored));
@@ -49,10 +54,11 @@ impl Table {
         status: BranchStatus,
         stmt: u16,
         now: u64,
-    ) -> Result<Step, NoMemory>
-        requires room { self.old.memory.acts + 1 < 2 ^ 32 }
+    ) -> Result<Step, NodeError>
+        requires up { is_down self.old.sessions ≡ false }
         requires moment { now ≤ 2 ^ 63 }
-        ensures { Answers self.old self.new (input.Message from (message.BranchRollbacked leg.xid leg.branch status stmt)) now result }
+        ensures answers { Answers D.state self.old self.new (input.Message from (message.BranchRollbacked leg.xid leg.branch status stmt)) now result }
+        ensures framable { Frames (input.Message from (message.BranchRollbacked leg.xid leg.branch status stmt)) result }
     {
         if !self.may_roll_back(leg) {
             return Ok(still(Act::Ignored));
@@ -62,25 +68,25 @@ impl Table {
 
     // Whether this is an unended branch of a transaction that commits.
     fn may_commit(&self, leg: Leg) -> bool
-        ensures { result ≡ (not (keeps_rows (status_in self.now.memory leg.xid.0)) && is_open self.now.memory leg.xid.0 leg.branch.0) }
+        ensures { result ≡ (not (keeps_rows (status_in (memory self.now) leg.xid.0)) && is_open (memory self.now) leg.xid.0 leg.branch.0) }
     {
-        kinds::is_committing(self.memory.status(leg.xid)) && self.is_open(leg)
+        kinds::is_committing(self.status(leg.xid)) && self.is_open(leg)
     }
 
     // Whether this is an unended branch of a transaction that rolls back.
     fn may_roll_back(&self, leg: Leg) -> bool
-        ensures { result ≡ ((keeps_rows (status_in self.now.memory leg.xid.0) && not (is_begin (status_in self.now.memory leg.xid.0))) && is_open self.now.memory leg.xid.0 leg.branch.0) }
+        ensures { result ≡ ((keeps_rows (status_in (memory self.now) leg.xid.0) && not (is_begin (status_in (memory self.now) leg.xid.0))) && is_open (memory self.now) leg.xid.0 leg.branch.0) }
     {
-        kinds::is_rolling(self.memory.status(leg.xid)) && self.is_open(leg)
+        kinds::is_rolling(self.status(leg.xid)) && self.is_open(leg)
     }
 
     // Whether this is an unended branch of a transaction in its second phase.
     fn is_open(&self, leg: Leg) -> bool
-        ensures { result ≡ is_open self.now.memory leg.xid.0 leg.branch.0 }
+        ensures { result ≡ is_open (memory self.now) leg.xid.0 leg.branch.0 }
     {
         let Leg { xid, branch } = leg;
         let item = SessionRecord::Ended { xid, branch };
-        let open = may_come(&self.memory, &item);
+        let open = may_come(self.memory(), &item);
         drop(item);
         open
     }
@@ -93,11 +99,12 @@ impl Table {
         status: BranchStatus,
         stmt: u16,
         now: u64,
-    ) -> Result<Step, NoMemory>
-        requires room { self.old.memory.acts + 1 < 2 ^ 32 }
+    ) -> Result<Step, NodeError>
+        requires up { is_down self.old.sessions ≡ false }
         requires moment { now ≤ 2 ^ 63 }
-        requires open { is_open self.old.memory leg.xid.0 leg.branch.0 ≡ true }
-        ensures { AnswersAs (λ rs. end_answer rs leg.xid leg.branch status stmt) self.old self.new now result }
+        requires open { is_open (memory self.old) leg.xid.0 leg.branch.0 ≡ true }
+        ensures answers { AnswersAs D.state (λ rs. end_answer rs leg.xid leg.branch status stmt) self.old self.new now result }
+        ensures framable { IfOk result SendsFramable }
     {
         match status {
             BranchStatus::PhaseTwoCommitted => self.ended(alloc, leg, now),
@@ -111,45 +118,68 @@ impl Table {
     }
 
     // The branch is done.
-    fn ended(&mut self, alloc: Global, leg: Leg, now: u64) -> Result<Step, NoMemory>
-        requires room { self.old.memory.acts + 1 < 2 ^ 32 }
+    fn ended(&mut self, alloc: Global, leg: Leg, now: u64) -> Result<Step, NodeError>
+        requires up { is_down self.old.sessions ≡ false }
         requires moment { now ≤ 2 ^ 63 }
-        requires open { is_open self.old.memory leg.xid.0 leg.branch.0 ≡ true }
-        ensures { AnswersAs (λ rs. own.still (act.Durable (durable.Ended leg.xid leg.branch))) self.old self.new now result }
+        requires open { is_open (memory self.old) leg.xid.0 leg.branch.0 ≡ true }
+        ensures answers { AnswersAs D.state (λ rs. own.still (act.Durable (durable.Ended leg.xid leg.branch))) self.old self.new now result }
+        ensures framable { IfOk result SendsFramable }
     {
         let Leg { xid, branch } = leg;
-        if !self.make(alloc, SessionRecord::Ended { xid, branch }, now)? {
-            return Ok(still(Act::Ignored));
+        let done = Durable::Ended { xid, branch };
+        match self.make(alloc, SessionRecord::Ended { xid, branch }, now) {
+            Ok(made) => {
+                if !made {
+                    return Ok(still(Act::Ignored));
+                }
+                Ok(still(Act::Durable(done)))
+            }
+            Err(error) => Err(node_error(error, done)),
         }
-        Ok(still(Act::Durable(Durable::Ended { xid, branch })))
     }
 
     // The branch failed for good, and with it the second phase of its transaction.
-    fn failed(&mut self, alloc: Global, leg: Leg, stmt: u16, now: u64) -> Result<Step, NoMemory>
-        requires room { self.old.memory.acts + 1 < 2 ^ 32 }
+    fn failed(&mut self, alloc: Global, leg: Leg, stmt: u16, now: u64) -> Result<Step, NodeError>
+        requires up { is_down self.old.sessions ≡ false }
         requires moment { now ≤ 2 ^ 63 }
-        requires open { is_open self.old.memory leg.xid.0 leg.branch.0 ≡ true }
-        ensures { AnswersAs (λ rs. own.still (act.Durable (durable.Failed leg.xid leg.branch stmt))) self.old self.new now result }
+        requires open { is_open (memory self.old) leg.xid.0 leg.branch.0 ≡ true }
+        ensures answers { AnswersAs D.state (λ rs. own.still (act.Durable (durable.Failed leg.xid leg.branch stmt))) self.old self.new now result }
+        ensures framable { IfOk result SendsFramable }
     {
         let Leg { xid, branch } = leg;
-        if !self.make(alloc, SessionRecord::Failed { xid, branch, stmt }, now)? {
-            return Ok(still(Act::Ignored));
+        let done = Durable::Failed { xid, branch, stmt };
+        match self.make(alloc, SessionRecord::Failed { xid, branch, stmt }, now) {
+            Ok(made) => {
+                if !made {
+                    return Ok(still(Act::Ignored));
+                }
+                Ok(still(Act::Durable(done)))
+            }
+            Err(error) => Err(node_error(error, done)),
         }
-        Ok(still(Act::Durable(Durable::Failed { xid, branch, stmt })))
     }
 
     // The branch is to be asked again, which may change the status of its transaction.
-    fn retry_later(&mut self, alloc: Global, leg: Leg, now: u64) -> Result<Step, NoMemory>
-        requires room { self.old.memory.acts + 1 < 2 ^ 32 }
+    fn retry_later(&mut self, alloc: Global, leg: Leg, now: u64) -> Result<Step, NodeError>
+        requires up { is_down self.old.sessions ≡ false }
         requires moment { now ≤ 2 ^ 63 }
-        requires open { is_open self.old.memory leg.xid.0 leg.branch.0 ≡ true }
-        ensures { AnswersAs (λ rs. retry_answer rs leg.xid leg.branch (may_retry rs leg.xid.0)) self.old self.new now result }
+        requires open { is_open (memory self.old) leg.xid.0 leg.branch.0 ≡ true }
+        ensures answers { AnswersAs D.state (λ rs. retry_answer rs leg.xid leg.branch (may_retry rs leg.xid.0)) self.old self.new now result }
+        ensures framable { IfOk result SendsFramable }
     {
         let Leg { xid, branch } = leg;
-        if self.make(alloc, SessionRecord::Retrying { xid }, now)? {
-            return Ok(still(Act::Durable(Durable::Retrying { xid, branch })));
+        let done = Durable::Retrying { xid, branch };
+        match self.make(alloc, SessionRecord::Retrying { xid }, now) {
+            Ok(made) => {
+                if made {
+                    return Ok(still(Act::Durable(done)));
+                }
+                match self.plan_again(xid, now) {
+                    Ok(()) => Ok(still(Act::Retry { xid, branch })),
+                    Err(NoMemory) => Err(NodeError::NoMemory),
+                }
+            }
+            Err(error) => Err(node_error(error, done)),
         }
-        self.plan_again(xid, now)?;
-        Ok(still(Act::Retry { xid, branch }))
     }
 }

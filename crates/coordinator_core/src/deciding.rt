@@ -8,17 +8,22 @@ ghost use Rattle.seata_types.specs.declared.statuses.Decision.TheVariants as dec
 ghost use Rattle.history_rules.specs.Own as own;
 ghost use Rattle.history_text.specs.Framing.{SendsFramable};
 
-use crate::table::Table;
+use crate::table::{Table, node_error};
+use disk_model::Disk;
 use durable_records::SessionRecord;
 use history_text::{sends, still};
-use seata_types::{Act, Decision, Durable, GlobalStatus, Message, NoMemory, Place, Step, Xid};
+use seata_types::{
+    Act, Decision, Durable, GlobalStatus, Message, NoMemory, NodeError, Place, Step, Xid,
+};
 use std::alloc::Global;
 
-impl Table {
-    ghost use Rattle.std.specs.Prelude.{◌≡◌, ◌<◌, ◌≤◌, ◌+◌, ◌^◌, Ok};
+impl<D: Disk> Table<D> {
+    ghost use Rattle.std.specs.Prelude.{◌≡◌, ◌≤◌, ◌^◌, true, false, Ok};
     ghost use Rattle.seata_types.specs.declared.messages.Input.TheVariants as input;
     ghost use Rattle.seata_types.specs.declared.messages.Message.TheVariants as message;
-    ghost use Rattle.coordinator_core.specs.Answers.{Answers};
+    ghost use Rattle.durable_records.specs.SessionOrder.{is_counted};
+    ghost use Rattle.session_store.specs.Keeping.{managers_of, is_down};
+    ghost use Rattle.coordinator_core.specs.Answers.{Answers, Frames};
 
     /// Begins a transaction for a manager, or tells the one that it has.
     pub(crate) fn begin(
@@ -28,25 +33,33 @@ impl Table {
         manager: u16,
         timeout: u64,
         now: u64,
-    ) -> Result<Step, NoMemory>
-        requires room { self.old.memory.acts + 1 < 2 ^ 32 }
+    ) -> Result<Step, NodeError>
+        requires up { is_down self.old.sessions ≡ false }
         requires moment { now ≤ 2 ^ 63 }
-        ensures { Answers self.old self.new (input.Message from (message.Begin manager timeout)) now result }
+        requires manager { is_counted (managers_of self.old.sessions) manager ≡ true }
+        ensures answers { Answers D.state self.old self.new (input.Message from (message.Begin manager timeout)) now result }
+        ensures framable { Frames (input.Message from (message.Begin manager timeout)) result }
     {
-        if let Some(xid) = self.memory.manager_xid(manager) {
+        if let Some(xid) = self.sessions.manager_xid(manager) {
             return Ok(begun(Act::Known { xid }, manager, xid));
         }
-        let xid = self.memory.next_xid();
+        let xid = self.next_xid();
         let item = SessionRecord::Begun {
             xid,
             manager,
             begun: now,
             timeout,
         };
-        if !self.make(alloc, item, now)? {
-            return Ok(still(Act::Ignored));
+        let done = Durable::Begun { xid };
+        match self.make(alloc, item, now) {
+            Ok(made) => {
+                if !made {
+                    return Ok(still(Act::Ignored));
+                }
+                Ok(begun(Act::Durable(done), manager, xid))
+            }
+            Err(error) => Err(node_error(error, done)),
         }
-        Ok(begun(Act::Durable(Durable::Begun { xid }), manager, xid))
     }
 
     /// Answers a GlobalCommit: past its timeout a transaction is rolled back.
@@ -56,19 +69,21 @@ impl Table {
         from: Place,
         xid: Xid,
         now: u64,
-    ) -> Result<Step, NoMemory>
-        requires room { self.old.memory.acts + 1 < 2 ^ 32 }
+    ) -> Result<Step, NodeError>
+        requires up { is_down self.old.sessions ≡ false }
         requires moment { now ≤ 2 ^ 63 }
-        ensures { Answers self.old self.new (input.Message from (message.GlobalCommit xid)) now result }
+        ensures answers { Answers D.state self.old self.new (input.Message from (message.GlobalCommit xid)) now result }
+        ensures framable { Frames (input.Message from (message.GlobalCommit xid)) result }
     {
         let how = commit_or_timeout(self.is_past(xid, now));
-        let made = self.make(alloc, SessionRecord::Decided { xid, how }, now)?;
-        let status = self.memory.status(xid);
-        Ok(sends(
-            decided_or_told(made, xid, how, status),
-            from,
-            Message::CommitStatus { xid, status },
-        ))
+        match self.make(alloc, SessionRecord::Decided { xid, how }, now) {
+            Ok(made) => {
+                let status = self.status(xid);
+                let act = decided_or_told(made, xid, how, status);
+                Ok(sends(act, from, Message::CommitStatus { xid, status }))
+            }
+            Err(error) => Err(node_error(error, Durable::Decided { xid, how })),
+        }
     }
 
     /// Answers a GlobalRollback.
@@ -78,26 +93,29 @@ impl Table {
         from: Place,
         xid: Xid,
         now: u64,
-    ) -> Result<Step, NoMemory>
-        requires room { self.old.memory.acts + 1 < 2 ^ 32 }
+    ) -> Result<Step, NodeError>
+        requires up { is_down self.old.sessions ≡ false }
         requires moment { now ≤ 2 ^ 63 }
-        ensures { Answers self.old self.new (input.Message from (message.GlobalRollback xid)) now result }
+        ensures answers { Answers D.state self.old self.new (input.Message from (message.GlobalRollback xid)) now result }
+        ensures framable { Frames (input.Message from (message.GlobalRollback xid)) result }
     {
         let how = Decision::Rollback;
-        let made = self.make(alloc, SessionRecord::Decided { xid, how }, now)?;
-        let status = self.memory.status(xid);
-        Ok(sends(
-            decided_or_told(made, xid, how, status),
-            from,
-            Message::RollbackStatus { xid, status },
-        ))
+        match self.make(alloc, SessionRecord::Decided { xid, how }, now) {
+            Ok(made) => {
+                let status = self.status(xid);
+                let act = decided_or_told(made, xid, how, status);
+                Ok(sends(act, from, Message::RollbackStatus { xid, status }))
+            }
+            Err(error) => Err(node_error(error, Durable::Decided { xid, how })),
+        }
     }
 
     /// Answers a question for a status.
     pub(crate) fn tell(&mut self, from: Place, xid: Xid, now: u64) -> Step
-        ensures { Answers self.old self.new (input.Message from (message.GlobalStatus xid)) now (Ok result) }
+        ensures answers { Answers D.state self.old self.new (input.Message from (message.GlobalStatus xid)) now (Ok result) }
+        ensures framable { Frames (input.Message from (message.GlobalStatus xid)) (Ok result) }
     {
-        let status = self.memory.status(xid);
+        let status = self.status(xid);
         sends(
             Act::Told { xid, status },
             from,

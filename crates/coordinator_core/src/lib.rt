@@ -11,6 +11,7 @@ pub mod nodes;
 mod questions;
 mod registering;
 mod rests;
+mod starting;
 mod table;
 mod turning;
 

@@ -15,7 +15,7 @@ pub struct Moments {
 impl Moments {
     ghost use Rattle.std.specs.Prelude.{◌≡◌, [], true, OnOk, OnErr};
     ghost use Rattle.retry_turns.specs.Plans.{is_planned, with_plan};
-    ghost use Rattle.coordinator_core.specs.Changes.{prepared, withdrawn, settled, IsPlannedFor};
+    ghost use Rattle.coordinator_core.specs.Changes.{prepared, withdrawn, settled, GivesUp, IsPlannedFor};
 
     /// Nothing is planned, and nothing rests; takes no memory.
     pub fn new(alloc: Global) -> Moments
@@ -62,6 +62,17 @@ impl Moments {
             SessionRecord::Finished { xid } => self.turns.forget(*xid),
             SessionRecord::Forgot { xid } => self.rests.forget(*xid),
             _ => {}
+        }
+    }
+
+    /// After a record that was prepared isn't made; where the disks failed, it is known.
+    pub fn give_up(&mut self, item: &SessionRecord, now: u64, retry: u64, failed: bool)
+        ensures { GivesUp failed retry now item.now self.old self.new }
+    {
+        if failed {
+            self.settle(item, now, retry);
+        } else {
+            self.withdraw(item);
         }
     }
 

@@ -1,12 +1,14 @@
 //! The coordinator as a node.
-ghost use Rattle.std.specs.Prelude.{◌+◌, ◌<◌, ◌^◌};
+ghost use Rattle.std.specs.Prelude.{◌≡◌};
+ghost use Rattle.disk_model.specs.Stop.{below};
 
-use crate::choosing;
 use crate::table::Table;
+use crate::{choosing, starting};
+use disk_model::{Disk, Stoppable};
 use history_text::Node;
 use lock_table::Steps;
-use seata_types::{Input, NoMemory, NodeError, Place, Step};
-use session_memory::Memory;
+use seata_types::{Act, Durable, Input, NoMemory, NodeError, OpenError, Place, Step};
+use session_store::Sessions;
 use std::alloc::Global;
 use std::marker::Brand;
 use std::sync::ledger::{Blank, Ledger};
@@ -14,55 +16,140 @@ use std::sync::ledger::{Blank, Ledger};
 /// How many steps a node can make in all, this project's own.
 pub const NODE_STEPS: u32 = 4_294_967_294;
 
-/// The transaction coordinator, in memory.
+/// The transaction coordinator, over its two disks.
 #[derive(Drop)]
-pub struct Coordinator {
-    table: Table,
+pub struct Coordinator<D> {
+    table: Table<Stoppable<D>>,
+    start: u64,
+    // The act in flight, while it is down, and how many records stood before it.
+    flight: Option<Durable>,
+    records: u32,
     left: u32,
-    ghost room: { table.memory.acts + left < 2 ^ 32 },
 }
 
-impl Coordinator {
-    ghost use Rattle.std.specs.Prelude.{◌≡◌, ◌<◌, ◌≤◌, ◌^◌, [], List};
-    ghost use Rattle.history_rules.specs.Own.{Own};
-    ghost use Rattle.coordinator_core.specs.declared.nodes.TheConstants.{NODE_STEPS};
-    ghost use Rattle.coordinator_core.specs.Standing.{StandsFor, times_of, steps_of, unended_sessions, held_rows, InputCosts};
-    ghost use Rattle.coordinator_core.specs.Stepping.{StepsBy};
-    ghost use Rattle.coordinator_core.specs.Tracks.{records};
-    ghost use Rattle.session_log.specs.SnapshotOf.{snapshot_of};
+// An error, and the disks without their stops.
+fn give_back<D: Disk>(
+    error: OpenError,
+    first: Stoppable<D>,
+    second: Stoppable<D>,
+) -> (OpenError, D, D)
+    ensures { result ≡ (error, below first, below second) }
+{
+    (error, first.into_inner(), second.into_inner())
+}
 
-    /// A coordinator that asks again after `retry` ticks and forgets a finished transaction after `forget`, or never where
-    /// that is 0; takes no memory.
-    #[tactic(auto, unfolding(crate::specs::Standing::StandsFor))]
-    pub fn new(alloc: Global, retry: u64, forget: u64) -> Coordinator
-        ensures fresh { StandsFor result [] }
-        ensures times { times_of result ≡ record { retry = retry; forget = forget } }
-        ensures steps { steps_of result ≡ NODE_STEPS }
+impl<D: Disk> Coordinator<D> {
+    ghost use Rattle.std.specs.Prelude.{◌≡◌, ◌<◌, ◌≤◌, ◌^◌, true, false, [], ℕ, List, Some, IfOk, IfErr};
+    ghost use Rattle.disk_model.specs.Disk.{IsSettled};
+    ghost use Rattle.durable_records.specs.declared.coordinators.SessionRecord.{SessionRecord};
+    ghost use Rattle.session_store.specs.Keeping.{twin, known, found_of};
+    ghost use Rattle.session_log.specs.SnapshotOf.{snapshot_of};
+    ghost use Rattle.journal_checkpoint.specs.Keeping.{first_disk, second_disk};
+    ghost use Rattle.disk_model.specs.Stop.{below};
+    ghost use Rattle.seata_types.specs.declared.limits.TheConstants.{MANAGERS};
+    ghost use Rattle.coordinator_core.specs.Opening.{IsOpened, HandsBack};
+    ghost use Rattle.coordinator_core.specs.Standing.{StandsOver, times_of, steps_left, serves, is_down, sessions_of, course, unended_sessions};
+    ghost use Rattle.coordinator_core.specs.Costs.{held_rows, InputCosts};
+    ghost use Rattle.coordinator_core.specs.Moving.{start_of, kept_of, Misses, Arms, ArmsWith, ComesBack};
+    ghost use Rattle.coordinator_core.specs.Stepping.{StepsBy, RestartsBy};
+    ghost use Rattle.coordinator_core.specs.Tracks.{records};
+    ghost use Rattle.history_rules.specs.Own.{Own};
+    ghost use Rattle.disk_model.specs.declared.disk.TheConstants.{LAST_PICK};
+
+    /// Opens two disks of one size, of the scenario with so many managers and resources. It asks a branch again after `retry`
+    /// ticks, and forgets a finished transaction after `forget`, or never where that is 0. The disks come back where it fails;
+    /// `Full` never comes.
+    pub fn open(
+        alloc: Global,
+        first: D,
+        second: D,
+        retry: u64,
+        forget: u64,
+        managers: u16,
+        resources: u16,
+    ) -> Result<Coordinator<D>, (OpenError, D, D)>
+        requires first { IsSettled (D.state first) }
+        requires second { IsSettled (D.state second) }
+        requires managers { managers ≤ MANAGERS }
+        ensures opened { IfOk result (IsOpened D.state first second managers resources) }
+        ensures times { IfOk result (λ c. times_of c ≡ record { retry = retry; forget = forget }) }
+        ensures refused { IfErr result (HandsBack D.state first second managers resources) }
     {
-        Coordinator {
-            table: Table::new(alloc, retry, forget),
-            left: NODE_STEPS,
+        let first = Stoppable::new(first);
+        let second = Stoppable::new(second);
+        let sessions = match Sessions::open(alloc, first, second, managers, resources) {
+            Ok(sessions) => sessions,
+            Err((error, first, second)) => return Err(give_back(error, first, second)),
+        };
+        let start = starting::start_of(sessions.memory());
+        match starting::started(alloc, sessions.memory(), start) {
+            Ok(moments) => {
+                let table = Table {
+                    retry,
+                    forget,
+                    sessions,
+                    moments,
+                };
+                Ok(Coordinator {
+                    table,
+                    start,
+                    flight: None,
+                    records: 0,
+                    left: NODE_STEPS,
+                })
+            }
+            Err(NoMemory) => {
+                let (first, second) = sessions.into_disks();
+                Err(give_back(OpenError::NoMemory, first, second))
+            }
         }
     }
 
-    /// What is known of all transactions; takes no memory.
-    #[tactic(auto, unfolding(crate::specs::Standing::StandsFor))]
-    pub fn memory(&self) -> &Memory
-        ensures { (owns : List Own) → StandsFor self.now owns → result.now ≡ snapshot_of (records owns) }
+    /// Its transactions on their disks; takes no memory.
+    pub fn sessions(&self) -> &Sessions<Stoppable<D>>
+        requires up { is_down self.now ≡ false }
+        ensures value { result.now ≡ sessions_of self.now }
+        ensures known { (past : List SessionRecord) (owns : List Own) → StandsOver D.state self.now past owns → known result.now ≡ snapshot_of (records (course past owns)) }
     {
-        &self.table.memory
+        &self.table.sessions
+    }
+
+    /// The moment at which its scenario's clock starts, in ticks: the latest at which a transaction began that its disks knew
+    /// at the opening, and at most 2^62.
+    pub fn start(&self) -> u64
+        ensures { result ≡ start_of self.now }
+    {
+        self.start
     }
 
     /// How many transactions began and are neither finished nor failed; takes no memory.
-    #[tactic(auto, unfolding(crate::specs::Standing::StandsFor))]
     pub fn unended(&self) -> usize
-        ensures { (owns : List Own) → StandsFor self.now owns → result ≡ unended_sessions (records owns) }
+        requires up { is_down self.now ≡ false }
+        ensures { (past : List SessionRecord) (owns : List Own) → StandsOver D.state self.now past owns → result ≡ unended_sessions (records (course past owns)) }
     {
-        choosing::unended(self.table.memory.snapshot().sessions.as_slice())
+        choosing::unended(self.table.entries())
+    }
+
+    /// The first record that its opening read, if there was one: whether it stands on the second disk, and its offset, which
+    /// is that of a snapshot too; takes no memory.
+    pub fn found(&self) -> Option<(bool, u64)>
+        ensures { result ≡ found_of (sessions_of self.now) }
+    {
+        self.table.sessions.found()
+    }
+
+    /// Its two disks, in their order; takes no memory.
+    pub fn into_disks(self) -> (D, D)
+        ensures first { result.0 ≡ below (first_disk (twin (sessions_of self))) }
+        ensures second { result.1 ≡ below (second_disk (twin (sessions_of self))) }
+    {
+        let Coordinator { table, .. } = self;
+        let Table { sessions, .. } = table;
+        let (first, second) = sessions.into_disks();
+        (first.into_inner(), second.into_inner())
     }
 
     /// Takes a step as `step` does, and counts the comparisons of keys that a registration takes.
-    #[tactic(auto, unfolding(crate::specs::Standing::StandsFor))]
     pub fn step_counted<L: Ledger>(
         &mut self,
         alloc: Global,
@@ -70,21 +157,37 @@ impl Coordinator {
         now: u64,
         steps: &mut Steps<L>,
     ) -> Result<Step, NodeError>
-        requires able { 0 < steps_of self.old }
+        requires up { is_down self.old ≡ false }
+        requires able { 0 < steps_left self.old }
         requires moment { now ≤ 2 ^ 63 }
-        ensures steps { StepsBy self.old self.new input now result }
+        requires served { serves self.old input }
+        ensures steps { StepsBy D.state self.old self.new input now result }
         ensures cost { InputCosts input (held_rows self.old.table) steps.old steps.new }
     {
+        let records = self.table.sessions.records();
         match self.table.answer(alloc, &input, now, steps) {
             Ok(step) => {
                 drop(input);
                 self.left -= 1;
                 Ok(step)
             }
-            Err(NoMemory) => {
+            Err(error) => {
                 drop(input);
-                Err(NodeError::NoMemory)
+                self.miss(records, error);
+                Err(error)
             }
+        }
+    }
+
+    // A step ended without an answer. Where the disks failed, its act is in flight over so many records.
+    fn miss(&mut self, records: u32, error: NodeError)
+        requires able { 0 < steps_left self.old }
+        ensures { Misses records error self.old self.new }
+    {
+        if let NodeError::Failed { at } = error {
+            self.flight = Some(at);
+            self.records = records;
+            self.left -= 1;
         }
     }
 
@@ -99,53 +202,163 @@ impl Coordinator {
         requires name { blank.name ≡ L.name }
         requires parts { blank.parts ≡ L.parts }
         requires some { 0 < blank.parts }
-        requires able { 0 < steps_of self.old }
+        requires up { is_down self.old ≡ false }
+        requires able { 0 < steps_left self.old }
         requires moment { now ≤ 2 ^ 63 }
-        ensures { StepsBy self.old self.new input now result }
+        requires served { serves self.old input }
+        ensures { StepsBy D.state self.old self.new input now result }
     {
         let mut steps = Steps::<L>::new(blank);
         self.step_counted(alloc, input, now, &mut steps)
     }
 
     fn step_uncounted(&mut self, alloc: Global, input: Input, now: u64) -> Result<Step, NodeError>
-        requires able { 0 < steps_of self.old }
+        requires up { is_down self.old ≡ false }
+        requires able { 0 < steps_left self.old }
         requires moment { now ≤ 2 ^ 63 }
-        ensures { StepsBy self.old self.new input now result }
+        requires served { serves self.old input }
+        ensures { StepsBy D.state self.old self.new input now result }
     {
         self.step_with::<Brand>(alloc, input, now, Blank::new(1))
     }
+
+    // Lets so many writes and syncs of the active disk pass.
+    fn arm_active(&mut self, calls: u32)
+        ensures { Arms D.state calls self.old self.new }
+    {
+        self.table.sessions.disk_mut().arm(calls);
+    }
+
+    // The same, where calls are given.
+    fn arm_with(&mut self, calls: Option<u32>)
+        ensures { ArmsWith D.state calls self.old self.new }
+    {
+        if let Some(calls) = calls {
+            self.arm_active(calls);
+        }
+    }
+
+    // Takes over what its disks hold after their restart.
+    fn come_back(&mut self, alloc: Global, now: u64) -> Result<(), NoMemory>
+        ensures { ComesBack now result self.old self.new }
+    {
+        match starting::started(alloc, self.table.sessions.memory(), now) {
+            Ok(moments) => {
+                self.table.moments = moments;
+                Ok(())
+            }
+            Err(NoMemory) => {
+                self.table.sessions.fall();
+                Err(NoMemory)
+            }
+        }
+    }
+
+    // Comes back after a crash.
+    fn restart_in_place(
+        &mut self,
+        alloc: Global,
+        now: u64,
+        pick: u16,
+        calls: Option<u32>,
+    ) -> Result<Act, OpenError>
+        requires down { is_down self.old ≡ true }
+        requires moment { now ≤ 2 ^ 63 }
+        requires pick { pick ≤ LAST_PICK }
+        ensures { RestartsBy D.state self.old self.new pick calls now result }
+    {
+        if let Err(error) = self.table.sessions.restart(alloc, pick) {
+            return Err(error);
+        }
+        if let Err(NoMemory) = self.come_back(alloc, now) {
+            return Err(OpenError::NoMemory);
+        }
+        self.arm_with(calls);
+        let kept = self.kept();
+        Ok(Act::Restarted { kept })
+    }
+
+    // The act in flight, where its record is on the disks.
+    fn kept(&self) -> Option<Durable>
+        ensures { result ≡ kept_of self.now }
+    {
+        if self.table.sessions.records() > self.records {
+            self.flight
+        } else {
+            None
+        }
+    }
 }
 
-impl Node for Coordinator {
-    ghost use Rattle.std.specs.Prelude.{false};
-    ghost use Rattle.coordinator_core.specs.Standing.{StandsFor, times_of, role_of, steps_of};
+impl<D: Disk> Node for Coordinator<D> {
+    ghost use Rattle.std.specs.Prelude.{true};
+    ghost use Rattle.coordinator_core.specs.Standing.{StandsAs, serves, steps_left, is_down, disks_of, needs, size_of};
+    ghost use Rattle.coordinator_core.specs.Stepping.{stands_at};
+    ghost use Rattle.coordinator_core.specs.NodeLaws as laws;
 
-    ghost role = { λ c. role_of (times_of c) };
+    ghost stands_for = { StandsAs D.state };
 
-    ghost stands_for = { StandsFor };
+    ghost stands_at = { stands_at };
 
-    ghost left = { steps_of };
+    ghost serves = { serves };
 
-    ghost down = { λ _. false };
+    ghost left = { steps_left };
 
-    ghost faults = { λ _. 0 };
+    ghost stops = { λ _. true };
 
-    ghost overflows = { λ _ _. ⊥ };
+    ghost down = { is_down };
+
+    ghost disks = { disks_of D.state };
+
+    ghost needs = { needs };
+
+    ghost size = { size_of D.state };
 
     fn place(&self) -> Place {
         Place::Tc
     }
 
-    #[tactic(auto, unfolding(crate::specs::Standing::StandsFor))]
     fn step(&mut self, alloc: Global, input: Input, now: u64) -> Result<Step, NodeError> {
         self.step_uncounted(alloc, input, now)
     }
 
     fn is_down(&self) -> bool {
-        false
+        self.table.sessions.is_down()
     }
 
     fn steps_left(&self) -> u32 {
         self.left
     }
+
+    fn arm(&mut self, calls: u32) {
+        self.arm_active(calls);
+    }
+
+    fn crash(&mut self) {
+        self.flight = None;
+        self.records = self.table.sessions.records();
+        self.table.sessions.fall();
+    }
+
+    fn restart(
+        &mut self,
+        alloc: Global,
+        now: u64,
+        pick: u16,
+        calls: Option<u32>,
+    ) -> Result<Act, OpenError> {
+        self.restart_in_place(alloc, now, pick, calls)
+    }
+
+    ghost places = { laws.places D.state };
+
+    ghost with_disks = { laws.with_disks D.state };
+
+    ghost downs = { laws.downs D.state };
+
+    ghost loses = { laws.loses D.state };
+
+    ghost stays = { laws.stays D.state };
+
+    ghost device = { laws.device D.state };
 }

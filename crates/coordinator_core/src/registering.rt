@@ -3,30 +3,38 @@ ghost use Rattle.std.specs.Prelude.{◌≡◌, IfOk, IfSome};
 ghost use Rattle.history_text.specs.Framing.{SendsFramable};
 ghost use Rattle.coordinator_core.specs.Steps.{regranted_step, closed_step, late_step, granted_step, conflict_step, held_step, IsFramableKey, IsFramableRow};
 
-use crate::table::Table;
+use crate::table::{Table, node_error};
 use crate::{choosing, kinds};
+use disk_model::Disk;
 use durable_records::SessionRecord;
 use history_text::{sends, still};
-use lock_table::{HoldError, Steps};
+use lock_table::Steps;
 use seata_types::{
-    Act, BranchKind, Decision, Duplicate, Durable, GlobalStatus, Leg, Message, NoMemory, Place,
-    Registered, RowKey, Step, Ticket, Xid,
+    Act, BranchId, BranchKind, Decision, Duplicate, Durable, GlobalStatus, Leg, Message, NoMemory,
+    NodeError, Place, Registered, RowKey, Step, Ticket, Xid,
 };
 use session_log::RegisterPlace;
+use session_store::RegisterError;
 use std::alloc::Global;
 use std::sync::ledger::Ledger;
 
-impl Table {
-    ghost use Rattle.std.specs.Prelude.{◌≡◌, ◌<◌, ◌≤◌, ◌+◌, ◌*◌, ◌^◌, None, true, false, length, IfOk};
+impl<D: Disk> Table<D> {
+    ghost use Rattle.std.specs.Prelude.{◌≡◌, ◌≤◌, ◌+◌, ◌*◌, ◌^◌, None, true, false, length, IfOk, IfSome};
     ghost use Rattle.seata_types.specs.declared.messages.Input.TheVariants as input;
     ghost use Rattle.seata_types.specs.declared.messages.Message.TheVariants as message;
-    ghost use Rattle.lock_table.specs.Locks.{TakesAtMost};
+    ghost use Rattle.lock_table.specs.Locks.{TakesAtMost, first_held};
+    ghost use Rattle.session_memory.specs.Holding.{held_in};
+    ghost use Rattle.session_store.specs.Keeping.{managers_of, resources_of, is_down};
     ghost use Rattle.session_memory.specs.Changes.{is_begin};
     ghost use Rattle.session_memory.specs.Lookups.{status_in, session_in};
-    ghost use Rattle.coordinator_core.specs.Choices.{has_passed_in, leg_in};
-    ghost use Rattle.coordinator_core.specs.Standing.{held_rows, MessageCosts};
+    ghost use Rattle.coordinator_core.specs.Choices.{has_passed_in, leg_in, nobody};
+    ghost use Rattle.coordinator_core.specs.Knowledge.{memory};
+    ghost use Rattle.coordinator_core.specs.Costs.{held_rows, MessageCosts};
+    ghost use Rattle.coordinator_core.specs.Serving.{ServesMessage};
+    ghost use Rattle.coordinator_core.specs.Steps.{held_step, IsFramableRow};
+    ghost use Rattle.coordinator_core.specs.Refusing.{Refuses};
     ghost use Rattle.history_text.specs.Framing.{SendsFramable};
-    ghost use Rattle.coordinator_core.specs.Answers.{Answers, TellsConflict, HasFramableRow};
+    ghost use Rattle.coordinator_core.specs.Answers.{Answers, Frames};
 
     /// Answers a registration.
     pub(crate) fn register<L: Ledger>(
@@ -39,16 +47,18 @@ impl Table {
         check: &[RowKey],
         now: u64,
         steps: &mut Steps<L>,
-    ) -> Result<Step, NoMemory>
-        requires room { self.old.memory.acts + 1 < 2 ^ 32 }
+    ) -> Result<Step, NodeError>
+        requires up { is_down self.old.sessions ≡ false }
         requires moment { now ≤ 2 ^ 63 }
-        ensures answers { Answers self.old self.new (input.Message from (message.Register xid place.resource place.call place.ticket place.kind hold.now check.now)) now result }
+        requires served { ServesMessage (managers_of self.old.sessions) (resources_of self.old.sessions) (message.Register xid place.resource place.call place.ticket place.kind hold.now check.now) }
+        ensures answers { Answers D.state self.old self.new (input.Message from (message.Register xid place.resource place.call place.ticket place.kind hold.now check.now)) now result }
+        ensures framable { Frames (input.Message from (message.Register xid place.resource place.call place.ticket place.kind hold.now check.now)) result }
         ensures cost { MessageCosts (message.Register xid place.resource place.call place.ticket place.kind hold.now check.now) (held_rows self.old) steps.old steps.new }
     {
         if let Some(leg) = self.leg(xid, place) {
             return Ok(regranted(place, leg));
         }
-        let status = self.memory.status(xid);
+        let status = self.status(xid);
         if !kinds::is_begin(status) {
             return Ok(closed(place, xid, status));
         }
@@ -60,11 +70,11 @@ impl Table {
 
     // The branch that was registered for this.
     fn leg(&self, xid: Xid, place: RegisterPlace) -> Option<Leg>
-        ensures { result ≡ leg_in self.now.memory xid place }
+        ensures { result ≡ leg_in (memory self.now) xid place }
     {
         match place.kind {
-            BranchKind::At => self.memory.ticket_leg(place.resource, place.ticket),
-            BranchKind::Tcc => self.memory.call_leg(xid, place.resource, place.call),
+            BranchKind::At => self.sessions.ticket_leg(place.resource, place.ticket),
+            BranchKind::Tcc => self.sessions.call_leg(xid, place.resource, place.call),
         }
     }
 
@@ -78,19 +88,25 @@ impl Table {
         hold: &[RowKey],
         check: &[RowKey],
         now: u64,
-    ) -> Result<Step, NoMemory>
-        requires room { self.old.memory.acts + 1 < 2 ^ 32 }
+    ) -> Result<Step, NodeError>
+        requires up { is_down self.old.sessions ≡ false }
         requires moment { now ≤ 2 ^ 63 }
-        requires new { leg_in self.old.memory xid place ≡ None }
-        requires begin { is_begin (status_in self.old.memory xid.0) ≡ true }
-        requires past { has_passed_in (session_in self.old.memory xid.0) now ≡ true }
-        ensures { Answers self.old self.new (input.Message from (message.Register xid place.resource place.call place.ticket place.kind hold.now check.now)) now result }
+        requires new { leg_in (memory self.old) xid place ≡ None }
+        requires begin { is_begin (status_in (memory self.old) xid.0) ≡ true }
+        requires past { has_passed_in (session_in (memory self.old) xid.0) now ≡ true }
+        ensures answers { Answers D.state self.old self.new (input.Message from (message.Register xid place.resource place.call place.ticket place.kind hold.now check.now)) now result }
+        ensures framable { Frames (input.Message from (message.Register xid place.resource place.call place.ticket place.kind hold.now check.now)) result }
     {
         let how = Decision::Timeout;
-        if !self.make(alloc, SessionRecord::Decided { xid, how }, now)? {
-            return Ok(still(Act::Ignored));
+        match self.make(alloc, SessionRecord::Decided { xid, how }, now) {
+            Ok(made) => {
+                if !made {
+                    return Ok(still(Act::Ignored));
+                }
+                Ok(late(place, xid))
+            }
+            Err(error) => Err(node_error(error, Durable::Late { xid })),
         }
-        Ok(late(place, xid))
     }
 
     // The branch is registered where its rows are free.
@@ -104,39 +120,49 @@ impl Table {
         check: &[RowKey],
         now: u64,
         steps: &mut Steps<L>,
-    ) -> Result<Step, NoMemory>
-        requires room { self.old.memory.acts + 1 < 2 ^ 32 }
+    ) -> Result<Step, NodeError>
+        requires up { is_down self.old.sessions ≡ false }
         requires moment { now ≤ 2 ^ 63 }
-        requires new { leg_in self.old.memory xid place ≡ None }
-        requires begin { is_begin (status_in self.old.memory xid.0) ≡ true }
-        requires timely { has_passed_in (session_in self.old.memory xid.0) now ≡ false }
-        ensures answers { Answers self.old self.new (input.Message from (message.Register xid place.resource place.call place.ticket place.kind hold.now check.now)) now result }
+        requires new { leg_in (memory self.old) xid place ≡ None }
+        requires begin { is_begin (status_in (memory self.old) xid.0) ≡ true }
+        requires served { ServesMessage (managers_of self.old.sessions) (resources_of self.old.sessions) (message.Register xid place.resource place.call place.ticket place.kind hold.now check.now) }
+        requires timely { has_passed_in (session_in (memory self.old) xid.0) now ≡ false }
+        ensures answers { Answers D.state self.old self.new (input.Message from (message.Register xid place.resource place.call place.ticket place.kind hold.now check.now)) now result }
+        ensures framable { Frames (input.Message from (message.Register xid place.resource place.call place.ticket place.kind hold.now check.now)) result }
         ensures cost { TakesAtMost (2 * length hold.now + length check.now) (held_rows self.old + length hold.now) steps.old steps.new }
     {
-        let branch = self.memory.next_branch();
-        match self.memory.register(alloc, xid, place, hold, check, steps) {
-            Ok(()) => Ok(granted(place, Leg { xid, branch })),
-            Err(error) => self.conflict(alloc, xid, place, error),
+        let branch = self.sessions.next_branch();
+        match self
+            .sessions
+            .register(alloc, xid, place, hold, check, steps)
+        {
+            Ok(_) => Ok(granted(place, Leg { xid, branch })),
+            Err(error) => self.refuse(alloc, xid, place, branch, error),
         }
     }
 
-    // Tells the row that another transaction holds, or that memory was refused.
-    fn conflict(
+    // Why a branch isn't registered: another transaction holds a row, which is told, or its record isn't made.
+    fn refuse(
         &self,
         alloc: Global,
         xid: Xid,
         place: RegisterPlace,
-        error: HoldError,
-    ) -> Result<Step, NoMemory>
-        ensures told { IfOk result (TellsConflict self.now.memory xid place error) }
-        ensures framable { HasFramableRow error → IfOk result SendsFramable }
+        branch: BranchId,
+        error: RegisterError,
+    ) -> Result<Step, NodeError>
+        ensures { Refuses (memory self.now) xid place branch error result }
     {
         match error {
-            HoldError::Held { key, by } => {
-                let rolling = kinds::is_rolling(self.memory.status(by));
-                conflict(alloc, place, xid, key, by, rolling)
+            RegisterError::Held { key, by } => {
+                let rolling = kinds::is_rolling(self.status(by));
+                match conflict(alloc, place, xid, key, by, rolling) {
+                    Ok(step) => Ok(step),
+                    Err(NoMemory) => Err(NodeError::NoMemory),
+                }
             }
-            HoldError::NoMemory => Err(NoMemory),
+            RegisterError::Store(error) => {
+                Err(node_error(error, Durable::Granted { xid, branch }))
+            }
         }
     }
 
@@ -150,10 +176,29 @@ impl Table {
         check: &[RowKey],
         now: u64,
         steps: &mut Steps<L>,
-    ) -> Result<Step, NoMemory>
-        ensures { Answers self.old self.new (input.Message from (message.LockQuery resource ticket check.now)) now result }
+    ) -> Result<Step, NodeError>
+        ensures answers { Answers D.state self.old self.new (input.Message from (message.LockQuery resource ticket check.now)) now result }
+        ensures framable { Frames (input.Message from (message.LockQuery resource ticket check.now)) result }
     {
-        let found = choosing::first_held(alloc, self.memory.locks(), check, steps)?;
+        match self.held(alloc, from, ticket, check, steps) {
+            Ok(step) => Ok(step),
+            Err(NoMemory) => Err(NodeError::NoMemory),
+        }
+    }
+
+    // Tells the first of some rows that a transaction holds.
+    fn held<L: Ledger>(
+        &self,
+        alloc: Global,
+        from: Place,
+        ticket: Ticket,
+        check: &[RowKey],
+        steps: &mut Steps<L>,
+    ) -> Result<Step, NoMemory>
+        ensures value { IfOk result (λ step. step ≡ held_step from ticket (first_held (held_in (memory self.now)) nobody check.now)) }
+        ensures framable { IfSome (first_held (held_in (memory self.now)) nobody check.now) IsFramableRow → IfOk result SendsFramable }
+    {
+        let found = choosing::first_held(alloc, self.memory().locks(), check, steps)?;
         let step = held(alloc, from, ticket, found)?;
         Ok(step)
     }

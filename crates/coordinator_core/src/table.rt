@@ -1,63 +1,90 @@
 //! The coordinator's table, and what it answers.
-ghost use Rattle.std.specs.Prelude.{◌≡◌, ◌<◌, ◌+◌, ◌^◌, true, OnOk, OnErr};
-ghost use Rattle.session_memory.specs.Changes.{may_come, after};
+ghost use Rattle.std.specs.Prelude.{◌≡◌, ◌<◌, true, false};
+ghost use Rattle.durable_records.specs.SessionOrder.{is_within};
+ghost use Rattle.session_memory.specs.Changes.{may_come};
+ghost use Rattle.session_store.specs.Keeping.{managers_of, resources_of, known, is_down, Makes as MakesRecord};
+ghost use Rattle.coordinator_core.specs.Plain.{IsPlain, is_failure, node_error};
 
 use crate::moments::Moments;
+use disk_model::Disk;
 use durable_records::SessionRecord;
 use history_text::still;
 use lock_table::Steps;
-use seata_types::{Act, Input, Leg, Message, NoMemory, Place, Step, Xid};
-use session_log::RegisterPlace;
+use seata_types::{
+    Act, BranchId, Durable, GlobalStatus, Input, Leg, Message, NoMemory, NodeError, Place, Step,
+    StoreError, Xid,
+};
+use session_log::{RegisterPlace, SessionEntry};
 use session_memory::Memory;
+use session_store::Sessions;
 use std::alloc::Global;
 use std::marker::Brand;
 use std::sync::ledger::{Blank, Ledger};
 
-/// What is known of all transactions, and the moments that it goes by. A branch is asked again after `retry` ticks; a finished
-/// transaction is forgotten after `forget`, or never where that is 0.
+/// What is known of all transactions, on two disks, and the moments that it goes by. A branch is asked again after `retry`
+/// ticks; a finished transaction is forgotten after `forget`, or never where that is 0.
 #[derive(Drop)]
-pub struct Table {
+pub struct Table<D> {
     pub retry: u64,
     pub forget: u64,
-    pub memory: Memory,
+    pub sessions: Sessions<D>,
     pub moments: Moments,
 }
 
-impl Table {
-    ghost use Rattle.std.specs.Prelude.{◌≡◌, ◌<◌, ◌≤◌, ◌+◌, ◌^◌, [], true, IfOk, OnOk, OnErr};
+impl<D: Disk> Table<D> {
+    ghost use Rattle.std.specs.Prelude.{◌≡◌, ◌<◌, ◌≤◌, ◌+◌, ◌^◌, [], true, false, IfOk, OnOk, OnErr};
     ghost use Rattle.seata_types.specs.declared.messages.Input.TheVariants as input;
+    ghost use Rattle.durable_records.specs.SessionOrder.{is_within};
     ghost use Rattle.session_memory.specs.Changes.{is_begin, may_come};
     ghost use Rattle.session_memory.specs.Lookups.{session_in, status_in};
-    ghost use Rattle.coordinator_core.specs.Changes.{Makes, IsMade, PlansAgain};
+    ghost use Rattle.session_store.specs.Keeping.{managers_of, resources_of, known, is_down};
+    ghost use Rattle.coordinator_core.specs.Plain.{IsPlain};
+    ghost use Rattle.coordinator_core.specs.Changes.{PlansAgain};
     ghost use Rattle.coordinator_core.specs.Choices.{has_passed_in};
-    ghost use Rattle.coordinator_core.specs.Tracks.{Stands};
-    ghost use Rattle.coordinator_core.specs.Standing.{times_in, held_rows, InputCosts, MessageCosts};
-    ghost use Rattle.coordinator_core.specs.Answers.{Answers, IsUnanswered};
+    ghost use Rattle.coordinator_core.specs.Knowledge.{memory, knowledge};
+    ghost use Rattle.coordinator_core.specs.Costs.{held_rows, InputCosts, MessageCosts};
+    ghost use Rattle.coordinator_core.specs.Answers.{Answers, Frames, MakesOn, AddsOn};
+    ghost use Rattle.coordinator_core.specs.Serving.{ServesInput, ServesMessage};
 
-    /// No transaction began; takes no memory.
-    pub fn new(alloc: Global, retry: u64, forget: u64) -> Table
-        ensures fresh { Stands result [] }
-        ensures times { times_in result ≡ record { retry = retry; forget = forget } }
-        ensures none { result.memory.acts ≡ 0 }
+    /// What is known; takes no memory.
+    pub(crate) fn memory(&self) -> &Memory
+        ensures { result.now ≡ memory self.now }
     {
-        Table {
-            retry,
-            forget,
-            memory: Memory::new(alloc),
-            moments: Moments::new(alloc),
-        }
+        self.sessions.memory()
     }
 
-    /// Makes a record, where it may come: one durable act. After an error all is as before.
+    /// The status of a transaction: Finished where it isn't known.
+    pub(crate) fn status(&self, xid: Xid) -> GlobalStatus
+        ensures { result ≡ status_in (memory self.now) xid.0 }
+    {
+        self.sessions.memory().status(xid)
+    }
+
+    /// The number of the next transaction.
+    pub(crate) fn next_xid(&self) -> Xid
+        ensures { result.0 ≡ (memory self.now).begun + 1 }
+    {
+        self.sessions.memory().next_xid()
+    }
+
+    /// The transactions that are known, in rising order.
+    pub(crate) fn entries(&self) -> &[SessionEntry]
+        ensures { result.now ≡ (memory self.now).sessions }
+    {
+        self.sessions.memory().snapshot().sessions.as_slice()
+    }
+
+    /// Makes a record, where it may come: one durable act. After want of memory, and where it doesn't fit, all is as before.
     pub(crate) fn make(
         &mut self,
         alloc: Global,
         item: SessionRecord,
         now: u64,
-    ) -> Result<bool, NoMemory>
-        requires room { self.old.memory.acts + 1 < 2 ^ 32 }
-        ensures made { IfOk result (λ made. IsMade made self.old self.new item now) }
-        ensures err { OnErr result (IsUnanswered self.old self.new) }
+    ) -> Result<bool, StoreError>
+        requires up { is_down self.old.sessions ≡ false }
+        requires plain { IsPlain item }
+        requires within { is_within (managers_of self.old.sessions) (resources_of self.old.sessions) item ≡ true }
+        ensures { MakesOn D.state self.old self.new item now result }
     {
         let made = self.try_add(alloc, &item, now);
         drop(item);
@@ -65,37 +92,49 @@ impl Table {
     }
 
     // Adds a record, where it may come.
-    fn try_add(&mut self, alloc: Global, item: &SessionRecord, now: u64) -> Result<bool, NoMemory>
-        requires room { self.old.memory.acts + 1 < 2 ^ 32 }
-        ensures made { IfOk result (λ made. IsMade made self.old self.new item.now now) }
-        ensures err { OnErr result (IsUnanswered self.old self.new) }
+    fn try_add(&mut self, alloc: Global, item: &SessionRecord, now: u64) -> Result<bool, StoreError>
+        requires up { is_down self.old.sessions ≡ false }
+        requires plain { IsPlain item.now }
+        requires within { is_within (managers_of self.old.sessions) (resources_of self.old.sessions) item.now ≡ true }
+        ensures { MakesOn D.state self.old self.new item.now now result }
     {
-        if !may_come(&self.memory, item) {
+        if !may_come(self.sessions.memory(), item) {
             return Ok(false);
         }
-        self.add(alloc, item, now)?;
-        Ok(true)
+        match self.add(alloc, item, now) {
+            Ok(()) => Ok(true),
+            Err(error) => Err(error),
+        }
     }
 
-    // Adds a record that may come. What can fail comes first.
-    fn add(&mut self, alloc: Global, item: &SessionRecord, now: u64) -> Result<(), NoMemory>
-        requires allowed { may_come self.old.memory item.now ≡ true }
-        requires room { self.old.memory.acts + 1 < 2 ^ 32 }
-        ensures ok { OnOk result (Makes self.old self.new item.now now) }
-        ensures err { OnErr result (IsUnanswered self.old self.new) }
+    // Adds a record that may come. What needs memory comes first, and the disks last.
+    fn add(&mut self, alloc: Global, item: &SessionRecord, now: u64) -> Result<(), StoreError>
+        requires up { is_down self.old.sessions ≡ false }
+        requires plain { IsPlain item.now }
+        requires within { is_within (managers_of self.old.sessions) (resources_of self.old.sessions) item.now ≡ true }
+        requires allowed { may_come (memory self.old) item.now ≡ true }
+        ensures { AddsOn D.state self.old self.new item.now now result }
     {
-        self.moments.prepare(item, now)?;
-        if apply(alloc, &mut self.memory, item).is_err() {
-            self.moments.withdraw(item);
-            return Err(NoMemory);
+        if let Err(NoMemory) = self.moments.prepare(item, now) {
+            return Err(StoreError::NoMemory);
         }
-        self.moments.settle(item, now, self.retry);
-        Ok(())
+        match put(alloc, &mut self.sessions, item) {
+            Ok(()) => {
+                self.moments.settle(item, now, self.retry);
+                Ok(())
+            }
+            Err(error) => {
+                self.moments
+                    .give_up(item, now, self.retry, is_failure(error));
+                Err(error)
+            }
+        }
     }
 
     /// A transaction in its second phase goes on after `retry` ticks. After an error all is as before.
     pub(crate) fn plan_again(&mut self, xid: Xid, now: u64) -> Result<(), NoMemory>
-        ensures ok { OnOk result (PlansAgain self.old self.new xid.0 now) }
+        ensures ok { OnOk result (PlansAgain (knowledge self.old) (knowledge self.new) xid.0 now) }
+        ensures sessions { self.new.sessions ≡ self.old.sessions }
         ensures err { OnErr result (self.new ≡ self.old) }
     {
         let at = now.saturating_add(self.retry);
@@ -105,9 +144,9 @@ impl Table {
 
     /// Whether the timeout of a transaction that is known is over.
     pub(crate) fn is_past(&self, xid: Xid, now: u64) -> bool
-        ensures { result ≡ has_passed_in (session_in self.now.memory xid.0) now }
+        ensures { result ≡ has_passed_in (session_in (memory self.now) xid.0) now }
     {
-        match self.memory.find(xid) {
+        match self.sessions.memory().find(xid) {
             Some(session) => crate::choosing::has_passed(session, now),
             None => false,
         }
@@ -120,10 +159,12 @@ impl Table {
         input: &Input,
         now: u64,
         steps: &mut Steps<L>,
-    ) -> Result<Step, NoMemory>
-        requires room { self.old.memory.acts + 1 < 2 ^ 32 }
+    ) -> Result<Step, NodeError>
+        requires up { is_down self.old.sessions ≡ false }
         requires moment { now ≤ 2 ^ 63 }
-        ensures answers { Answers self.old self.new input.now now result }
+        requires served { ServesInput (managers_of self.old.sessions) (resources_of self.old.sessions) input.now }
+        ensures answers { Answers D.state self.old self.new input.now now result }
+        ensures framable { Frames input.now result }
         ensures cost { InputCosts input.now (held_rows self.old) steps.old steps.new }
     {
         match input {
@@ -141,10 +182,12 @@ impl Table {
         message: &Message,
         now: u64,
         steps: &mut Steps<L>,
-    ) -> Result<Step, NoMemory>
-        requires room { self.old.memory.acts + 1 < 2 ^ 32 }
+    ) -> Result<Step, NodeError>
+        requires up { is_down self.old.sessions ≡ false }
         requires moment { now ≤ 2 ^ 63 }
-        ensures answers { Answers self.old self.new (input.Message from message.now) now result }
+        requires served { ServesMessage (managers_of self.old.sessions) (resources_of self.old.sessions) message.now }
+        ensures answers { Answers D.state self.old self.new (input.Message from message.now) now result }
+        ensures framable { Frames (input.Message from message.now) result }
         ensures cost { MessageCosts message.now (held_rows self.old) steps.old steps.new }
     {
         match message {
@@ -220,6 +263,67 @@ impl Table {
     }
 }
 
+// Puts a record on the disks. A branch is registered by a call of its own.
+fn put<D: Disk>(
+    alloc: Global,
+    sessions: &mut Sessions<D>,
+    item: &SessionRecord,
+) -> Result<(), StoreError>
+    requires up { is_down sessions.old ≡ false }
+    requires plain { IsPlain item.now }
+    requires within { is_within (managers_of sessions.old) (resources_of sessions.old) item.now ≡ true }
+    requires allowed { may_come (known sessions.old) item.now ≡ true }
+    ensures { MakesRecord D.state item.now result sessions.old sessions.new }
+{
+    match item {
+        SessionRecord::Begun {
+            xid: _,
+            manager,
+            begun,
+            timeout,
+        } => match sessions.begin(alloc, *manager, *begun, *timeout) {
+            Ok(_) => Ok(()),
+            Err(error) => Err(error),
+        },
+        SessionRecord::Decided { xid, how } => match sessions.decide(alloc, *xid, *how) {
+            Ok(_) => Ok(()),
+            Err(error) => Err(error),
+        },
+        SessionRecord::Ended { xid, branch } => sessions.branch_end(alloc, leg(*xid, *branch)),
+        SessionRecord::Retrying { xid } => sessions.retrying(alloc, *xid),
+        SessionRecord::Failed { xid, branch, stmt } => {
+            sessions.failed(alloc, leg(*xid, *branch), *stmt)
+        }
+        SessionRecord::Finished { xid } => sessions.end(alloc, *xid),
+        SessionRecord::Forgot { xid } => sessions.forget(alloc, *xid),
+        SessionRecord::Granted { .. } => unreachable!(),
+    }
+}
+
+fn leg(xid: Xid, branch: BranchId) -> Leg
+    ensures { result ≡ record { xid = xid; branch = branch } }
+{
+    Leg { xid, branch }
+}
+
+// Whether the disks failed.
+fn is_failure(error: StoreError) -> bool
+    ensures { result ≡ is_failure error }
+{
+    matches!(error, StoreError::Failed)
+}
+
+/// The node's error where this act isn't done.
+pub(crate) fn node_error(error: StoreError, at: Durable) -> NodeError
+    ensures { result ≡ node_error error at }
+{
+    match error {
+        StoreError::Failed => NodeError::Failed { at },
+        StoreError::Full(full) => NodeError::Full(full),
+        StoreError::NoMemory => NodeError::NoMemory,
+    }
+}
+
 // Whether a record may come.
 pub(crate) fn may_come(memory: &Memory, item: &SessionRecord) -> bool
     ensures { result ≡ may_come memory.now item.now }
@@ -235,32 +339,4 @@ fn allows_counted<L: Ledger>(memory: &Memory, item: &SessionRecord, blank: Blank
 {
     let mut steps = Steps::<L>::new(blank);
     memory.allows(item, &mut steps)
-}
-
-// Takes in a record.
-fn apply(alloc: Global, memory: &mut Memory, item: &SessionRecord) -> Result<(), NoMemory>
-    requires allowed { may_come memory.old item.now ≡ true }
-    requires room { memory.old.acts + 1 < 2 ^ 32 }
-    ensures ok { OnOk result (memory.new ≡ after item.now memory.old) }
-    ensures err { OnErr result (memory.new ≡ memory.old) }
-{
-    apply_counted::<Brand>(alloc, memory, item, Blank::new(1))
-}
-
-fn apply_counted<L: Ledger>(
-    alloc: Global,
-    memory: &mut Memory,
-    item: &SessionRecord,
-    blank: Blank,
-) -> Result<(), NoMemory>
-    requires name { blank.name ≡ L.name }
-    requires parts { blank.parts ≡ L.parts }
-    requires some { 0 < blank.parts }
-    requires allowed { may_come memory.old item.now ≡ true }
-    requires room { memory.old.acts + 1 < 2 ^ 32 }
-    ensures ok { OnOk result (memory.new ≡ after item.now memory.old) }
-    ensures err { OnErr result (memory.new ≡ memory.old) }
-{
-    let mut steps = Steps::<L>::new(blank);
-    memory.apply(alloc, item, &mut steps)
 }

@@ -8,98 +8,133 @@ ghost use Rattle.coordinator_core.specs.Choices.{next_open, is_sendable, questio
 ghost use Rattle.coordinator_core.specs.Steps.{asked_step};
 
 use crate::questions::Question;
-use crate::table::Table;
+use crate::table::{Table, node_error};
 use crate::{choosing, kinds};
+use disk_model::Disk;
 use durable_records::SessionRecord;
 use history_text::{sends, still};
 use seata_types::limits::{CALLS, MANAGERS};
-use seata_types::{Act, Decision, Durable, Message, NoMemory, Place, Step, Xid};
+use seata_types::{Act, Decision, Durable, Message, NoMemory, NodeError, Place, Step, Xid};
 use session_log::{Branch, Session};
 use std::alloc::Global;
 
-impl Table {
-    ghost use Rattle.std.specs.Prelude.{◌≡◌, ◌<◌, ◌≤◌, ◌+◌, ◌^◌};
+impl<D: Disk> Table<D> {
+    ghost use Rattle.std.specs.Prelude.{◌≡◌, ◌≤◌, ◌^◌, false};
     ghost use Rattle.seata_types.specs.declared.messages.Input.TheVariants as input;
+    ghost use Rattle.durable_records.specs.declared.coordinators.SessionRecord.TheVariants as log;
+    ghost use Rattle.session_memory.specs.Changes.{may_come};
     ghost use Rattle.session_memory.specs.Lookups.{session_in};
+    ghost use Rattle.session_store.specs.Keeping.{is_down};
     ghost use Rattle.coordinator_core.specs.Choices.{question_in};
-    ghost use Rattle.coordinator_core.specs.Standing.{times_in};
-    ghost use Rattle.coordinator_core.specs.Answers.{Answers, AnswersWhere, IsLate, IsDue, IsOld};
+    ghost use Rattle.coordinator_core.specs.Knowledge.{memory, times_of};
+    ghost use Rattle.coordinator_core.specs.Answers.{Answers, AnswersWhere, Frames, IsLate, IsDue, IsOld};
 
     /// Takes a turn: a transaction past its timeout is rolled back, one that is due goes on, one that is old is forgotten.
-    pub(crate) fn turn(&mut self, alloc: Global, now: u64) -> Result<Step, NoMemory>
-        requires room { self.old.memory.acts + 1 < 2 ^ 32 }
+    pub(crate) fn turn(&mut self, alloc: Global, now: u64) -> Result<Step, NodeError>
+        requires up { is_down self.old.sessions ≡ false }
         requires moment { now ≤ 2 ^ 63 }
-        ensures { Answers self.old self.new input.Turn now result }
+        ensures answers { Answers D.state self.old self.new input.Turn now result }
+        ensures framable { Frames input.Turn result }
     {
-        let sessions = self.memory.snapshot().sessions.as_slice();
+        let sessions = self.entries();
         if let Some(xid) = choosing::least_late(sessions, now) {
-            let step = self.time_out(alloc, xid, now)?;
-            return Ok(step);
+            return self.time_out(alloc, xid, now);
         }
         if let Some(xid) = self.moments.turns.next_due(now) {
-            let step = self.go_on(alloc, xid, now)?;
-            return Ok(step);
+            return self.go_on(alloc, xid, now);
         }
-        let sessions = self.memory.snapshot().sessions.as_slice();
+        let sessions = self.entries();
         match choosing::least_old(sessions, &self.moments.rests, self.forget, now) {
-            Some(xid) => {
-                let step = self.forget_old(alloc, xid, now)?;
-                Ok(step)
-            }
+            Some(xid) => self.forget_old(alloc, xid, now),
             None => Ok(still(Act::Nothing)),
         }
     }
 
     // The timeout of a transaction is decided.
-    fn time_out(&mut self, alloc: Global, xid: Xid, now: u64) -> Result<Step, NoMemory>
-        requires room { self.old.memory.acts + 1 < 2 ^ 32 }
+    fn time_out(&mut self, alloc: Global, xid: Xid, now: u64) -> Result<Step, NodeError>
+        requires up { is_down self.old.sessions ≡ false }
         requires moment { now ≤ 2 ^ 63 }
-        ensures { AnswersWhere (IsLate (times_in self.old) now xid.0) self.old self.new input.Turn now result }
+        ensures answers { AnswersWhere D.state (IsLate (times_of self.old) now xid.0) self.old self.new input.Turn now result }
+        ensures framable { Frames input.Turn result }
     {
         let how = Decision::Timeout;
-        if !self.make(alloc, SessionRecord::Decided { xid, how }, now)? {
-            return Ok(still(Act::Nothing));
+        let done = Durable::Decided { xid, how };
+        match self.make(alloc, SessionRecord::Decided { xid, how }, now) {
+            Ok(made) => {
+                if !made {
+                    return Ok(still(Act::Nothing));
+                }
+                Ok(still(Act::Durable(done)))
+            }
+            Err(error) => Err(node_error(error, done)),
         }
-        Ok(still(Act::Durable(Durable::Decided { xid, how })))
     }
 
     // A due transaction is finished where all its branches are ended, and else the next branch is asked.
-    fn go_on(&mut self, alloc: Global, xid: Xid, now: u64) -> Result<Step, NoMemory>
-        requires room { self.old.memory.acts + 1 < 2 ^ 32 }
+    fn go_on(&mut self, alloc: Global, xid: Xid, now: u64) -> Result<Step, NodeError>
+        requires up { is_down self.old.sessions ≡ false }
         requires moment { now ≤ 2 ^ 63 }
-        ensures { AnswersWhere (IsDue (times_in self.old) now xid.0) self.old self.new input.Turn now result }
+        ensures answers { AnswersWhere D.state (IsDue (times_of self.old) now xid.0) self.old self.new input.Turn now result }
+        ensures framable { Frames input.Turn result }
     {
-        if self.make(alloc, SessionRecord::Finished { xid }, now)? {
-            let status = self.memory.status(xid);
-            return Ok(still(Act::Durable(Durable::Finished { xid, status })));
+        match self.make(alloc, SessionRecord::Finished { xid }, now) {
+            Ok(made) => {
+                if made {
+                    let status = self.status(xid);
+                    return Ok(still(Act::Durable(Durable::Finished { xid, status })));
+                }
+                self.ask(xid, now)
+            }
+            Err(error) => {
+                let status = self.status(xid);
+                Err(node_error(error, Durable::Finished { xid, status }))
+            }
         }
+    }
+
+    // The next branch of a transaction that goes on is asked.
+    fn ask(&mut self, xid: Xid, now: u64) -> Result<Step, NodeError>
+        requires moment { now ≤ 2 ^ 63 }
+        requires open { may_come (memory self.old) (log.Finished xid) ≡ false }
+        ensures answers { AnswersWhere D.state (IsDue (times_of self.old) now xid.0) self.old self.new input.Turn now result }
+        ensures framable { Frames input.Turn result }
+    {
         let Some(question) = self.question(xid) else {
             return Ok(still(Act::Nothing));
         };
-        self.plan_again(xid, now)?;
-        Ok(asked(xid, question))
+        match self.plan_again(xid, now) {
+            Ok(()) => Ok(asked(xid, question)),
+            Err(NoMemory) => Err(NodeError::NoMemory),
+        }
     }
 
     // What the next branch of a transaction is asked.
     fn question(&self, xid: Xid) -> Option<Question>
-        ensures asked { result ≡ question_in (session_in self.now.memory xid.0) }
+        ensures asked { result ≡ question_in (session_in (memory self.now) xid.0) }
     {
-        match self.memory.find(xid) {
+        match self.memory().find(xid) {
             Some(session) => question_of(session),
             None => None,
         }
     }
 
     // A transaction that rested long enough is forgotten.
-    fn forget_old(&mut self, alloc: Global, xid: Xid, now: u64) -> Result<Step, NoMemory>
-        requires room { self.old.memory.acts + 1 < 2 ^ 32 }
+    fn forget_old(&mut self, alloc: Global, xid: Xid, now: u64) -> Result<Step, NodeError>
+        requires up { is_down self.old.sessions ≡ false }
         requires moment { now ≤ 2 ^ 63 }
-        ensures { AnswersWhere (IsOld (times_in self.old) now xid.0) self.old self.new input.Turn now result }
+        ensures answers { AnswersWhere D.state (IsOld (times_of self.old) now xid.0) self.old self.new input.Turn now result }
+        ensures framable { Frames input.Turn result }
     {
-        if !self.make(alloc, SessionRecord::Forgot { xid }, now)? {
-            return Ok(still(Act::Nothing));
+        let done = Durable::Forgot { xid };
+        match self.make(alloc, SessionRecord::Forgot { xid }, now) {
+            Ok(made) => {
+                if !made {
+                    return Ok(still(Act::Nothing));
+                }
+                Ok(still(Act::Durable(done)))
+            }
+            Err(error) => Err(node_error(error, done)),
         }
-        Ok(still(Act::Durable(Durable::Forgot { xid })))
     }
 }
 

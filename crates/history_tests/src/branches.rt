@@ -1,13 +1,13 @@
 //! What the coordinator answers on branches and rows, one input after the other, as its entries' lines.
-ghost use Rattle.std.specs.Prelude.{◌≤◌, ◌^◌};
+ghost use Rattle.std.specs.Prelude.{IfOk};
+ghost use Rattle.coordinator_core.specs.Serving.{ServesInput};
+ghost use Rattle.history_tests.specs.Served.{Serves};
 
-use crate::steps::line_of;
+use crate::served;
 use coordinator_core::Coordinator;
+use disk_model::MemDisk;
 use history_text::Node;
-use seata_types::{
-    BranchId, BranchKind, BranchStatus, Input, List, Message, NoMemory, Place, RowKey, Text,
-    Ticket, Value, Xid,
-};
+use seata_types::{BranchStatus, Input};
 use std::alloc::Global;
 use std::process::Abort;
 use std::test::Fail;
@@ -214,139 +214,47 @@ const TIMES_OUT: [Row; 12] = [
     (5011, Given::Turn, "1 tc 0 turn | none | -"),
 ];
 
-fn xid_of(number: u16) -> Xid {
-    Xid(u64::from(number))
-}
-
-fn branch_of(number: u16) -> BranchId {
-    BranchId(u64::from(number))
-}
-
-fn ticket_of(number: u16) -> Ticket {
-    Ticket {
-        boot: 1,
-        seq: u32::from(number),
-    }
-}
-
-/// Row 1 of the table acc at the resource.
-fn row(alloc: Global) -> Result<List<RowKey>, NoMemory> {
-    let mut pk = Vec::new(alloc);
-    pk.push(Value::Int(1)).map_err(|_| NoMemory)?;
-    let table = String::from_str(alloc, "acc").map_err(|_| NoMemory)?;
-    let key = RowKey {
-        resource: 1,
-        table: Text::of(table),
-        pk: List::of(pk),
-    };
-    let mut rows = Vec::new(alloc);
-    rows.push(key).map_err(|_| NoMemory)?;
-    Ok(List::of(rows))
-}
-
-fn register(number: u16, hold: List<RowKey>, check: List<RowKey>) -> Message {
-    Message::Register {
-        xid: xid_of(number),
-        resource: 1,
-        call: 1,
-        ticket: ticket_of(number),
-        kind: BranchKind::At,
-        hold,
-        check,
-    }
-}
-
-fn from_resource(message: Message) -> Input {
-    Input::Message {
-        from: Place::Res(1),
-        message,
-    }
-}
-
-fn from_manager(number: u16, message: Message) -> Input {
-    Input::Message {
-        from: Place::Man(number),
-        message,
-    }
-}
-
-/// What a resource sends on rows.
-fn on_rows(alloc: Global, given: Given) -> Result<Option<Input>, NoMemory> {
-    let rows = row(alloc)?;
-    match given {
-        Given::Register(number) => {
-            let message = register(number, rows, List::of(Vec::new(alloc)));
-            Ok(Some(from_resource(message)))
-        }
-        Given::Query(number) => Ok(Some(from_resource(Message::LockQuery {
-            resource: 1,
-            ticket: ticket_of(number),
-            check: rows,
-        }))),
-        _ => Ok(None),
-    }
-}
-
-/// All else.
-fn without_rows(given: Given) -> Input {
-    match given {
-        Given::Begin(manager, timeout) => {
-            from_manager(manager, Message::Begin { manager, timeout })
-        }
-        Given::Commit(number) => {
-            let xid = xid_of(number);
-            from_manager(number, Message::GlobalCommit { xid })
-        }
-        Given::RollBack(number) => {
-            let xid = xid_of(number);
-            from_manager(number, Message::GlobalRollback { xid })
-        }
-        Given::Committed(number, status) => from_resource(Message::BranchCommitted {
-            xid: xid_of(number),
-            branch: branch_of(number),
-            status,
-            stmt: 0,
-        }),
-        Given::Rollbacked(number, status) => from_resource(Message::BranchRollbacked {
-            xid: xid_of(number),
-            branch: branch_of(number),
-            status,
-            stmt: 0,
-        }),
-        _ => Input::Turn,
-    }
-}
-
-fn input(alloc: Global, given: Given) -> Result<Input, NoMemory> {
-    match on_rows(alloc, given)? {
-        Some(input) => Ok(input),
-        None => Ok(without_rows(given)),
-    }
-}
-
 /// The line of the coordinator's next step.
-fn line(alloc: Global, tc: &mut Coordinator, given: Given, now: u32) -> Result<String, Fail> {
-    if tc.steps_left() == 0 {
-        return Err(Fail::from("no step is left"));
+fn line(
+    alloc: Global,
+    tc: &mut Coordinator<MemDisk>,
+    given: Given,
+    now: u32,
+) -> Result<String, Fail>
+    requires { Serves tc.old }
+    ensures { Serves tc.new }
+{
+    match input(alloc, given) {
+        Ok(input) => served::line(alloc, tc, input, now),
+        Err(fail) => Err(fail),
     }
-    let Ok(input) = input(alloc, given) else {
-        return Err(Fail::from("no memory"));
-    };
-    let Ok(step) = tc.step(alloc, input, u64::from(now)) else {
-        return Err(Fail::from("no memory"));
-    };
-    match line_of(alloc, Place::Tc, step) {
-        Ok(line) => Ok(line),
-        Err(_) => Err(Fail::from("no memory")),
+}
+
+/// What it is given.
+fn input(alloc: Global, given: Given) -> Result<Input, Fail>
+    ensures { IfOk result (ServesInput 2 1) }
+{
+    match given {
+        Given::Turn => Ok(Input::Turn),
+        Given::Begin(manager, timeout) => served::begin(manager, timeout),
+        Given::Commit(number) => Ok(served::commit(number)),
+        Given::RollBack(number) => Ok(served::roll_back(number)),
+        Given::Register(number) => served::register(alloc, number),
+        Given::Query(number) => served::query(alloc, number),
+        Given::Committed(number, status) => Ok(served::committed(number, status)),
+        Given::Rollbacked(number, status) => Ok(served::rollbacked(number, status)),
     }
 }
 
 /// A new coordinator answers these rows so; and how many transactions are then neither finished nor failed.
 fn plays(rt: &impl Abort, alloc: Global, rows: &[Row], unended: usize) -> Result<(), Fail> {
-    let mut tc = Coordinator::new(alloc, 1000, 0);
+    let mut tc = served::open(alloc)?;
     for (now, given, wanted) in rows {
         let line = line(alloc, &mut tc, *given, *now)?;
         assert_eq!(rt; line.as_str(), *wanted);
+    }
+    if tc.is_down() {
+        return Err(Fail::from("down"));
     }
     assert_eq!(rt; tc.unended(), unended);
     Ok(())

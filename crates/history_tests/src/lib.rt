@@ -12,4 +12,6 @@ mod manager;
 #[cfg(test)]
 mod reading;
 #[cfg(test)]
+mod served;
+#[cfg(test)]
 mod steps;

@@ -19,6 +19,7 @@ use Rattle.history_rules.specs.Own.{Own, Left}
 use Rattle.history_rules.specs.Devices.{calls_left, fault_entries, may_stand, last_pick as picked_last}
 use Rattle.history_rules.specs.CoordinatorMemory.{sessions_left}
 use Rattle.history_rules.specs.ResourceMemory.{Setup, memory, opening_tables}
+use Rattle.history_rules.specs.Nodes.{Role, Coordinator, Resource, Manager}
 
 -- ---- what bytes are read as
 
@@ -87,3 +88,23 @@ AreCoordinatorDisks past os before disks = AreDisksOf of_coordinator false os (s
 -- the disks of a resource
 abbrev pub AreResourceDisks : Setup → List ResourceRecord → List Own → ℕ → Pair → Type 0
 AreResourceDisks s past os before disks = AreDisksOf (of_resource (opening_tables s)) true os (memory s past os).left before disks
+
+-- the same without the picks
+pub record KeepsDisks {R S : Type 0} (reading : Reading R S) (boots : Bool) (os : List Own) (left : Left R) (disks : Pair) : Type 0 where
+  pub images : (a b : List ℕ) → disks.first.may_leave a → disks.second.may_leave b → StandsForLeft reading left (keepable boots os left) a b
+  pub counted : min (fault_entries boots os) (2 ^ 64 - 1) ≤ own_faults disks
+
+-- of the disks of a node; a manager has none
+abbrev pub AreNodeDisks : Role → List Own → Pair → Type 0
+AreNodeDisks (Coordinator times past) os disks = KeepsDisks of_coordinator false os (sessions_left past os) disks
+AreNodeDisks (Resource setup past) os disks = KeepsDisks (of_resource (opening_tables setup)) true os (memory setup past os).left disks
+AreNodeDisks (Manager settings) os disks = Unit {0}
+
+-- both disks have this pick, where they tell one
+abbrev pub HavePick : ℕ → Pair → Type 0
+HavePick pick disks = TellsPick pick disks.first × TellsPick pick disks.second
+
+-- the last picks stay
+pub record SamePicks (old new : Pair) : Type 0 where
+  pub first : last_pick new.first ≡ last_pick old.first
+  pub second : last_pick new.second ≡ last_pick old.second

@@ -1,20 +1,28 @@
 -- What the trait `Node` promises, in the words of the rules of all nodes.
-use Rattle.std.specs.Prelude.{◌≡◌, ℕ, Bool, true, false, List, ◌∷◌, Some, None, Result, Ok, Err}
+use Rattle.std.specs.Prelude.{◌≡◌, ◌⊎◌, ℕ, Bool, true, false, IsSome, List, ◌∷◌, length, Option, Some, None, option_map, Result, Ok, Err}
+use Rattle.disk_model.specs.Disk.{DiskState, SameKind, Rose}
+use Rattle.disk_journal.specs.Keeping.{IsFull}
+use Rattle.journal_checkpoint.specs.Images.{Pair}
+use Rattle.seata_types.specs.declared.acts.Act.{Act}
 use Rattle.seata_types.specs.declared.acts.Act.TheVariants as act
 use Rattle.seata_types.specs.declared.acts.Durable.{Durable}
 use Rattle.seata_types.specs.declared.errors.Full.{Full}
 use Rattle.seata_types.specs.declared.errors.NodeError.{NodeError}
 use Rattle.seata_types.specs.declared.errors.NodeError.TheVariants as error
+use Rattle.seata_types.specs.declared.errors.OpenError.{OpenError}
+use Rattle.seata_types.specs.declared.errors.OpenError.TheVariants as open_error
 use Rattle.seata_types.specs.declared.ids.Place.{Place}
 use Rattle.seata_types.specs.declared.ids.Place.TheVariants as place
 use Rattle.seata_types.specs.declared.messages.Input.{Input}
-use Rattle.seata_types.specs.declared.messages.Input.TheVariants as input
-use Rattle.seata_types.specs.declared.messages.Message.{Message}
-use Rattle.seata_types.specs.declared.messages.Message.TheVariants as message
 use Rattle.seata_types.specs.declared.messages.Step.{Step}
-use Rattle.history_rules.specs.Own.{Given, Own, still}
-use Rattle.history_rules.specs.Nodes.{Role, Coordinator, Resource, Manager, happens}
-use Rattle.history_text.specs.Framing.{ComesFramable}
+use Rattle.session_log.specs.Records as session_bytes
+use Rattle.resource_log.specs.Records as resource_bytes
+use Rattle.history_rules.specs.Own.{Event, Given, Restarted, Own, still}
+use Rattle.history_rules.specs.Devices.{is_short}
+use Rattle.history_rules.specs.CoordinatorMemory.{session_asked}
+use Rattle.history_rules.specs.ResourceMemory.{memory, resource_asked, boot_over}
+use Rattle.history_rules.specs.Nodes.{Role, Coordinator, Resource, Manager, answer, happens, left_at}
+use Rattle.history_text.specs.Durable.{own_faults}
 
 -- where a node stands
 abbrev pub place_of : Role → Place
@@ -22,48 +30,106 @@ place_of (Coordinator times past) = place.Tc
 place_of (Resource setup past) = place.Res setup.number
 place_of (Manager settings) = place.Man settings.number
 
+-- it has disks, so that it can be stopped, crash and be restarted
+abbrev pub has_disks : Role → Bool
+has_disks (Manager settings) = false
+has_disks _ = true
+
+-- the own entry of an event
+abbrev pub own_entry : Event → ℕ → Step → Own
+own_entry event now step = record { event = event; now = now; step = step }
+
 -- the own entry of a step
 abbrev pub own_step : Input → ℕ → Step → Own
-own_step given now step = record { event = Given given; now = now; step = step }
+own_step given now step = own_entry (Given given) now step
 
--- ---- what is served
+-- ---- its disks
 
--- what the nodes of today answer by the rules: the coordinator all that can be framed, and a manager every input
-abbrev pub IsServed : Role → Input → Type 0
-IsServed (Coordinator times past) given = ComesFramable given
-IsServed _ given = Unit {0}
+-- a disk that tells nothing and never fails
+abbrev pub no_disk : DiskState
+no_disk = record {
+  size = 0;
+  content = None;
+  may_leave = λ c. ⊥;
+  comes_back = λ pick c. ⊥;
+  moment = 0;
+  left_since = λ t c. ⊥;
+  tells_moments = false;
+  counts = record { faults = 0; own = 0; left = None; stopped = false };
+}
 
--- ---- what a step of a node promises
+-- the disks of a node that has none
+abbrev pub no_disks : Pair
+no_disks = record { first = no_disk; second = no_disk }
 
--- said of each list of own entries that the node stands for, at an input that is served: the step is what happens by the
--- rules after them, and the node then stands for the list with the step's own entry
-abbrev pub TakesStep : {N : Type 0} → (N → List Own → Type 0) → Role → N → N → Input → ℕ → Step → Type 0
-TakesStep stands_for role old new given now step =
-    (owns : List Own) → stands_for old owns → IsServed role given
-    → (step ≡ happens role owns now false false (Given given)) × stands_for new (own_step given now step ∷ owns)
+-- both tell their bytes
+pub record AreTold (disks : Pair) : Type 0 where
+  pub first : IsSome disks.first.content
+  pub second : IsSome disks.second.content
 
--- the step's device failed: the node is down with the act in flight, which is what happens by the rules at a fault
-abbrev pub FailsAt : {N : Type 0} → (N → List Own → Type 0) → Role → N → N → Input → ℕ → Durable → Type 0
-FailsAt stands_for role old new given now flight =
-    (owns : List Own) → stands_for old owns → IsServed role given
-    → (still (act.Down None (Some flight)) ≡ happens role owns now true false (Given given))
-    × stands_for new (own_step given now (still (act.Down None (Some flight))) ∷ owns)
+-- a fault of the two disks together was counted
+abbrev pub DisksFail : Pair → Pair → Type 0
+DisksFail old new = Rose (own_faults old) (own_faults new)
+
+-- What no call of a node changes: where it stands, the inputs that it serves, and what its disks are.
+pub record StaysItself {N : Type 0} (place : N → Place) (serves : N → Input → Type 0) (disks : N → Pair) (old new : N) : Type 0 where
+  pub same_place : place new ≡ place old
+  pub same_inputs : (given : Input) → serves old given → serves new given
+  pub first : SameKind (disks old).first (disks new).first
+  pub second : SameKind (disks old).second (disks new).second
+
+-- ---- what happens at a node. Each word is said of each role, and each list of own entries, that the node stands for.
 
 -- the node stands for all that it stood for
-abbrev pub StandsAsBefore : {N : Type 0} → (N → List Own → Type 0) → N → N → Type 0
-StandsAsBefore stands_for old new = (owns : List Own) → stands_for old owns → stands_for new owns
+abbrev pub StandsAsBefore : {N : Type 0} → (N → Role → List Own → Type 0) → N → N → Type 0
+StandsAsBefore stands_for old new = (role : Role) (owns : List Own) → stands_for old role owns → stands_for new role owns
 
-abbrev pub AfterError : {N : Type 0} → (N → List Own → Type 0) → Role → N → N → Input → ℕ → NodeError → Type 0
-AfterError stands_for role old new given now (error.Failed flight) = FailsAt stands_for role old new given now flight
-AfterError stands_for role old new given now (error.Full full) = StandsAsBefore stands_for old new
-AfterError stands_for role old new given now error.NoMemory = StandsAsBefore stands_for old new
+-- the step is what happens by the rules, and the node then stands for the list with the step's own entry
+abbrev pub Does : {N : Type 0} → (N → Role → List Own → Type 0) → N → N → Event → ℕ → Step → Type 0
+Does stands_for old new event now step =
+    (role : Role) (owns : List Own) → stands_for old role owns →
+    (step ≡ happens role owns now false false event) × stands_for new role (own_entry event now step ∷ owns)
 
--- why a step may end without an answer: a fault of the node's own disk, a record that would pass its
--- end, or want of memory, which is free
-abbrev pub HasCause : Type 0 → (Full → Type 0) → NodeError → Type 0
-HasCause rose overflows (error.Failed flight) = rose
-HasCause rose overflows (error.Full full) = overflows full
-HasCause rose overflows error.NoMemory = Unit {0}
+-- the same of a turn, a message or a local transaction
+abbrev pub TakesStep : {N : Type 0} → (N → Role → List Own → Type 0) → N → N → Input → ℕ → Step → Type 0
+TakesStep stands_for old new given now step = Does stands_for old new (Given given) now step
+
+-- the node went down at a durable act
+abbrev pub cut : Durable → Step
+cut flight = still (act.Down None (Some flight))
+
+-- the step's device failed, since a stop lets fewer calls pass than a record takes or by a fault of the disks: the node is
+-- down with the act in flight, which is what happens by the rules at a fault
+abbrev pub FailsAt : {N : Type 0} → (N → Role → List Own → Type 0) → (failed : Type 0) → N → N → Input → ℕ → Durable → Type 0
+FailsAt stands_for failed old new given now flight =
+    (role : Role) (owns : List Own) → stands_for old role owns →
+    (cut flight ≡ happens role owns now true false (Given given)) × stands_for new role (own_step given now (cut flight) ∷ owns)
+    × ((is_short (left_at role owns) ≡ true) ⊎ failed)
+
+-- ---- records that don't fit
+
+-- the bytes of the record that the rule's answer asks for
+abbrev pub asked_bytes : Role → List Own → ℕ → Input → Option (List ℕ)
+asked_bytes (Coordinator times past) owns now given =
+    option_map session_bytes.record_bytes (session_asked (own_step given now (answer (Coordinator times past) owns now given)))
+asked_bytes (Resource setup past) owns now given =
+    option_map resource_bytes.record_bytes (resource_asked setup (memory setup past owns) (own_step given now (answer (Resource setup past) owns now given)))
+asked_bytes (Manager settings) owns now given = None
+
+-- the record that the rule's answer asks for passes the end of the disk, with both numbers
+abbrev pub Overflows : {N : Type 0} → (N → Role → List Own → Type 0) → (needs : ℕ → ℕ) → (size : ℕ) → N → Input → ℕ → Full → Type 0
+Overflows stands_for needs size old given now full =
+    (role : Role) (owns : List Own) → stands_for old role owns →
+    (bytes : List ℕ) × (asked_bytes role owns now given ≡ Some bytes) × IsFull (needs (length bytes)) size full
+
+-- ---- a step without an answer
+
+-- the disks failed; or the record doesn't fit, or memory was refused, and the node stands for all that it stood for
+abbrev pub AfterError : {N : Type 0} → (N → Role → List Own → Type 0) → (failed : Type 0) → (needs : ℕ → ℕ) → (size : ℕ) → N → N → Input → ℕ → NodeError → Type 0
+AfterError stands_for failed needs size old new given now (error.Failed flight) = FailsAt stands_for failed old new given now flight
+AfterError stands_for failed needs size old new given now (error.Full full) =
+    StandsAsBefore stands_for old new × Overflows stands_for needs size old given now full
+AfterError stands_for failed needs size old new given now error.NoMemory = StandsAsBefore stands_for old new
 
 -- whether the step made an own entry, and whether it took the node down
 abbrev pub steps_of : Result Step NodeError → ℕ
@@ -74,3 +140,31 @@ steps_of (Err _) = 0
 abbrev pub goes_down : Result Step NodeError → Bool
 goes_down (Err (error.Failed flight)) = true
 goes_down _ = false
+
+-- ---- restarts
+
+-- a restart ended with this act, which is what happens by the rules, whatever was kept of what was in flight; where its boot
+-- failed, a stop that came with it lets fewer calls pass than a record takes, or a fault of the disks was counted
+abbrev pub Restarts : {N : Type 0} → (N → Role → List Own → Type 0) → (failed : Type 0) → N → N → (pick : ℕ) → (calls : Option ℕ) → ℕ → Act → Type 0
+Restarts stands_for failed old new pick calls now done =
+    (role : Role) (owns : List Own) → stands_for old role owns →
+    (fault : Bool) × (keeps : Bool) × (still done ≡ happens role owns now fault keeps (Restarted pick calls))
+    × stands_for new role (own_entry (Restarted pick calls) now (still done) ∷ owns) × (fault ≡ true → failed)
+
+-- the node is down after a restart
+abbrev pub stays_down : Result Act OpenError → Bool
+stays_down (Ok (act.Restarted kept)) = false
+stays_down _ = true
+
+-- a boot, whose bytes are as many for each number, doesn't fit
+abbrev pub BootOverflows : Role → (needs : ℕ → ℕ) → (size : ℕ) → Full → Type 0
+BootOverflows (Resource setup past) needs size full = IsFull (needs (length (resource_bytes.record_bytes (boot_over past)))) size full
+BootOverflows _ needs size full = ⊥
+
+-- why a restart ended in an error: a fault of its disks, a boot that doesn't fit, or want of memory, which is free; bytes
+-- that the node stands for are never damaged
+abbrev pub IsRestartError : Role → (failed : Type 0) → (needs : ℕ → ℕ) → (size : ℕ) → OpenError → Type 0
+IsRestartError role failed needs size open_error.Failed = failed
+IsRestartError role failed needs size (open_error.Damaged second at) = ⊥
+IsRestartError role failed needs size (open_error.Full full) = BootOverflows role needs size full
+IsRestartError role failed needs size open_error.NoMemory = Unit {0}

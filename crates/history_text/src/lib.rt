@@ -18,7 +18,7 @@ pub mod steps;
 mod words;
 
 pub use entries::{Cause, Entry, Names, Sent};
-pub use lines::{put_entry, put_note, put_place, write_entry};
+pub use lines::{put_entry, put_key, put_note, put_place, put_row, write_entry};
 pub use messages::add_note;
 pub use nodes::Node;
 pub use notes::{Note, note_of};

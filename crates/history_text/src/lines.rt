@@ -7,8 +7,8 @@ use crate::causes::add_cause;
 use crate::entries::{Entry, Names, Sent};
 use crate::messages::add_note;
 use crate::notes::Note;
-use crate::parts::add_place;
-use seata_types::{NoMemory, Place};
+use crate::parts::{add_key, add_place, add_row};
+use seata_types::{NoMemory, Place, Row, RowKey};
 use std::alloc::{AllocError, Global};
 
 /// The line of an entry, without its line feed.
@@ -52,6 +52,26 @@ pub fn put_place(out: &mut String, place: Place, names: &Names) -> Result<(), Al
 {
     let mut text = String::new(*out.allocator());
     add_place(&mut text, place, names)?;
+    out.push_str(text.as_str())
+}
+
+/// Appends a key, as `A.acc:1`. Nothing is appended where memory ends.
+pub fn put_key(out: &mut String, key: &RowKey, names: &Names) -> Result<(), AllocError>
+    ensures appended { OnOk result (string_bytes out.new ≡ string_bytes out.old ++ lines.key_text names.now key.now) }
+    ensures kept { OnErr result (string_bytes out.new ≡ string_bytes out.old) }
+{
+    let mut text = String::new(*out.allocator());
+    add_key(&mut text, key, names)?;
+    out.push_str(text.as_str())
+}
+
+/// Appends a row, as `(1, 900)`. Nothing is appended where memory ends.
+pub fn put_row(out: &mut String, row: &Row) -> Result<(), AllocError>
+    ensures appended { OnOk result (string_bytes out.new ≡ string_bytes out.old ++ lines.row_text row.now) }
+    ensures kept { OnErr result (string_bytes out.new ≡ string_bytes out.old) }
+{
+    let mut text = String::new(*out.allocator());
+    add_row(&mut text, row)?;
     out.push_str(text.as_str())
 }
 

@@ -113,7 +113,7 @@ pub(crate) fn add_keys(out: &mut String, keys: &[RowKey]) -> Result<(), AllocErr
 }
 
 /// A row, as `(1, 900)`.
-fn add_row(out: &mut String, row: &Row) -> Result<(), AllocError>
+pub(crate) fn add_row(out: &mut String, row: &Row) -> Result<(), AllocError>
     ensures { OnOk result (string_bytes out.new ≡ string_bytes out.old ++ lines.row_text row.now) }
 {
     out.push_str("(")?;

@@ -3,3 +3,4 @@ pub mod Calls
 pub mod Tracks
 pub mod Answers
 pub mod Standing
+pub mod Laws

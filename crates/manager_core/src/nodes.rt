@@ -5,7 +5,7 @@ use crate::phases::Phase;
 use crate::settings::Settings;
 use crate::talks::Talk;
 use history_text::Node;
-use seata_types::{Ending, Input, List, NoMemory, NodeError, Place, Step, Work};
+use seata_types::{Act, Ending, Input, List, NoMemory, NodeError, OpenError, Place, Step, Work};
 use std::alloc::Global;
 
 /// How many steps a manager can make in all, this project's own.
@@ -66,28 +66,56 @@ impl Manager {
 }
 
 impl Node for Manager {
-    ghost use Rattle.std.specs.Prelude.{false};
-    ghost use Rattle.history_rules.specs.Nodes.{Manager as ManagerRole};
-    ghost use Rattle.manager_core.specs.Standing.{StandsFor, settings, steps_of};
+    ghost use Rattle.std.specs.Prelude.{◌≡◌, ◌+◌, ◌<◌, ◌≤◌, ◌^◌, false, IfOk, IfErr};
+    ghost use Rattle.seata_types.specs.declared.ids.Place.TheVariants as places;
+    ghost use Rattle.history_text.specs.Durable.{SamePicks};
+    ghost use Rattle.history_text.specs.Framing.{ComesFramable, SendsFramable};
+    ghost use Rattle.history_text.specs.Promises.{no_disks, TakesStep, AfterError, DisksFail, StaysItself, goes_down};
+    ghost use Rattle.history_text.specs.Promises.{steps_of as steps_taken};
+    ghost use Rattle.manager_core.specs.Standing.{StandsAs, Takes, settings, steps_of};
+    ghost use Rattle.manager_core.specs.Laws as laws;
 
-    ghost role = { λ m. ManagerRole (settings m) };
+    ghost stands_for = { StandsAs };
 
-    ghost stands_for = { StandsFor };
+    ghost stands_at = { λ m. places.Man (settings m).number };
+
+    ghost serves = { λ _ _. Unit {0} };
 
     ghost left = { steps_of };
 
+    ghost stops = { λ _. false };
+
     ghost down = { λ _. false };
 
-    ghost faults = { λ _. 0 };
+    ghost disks = { λ _. no_disks };
 
-    ghost overflows = { λ _ _. ⊥ };
+    ghost needs = { λ _ _. 0 };
+
+    ghost size = { λ _. 0 };
 
     fn place(&self) -> Place {
         Place::Man(self.talk.settings.number())
     }
 
     #[tactic(auto, unfolding(crate::specs::Standing::StandsFor))]
-    fn step(&mut self, alloc: Global, input: Input, _now: u64) -> Result<Step, NodeError> {
+    fn step(&mut self, alloc: Global, input: Input, _now: u64) -> Result<Step, NodeError>
+        requires up { false ≡ false }
+        requires able { 0 < steps_of self.old }
+        requires moment { _now ≤ 2 ^ 63 }
+        requires served { Unit {0} }
+        ensures answers { IfOk result (TakesStep StandsAs self.old self.new input _now) }
+        ensures framable { ComesFramable input → IfOk result SendsFramable }
+        ensures after { IfErr result (AfterError StandsAs (DisksFail no_disks no_disks) (λ _. 0) 0 self.old self.new input _now) }
+        ensures same { StaysItself (λ m. places.Man (settings m).number) (λ _ _. Unit {0}) (λ _. no_disks) self.old self.new }
+        ensures picks { SamePicks no_disks no_disks }
+        ensures counted { steps_of self.new + steps_taken result ≡ steps_of self.old }
+        ensures down { false ≡ goes_down result }
+
+        // In its own words, and that want of memory is its only error.
+        ensures takes { IfOk result (Takes self.old self.new input _now) }
+        ensures settings { settings self.new ≡ settings self.old }
+        ensures only { IfErr result (λ error. error ≡ NodeError.NoMemory) }
+    {
         match self.talk.answer(alloc, &input) {
             Ok(step) => {
                 drop(input);
@@ -108,4 +136,31 @@ impl Node for Manager {
     fn steps_left(&self) -> u32 {
         self.left
     }
+
+    // A manager has no disk: none of these three does anything to it.
+    fn arm(&mut self, _calls: u32) {}
+
+    fn crash(&mut self) {}
+
+    fn restart(
+        &mut self,
+        _alloc: Global,
+        _now: u64,
+        _pick: u16,
+        _calls: Option<u32>,
+    ) -> Result<Act, OpenError> {
+        Ok(Act::Nothing)
+    }
+
+    ghost places = { laws.places };
+
+    ghost with_disks = { laws.with_disks };
+
+    ghost downs = { laws.downs };
+
+    ghost loses = { laws.loses };
+
+    ghost stays = { laws.stays };
+
+    ghost device = { laws.device };
 }

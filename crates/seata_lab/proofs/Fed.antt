@@ -15,7 +15,7 @@ use Rattle.frame_codec.specs.Frames.{frame_bytes, decoded, checked_head}
 use Rattle.frame_codec.proofs.FrameLaws.{decoded_only, length-frame}
 use Rattle.frame_codec.proofs.LaterBytes.{bad_more}
 use Rattle.seata_lab.specs.declared.listings.Listing.{Listing}
-use Rattle.seata_lab.specs.Answers.{Answers, IsFramesAnswer, unread, over_text, frames_answer, frames_status}
+use Rattle.seata_lab.specs.Answers.{Answers, IsFramesAnswer, unread, over_text, frames_answer, frames_status, frames_statuses}
 use Rattle.seata_lab.specs.FrameLines.{frame_line, bad_frame_line, lines_from, given_lines, frames_text}
 use Rattle.seata_lab.specs.Listings.{fed, Awaits, IsReady, IsListing}
 use Rattle.seata_lab.proofs.FramesListed.{short_case, long_case}
@@ -231,18 +231,18 @@ on_ok P Q R f (Err e) p q = tt
 
 pub short_answers : (left0 left left2 : Option (List ℕ)) (total : ℕ) (l : Listing) (text : List ℕ) (status : ℕ)
     → ((input : List ℕ) → left0 ≡ Some input → IsListing input left total l) → total ≤ INPUT_BYTES → Consumes left left2 [] → IsAtEnd left2
-    → ((whole : List ℕ) → Awaits l [] whole → text ≡ whole) → status ≡ 0 → Answers IsFramesAnswer left0 left2 text status
+    → ((whole : List ℕ) → Awaits l [] whole → text ≡ whole) → status ≡ 0 → Answers IsFramesAnswer frames_statuses left0 left2 text status
 short_answers left0 left left2 total l text status listing short took ends says zero = record {
-  done_or_refused = inl zero;
+  is_known = rw zero refl;
   is_answer = λ input told. subst (λ n. IsFramesAnswer input text n) (sym zero) (answers_listed input text left left2 total l (listing input told) short took ends says).0;
   read = λ input told. (answers_listed input text left left2 total l (listing input told) short took ends says).1;
 }
 
 pub long_answers : (left0 left : Option (List ℕ)) (total : ℕ) (l : Listing) (text : List ℕ) (status : ℕ)
     → ((input : List ℕ) → left0 ≡ Some input → IsListing input left total l) → INPUT_BYTES < total → total ≤ INPUT_BYTES + 1
-    → text ≡ over_text → status ≡ 3 → Answers IsFramesAnswer left0 left text status
+    → text ≡ over_text → status ≡ 3 → Answers IsFramesAnswer frames_statuses left0 left text status
 long_answers left0 left total l text status listing long most is three = record {
-  done_or_refused = inr three;
+  is_known = rw three refl;
   is_answer = λ input told. subst (λ n. IsFramesAnswer input text n) (sym three) (answers_over input text left total l (listing input told) long most is).0;
   read = λ input told. (answers_over input text left total l (listing input told) long most is).1;
 }

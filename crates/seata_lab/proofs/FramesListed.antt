@@ -4,9 +4,9 @@ use Rattle.std.proofs.lemmas.Bool.Decides.{nat_tests}
 use Rattle.std.specs.Io.KnownBytes.{Appends}
 use Rattle.seata_types.specs.declared.limits.TheConstants.{INPUT_BYTES}
 use Rattle.seata_lab.specs.FrameLines.{frames_text}
-use Rattle.seata_lab.specs.Answers.{HasRead, IsFramesAnswer, ListsFrames, IsOver, TellsFrames, is_short, over_text, frames_answer, frames_status}
+use Rattle.seata_lab.specs.Answers.{HasRead, IsFramesAnswer, ListsFrames, IsOver, TellsFrames, is_among, is_short, over_text, frames_answer, frames_status, frames_statuses}
 use Rattle.seata_lab.specs.Streams.{Devices, GainsFront, IsCalm}
-use Rattle.seata_lab.proofs.Concluded.{all_read, longer, none_unread, Writes, Concludes, calm}
+use Rattle.seata_lab.proofs.Concluded.{all_read, longer, none_unread, AreTexts, Writes, Concludes, calm}
 
 -- an input is short enough, and its text is the lines, or it is too long
 pub record IsListed (input : List ℕ) : Type 0 where
@@ -44,12 +44,12 @@ long_case input many = by (case_of input)
     by (inl h) = not_both input h.short many
     by (inr h) = (h.text, h.status)
 
-module _ (result : ℕ) (old new : Devices) (t : Concludes IsFramesAnswer result old new) where
+module _ (result : ℕ) (old new : Devices) (t : Concludes IsFramesAnswer frames_statuses result old new) where
   listed_says : result ≡ 0 → (input : List ℕ) → old.left ≡ Some input → ListsFrames input old new
   listed_says zero input told = by (case_of input)
     where
       w : Writes IsFramesAnswer result input old new
-      w = t.written (inl zero) input told
+      w = t.written (rw zero refl) input told
 
       by : IsListed input ⊎ IsLong input → ListsFrames input old new
       by (inl h) = record {
@@ -63,7 +63,7 @@ module _ (result : ℕ) (old new : Devices) (t : Concludes IsFramesAnswer result
   over_says three input told = by (case_of input)
     where
       w : Writes IsFramesAnswer result input old new
-      w = t.written (inr three) input told
+      w = t.written (rw three refl) input told
 
       by : IsListed input ⊎ IsLong input → IsOver input old new
       by (inl h) = absurd (omega (arith, three, w.is_answer.status_is, h.status))
@@ -75,11 +75,15 @@ module _ (result : ℕ) (old new : Devices) (t : Concludes IsFramesAnswer result
       subst (λ x. GainsFront old.written new.written x) w.is_answer.text_is w.printed
 
   complete_says : (input : List ℕ) → old.left ≡ Some input → IsCalm old new → (result ≡ frames_status input) ⊎ (result ≡ 6)
-  complete_says input told still = by (calm IsFramesAnswer result old new t still)
+  complete_says input told still = by (calm IsFramesAnswer frames_statuses result old new t still)
     where
-      by : ((result ≡ 0) ⊎ (result ≡ 3)) ⊎ (result ≡ 6) → (result ≡ frames_status input) ⊎ (result ≡ 6)
+      by : (is_among frames_statuses result ≡ true) ⊎ (result ≡ 6) → (result ≡ frames_status input) ⊎ (result ≡ 6)
       by (inl known) = inl (t.written known input told).is_answer.status_is
       by (inr h) = inr h
 
   pub tells_frames : TellsFrames result old new
   tells_frames = record { listed = listed_says; over = over_says; cut_short = cut_says; complete = complete_says }
+
+-- no failure of a device, and no want of memory, is among them
+pub frames_texts : AreTexts frames_statuses
+frames_texts = record { not_four = refl; not_five = refl; not_six = refl }

@@ -15,6 +15,15 @@ use Rattle.scenario_reader.specs.declared.scenarios.Scenario.{Scenario}
 use Rattle.scenario_reader.specs.declared.scenarios.ScheduleItem.{ScheduleItem}
 use Rattle.scenario_reader.specs.declared.scenarios.ScheduleItem.TheVariants as item
 use Rattle.history_rules.specs.Own.{Event, Given, still}
+use Rattle.disk_model.specs.Disk.{DiskState}
+use Rattle.disk_model.specs.Memory.{Memory, memory_state}
+use Rattle.disk_model.specs.Stop.{state_of}
+use Rattle.disk_model.specs.declared.stoppable.Stoppable.{Stoppable}
+use Rattle.disk_journal.specs.Keeping.{IsFull}
+use Rattle.journal_checkpoint.specs.Keeping.{active_disk, other_disk, is_second}
+use Rattle.journal_checkpoint.specs.Pairs.{chosen}
+use Rattle.seata_types.specs.declared.errors.Full.{Full}
+use Rattle.session_store.specs.Keeping.{twin}
 use Rattle.history_rules.specs.Nodes.{no_past}
 use Rattle.history_rules.specs.Nodes.{Coordinator as CoordinatorRole, Manager as ManagerRole}
 use Rattle.history_rules.specs.Histories.{Moment, Turn, Deliver, Missing, Wait, ReceivesLater, IsDone, Stands, ComesToNone, own, brings, delivered, sent_at, sent_from}
@@ -23,10 +32,16 @@ use Rattle.history_rules.specs.Schedules.{Item, TurnOf, DeliverOf, WaitFor, IsSt
 use Rattle.history_text.specs.declared.entries.Cause.{Cause}
 use Rattle.history_text.specs.History.{cause_of, entries, entry_of}
 use Rattle.history_text.specs.Worlds.{item_of, items_of, settings_of, times_of, world_of}
+use Rattle.history_text.specs.Framing.{ComesFramable}
+use Rattle.history_text.specs.Promises.{Overflows}
+use Rattle.coordinator_core.specs.declared.nodes.Coordinator.{Coordinator}
+use Rattle.coordinator_core.specs.Standing.{StandsAs, disks_of, needs, sessions_of, size_of}
+use Rattle.seata_lab.specs.declared.faults.RunFault.{RunFault}
+use Rattle.seata_lab.specs.declared.faults.RunFault.TheVariants as fault
 use Rattle.seata_lab.specs.declared.runner.Delivery.{Delivery}
 use Rattle.seata_lab.specs.declared.runner.Letter.{Letter}
 use Rattle.seata_lab.specs.declared.runner.Run.{Run}
-use Rattle.seata_lab.specs.Runs.{CanRun, CanStep, HasHappened, Plays, Nodes, AllPost, IsPost, IsNode, IsGiven, Gives, IsRecorded, letters, letter_of, letter_at, letter_from, the_letter, delivery_of, next, printed_entry}
+use Rattle.seata_lab.specs.Runs.{EndsAt, EndsBy, EndsFull, HaveSize, IsOver, IsOverAt, CanRun, CanStep, HasHappened, Plays, Nodes, AllPost, IsPost, IsNode, IsGiven, Gives, IsRecorded, letters, letter_of, letter_at, letter_from, the_letter, delivery_of, next, printed_entry}
 use Rattle.seata_lab.proofs.Histories.{rises_after, letter_below, last_now-le, letters_at, Found, same_place-refl, snoc_below, snoc_end, snoc_past}
 use Rattle.seata_lab.proofs.Stepped.{nodes_net, role_of_manager, StepsAt}
 
@@ -249,8 +264,23 @@ module _ (s : Scenario) (old : Run) (ms : List Moment) (t : Plays s old ms) wher
       let slow = t.slow in
       omega (arith, few, slow)
 
-  pub can_step : (p : Place) → length old.entries.items < STEPS → IsNode s p → CanStep old p
-  can_step p short node = record { s = s; ms = ms; nodes = t.nodes; node = node; short = few_moments s old ms t short }
+  pub can_step : (p : Place) (given : Input) → length old.entries.items < STEPS → IsNode s p → IsGiven s given → ComesFramable given → CanStep old p given
+  can_step p given short node is framable = record {
+    s = s;
+    ms = ms;
+    nodes = t.nodes;
+    node = node;
+    is_given = is;
+    is_framable = framable;
+    short = few_moments s old ms t short;
+  }
+
+  -- a message that is delivered came from a node, and names one
+  pub delivered_given : (stamp : ℕ) (d : Delivery) → option_map delivery_of (letter_at stamp old.letters.items) ≡ Some d → IsGiven s (input.Message d.from d.message)
+  delivered_given stamp d e =
+      let (l, kept, same) = delivered_from (letter_at stamp old.letters.items) d e in
+      let post = letter_node stamp l kept in
+      subst (λ (k : Delivery). IsGiven s (input.Message k.from k.message)) same (post.sender, post.named)
 
   -- a node among those of the run
   pub run_node : (p : Place) → IsPlaceAmong 0 (length old.managers.items) p → IsNode s p
@@ -278,3 +308,57 @@ gives_by s ms old mid new p why reason given step st letters_same entries_same c
       ∙ ap (λ n. old.entries.items ++ printed_entry (length old.entries.items) p n why step ∷ []) clock_same,
   rec.same_clock ∙ clock_same,
 )
+
+-- ---- a step that fills the coordinator's disk
+
+sized_by : (n : ℕ) (second : Bool) (a o : Stoppable Memory) → (state_of memory_state (chosen second a o)).size ≡ n → (state_of memory_state (chosen second o a)).size ≡ n → (state_of memory_state a).size ≡ n
+sized_by n false a o first last = first
+sized_by n true a o first last = last
+
+size_is : (n : ℕ) (c : Coordinator Memory) → HaveSize n (disks_of memory_state c) → size_of memory_state c ≡ n
+size_is n c sized =
+    let t = twin (sessions_of c) in
+    sized_by n (is_second t) (active_disk t) (other_disk t) sized.first sized.second
+
+module _ (s : Scenario) (old : Run) (ms : List Moment) (t : Plays s old ms) where
+  ends_full : (p : Place) (why : Reason) (given : Input) (step : ScheduleItem) (full : Full) → p ≡ place.Tc
+      → Overflows (StandsAs memory_state) (needs old.coordinator) (size_of memory_state old.coordinator) old.coordinator given old.clock full
+      → slice_get s.schedule (length ms) ≡ Some step → Some (Given given) ≡ brings ms p why → (p, why) ≡ named (world_of s) ms (item_of step) → EndsFull s old ms full
+  ends_full p why given step full is over at brought names =
+      let asked = over (CoordinatorRole (times_of s) []) (own place.Tc ms) t.nodes.coordinated.stands in record {
+        plays = t;
+        step = step;
+        is_next = at;
+        reason = why;
+        given = given;
+        names = sym (ap (λ q. (q, why)) is) ∙ names;
+        brought = subst (λ q. Some (Given given) ≡ brings ms q why) is brought;
+        bytes = asked.0;
+        asked = asked.1;
+        over = subst (λ n. IsFull (needs old.coordinator (length asked.0)) n full) (size_is s.disk old.coordinator t.nodes.coordinated.sized) asked.2;
+      }
+
+  -- the message that is delivered reaches the coordinator
+  deliver_full : (stamp : ℕ) (d : Delivery) (full : Full) → option_map delivery_of (letter_at stamp old.letters.items) ≡ Some d → d.to ≡ place.Tc
+      → Overflows (StandsAs memory_state) (needs old.coordinator) (size_of memory_state old.coordinator) old.coordinator (input.Message d.from d.message) old.clock full
+      → slice_get s.schedule (length ms) ≡ Some (item.Deliver stamp) → EndsFull s old ms full
+  deliver_full stamp d full e is over at =
+      let (l, kept, same) = delivered_from (letter_at stamp old.letters.items) d e in
+      let sent = found s old ms t stamp (Some l) kept in
+      ends_full l.to (Deliver stamp l.from) (input.Message l.from l.packet.message) (item.Deliver stamp) full (ap (λ (k : Delivery). k.to) same ∙ is)
+      (subst (λ (k : Delivery). Overflows (StandsAs memory_state) (needs old.coordinator) (size_of memory_state old.coordinator) old.coordinator (input.Message k.from k.message) old.clock full) (sym same) over)
+      at (rw (sent.1, same_place-refl l.to) refl) (sym (ap (delivery stamp) sent.0))
+
+pub turn_ends : (old : Run) (p : Place) (f : RunFault) → IsOverAt old p input.Turn f → EndsAt old (item.Turn p) f
+turn_ends old p (fault.Full node full) (is, (there, over)) = (there, λ s ms t at. ends_full s old ms t p Turn input.Turn (item.Turn p) full is over at refl refl)
+turn_ends old p fault.NoMemory over = tt
+
+pub deliver_ends : (old : Run) (stamp : ℕ) (d : Delivery) (f : RunFault) → option_map delivery_of (letter_at stamp old.letters.items) ≡ Some d → IsOverAt old d.to (input.Message d.from d.message) f
+    → EndsAt old (item.Deliver stamp) f
+deliver_ends old stamp d (fault.Full node full) e (is, (there, over)) = (there, λ s ms t at. deliver_full s old ms t stamp d full e is over at)
+deliver_ends old stamp d fault.NoMemory e over = tt
+
+-- a replay ends there
+pub replay_ends : (s : Scenario) (r : Run) (ms : List Moment) (step : ScheduleItem) (f : RunFault) → EndsAt r step f → Plays s r ms → slice_get s.schedule (length ms) ≡ Some step → EndsBy s f
+replay_ends s r ms step (fault.Full node full) ends t at = (ends.0, (r, ms, ends.1 s ms t at))
+replay_ends s r ms step fault.NoMemory ends t at = tt

@@ -20,10 +20,10 @@ use Rattle.history_text.specs.History.{entries}
 use Rattle.history_text.specs.Lines.{entry_text}
 use Rattle.history_text.specs.Report.{line, lines, names_of, session_text, holder_text, table_row_text, fence_text, read_text, report, report_text}
 use Rattle.history_text.specs.Worlds.{resources_of, world_of}
-use Rattle.coordinator_core.specs.Standing.{StandsFor}
-use Rattle.coordinator_core.specs.Tracks.{records}
+use Rattle.disk_model.specs.Memory.{memory_state}
+use Rattle.coordinator_core.specs.Standing.{StandsOver}
 use Rattle.seata_lab.specs.declared.runner.Run.{Run}
-use Rattle.seata_lab.specs.Runs.{Plays}
+use Rattle.seata_lab.specs.Runs.{Plays, records}
 use Rattle.seata_lab.specs.Sessions.{failure_at, known_line, plain_report}
 use Rattle.seata_lab.proofs.Ungranted.{no_grants, no_locks}
 
@@ -113,9 +113,9 @@ report_is s r ms t =
 
 -- the same of a text that was put behind none
 pub report_put : (s : Scenario) (r : Run) (names : Names) (es : List Entry) (known : List SessionEntry) (start text : List ℕ) → names ≡ names_of s → start ≡ []
-    → es ≡ r.entries.items → ((owns : List Own) → StandsFor r.coordinator owns → known ≡ (snapshot_of (records owns)).sessions)
+    → es ≡ r.entries.items → ((owns : List Own) → StandsOver memory_state r.coordinator [] owns → known ≡ (snapshot_of (records owns)).sessions)
     → text ≡ start ++ plain_report names es known → (ms : List Moment) → Plays s r ms → text ≡ report s ms
 report_put s r names es known start text named empty printed told put ms t =
     put ∙ ap (λ l. l ++ plain_report names es known) empty
     ∙ ap (λ ns. plain_report ns es known) named ∙ ap (λ l. plain_report (names_of s) l known) printed
-    ∙ ap (plain_report (names_of s) r.entries.items) (told (own place.Tc ms) t.nodes.coordinated) ∙ report_is s r ms t
+    ∙ ap (plain_report (names_of s) r.entries.items) (told (own place.Tc ms) t.nodes.coordinated.stands.1) ∙ report_is s r ms t

@@ -1,5 +1,5 @@
 -- What the nodes keep when one of them took a step, and to whom a step sends.
-use Rattle.std.proofs.Common.{◌≡◌, ◌≢◌, ◌==◌, ◌+◌, ◌-◌, ◌<◌, length, ℕ, zero, suc, nat_eq, Bool, true, false, if◌then◌else◌, List, [], ◌∷◌, set, length-set, slice_get, Option, Some, None, option_map, refl, ap, sym, subst, ◌∙◌, arith, add-one}
+use Rattle.std.proofs.Common.{◌≡◌, ◌≢◌, ◌⊎◌, inl, inr, ◌==◌, ◌+◌, ◌-◌, ◌<◌, length, ℕ, zero, suc, nat_eq, Bool, true, false, if◌then◌else◌, List, [], ◌∷◌, set, length-set, slice_get, Option, Some, None, option_map, refl, ap, sym, subst, ◌∙◌, arith, add-one}
 use Rattle.std.proofs.lemmas.Bool.Decides.{nat_tests}
 use Rattle.std.proofs.lemmas.Option.{same_Some, slice_get_within}
 use Rattle.std.specs.Prelude.{IfSome}
@@ -25,7 +25,7 @@ use Rattle.durable_records.specs.Transactions.{Session, session, session_for, de
 use Rattle.durable_records.specs.Branches.{Grant, grants}
 use Rattle.durable_records.specs.Progress.{may_decide, status_of}
 use Rattle.history_rules.specs.Own.{Event, Given, Own, still, sends}
-use Rattle.history_rules.specs.Devices.{is_down, calls_left}
+use Rattle.history_rules.specs.Devices.{is_down, calls_left, is_short, left_after, spent}
 use Rattle.history_rules.specs.CoordinatorMemory.{is_past, late_one, due_one, old_one}
 use Rattle.history_rules.specs.CoordinatorRules.{xid_of, turn_answer, due_answer, old_answer, begin_answer, commit_answer, rollback_answer, message_answer, coordinator_answer, decided_status, next_asked}
 use Rattle.history_rules.specs.ManagerRules.{Settings, is_silent, speaks, end_message, receiver, turn_answer as manager_turn, closed_turn, waiting_answer, message_answer as manager_hears, closed_answer, ended_by, goes_on, if_same, manager_answer, sent_count, busy_count, is_closed, last_sent, sent_after}
@@ -35,27 +35,38 @@ use Rattle.history_rules.specs.Histories.{Moment, HappensAt, own, own_if, same_p
 use Rattle.history_rules.specs.Histories.{Cause as Reason}
 use Rattle.history_text.proofs.Worlds.{slice_get-managers}
 use Rattle.history_text.specs.Framing.{ComesFramable}
-use Rattle.history_text.specs.Promises.{TakesStep}
+use Rattle.disk_model.specs.Disk.{Rose}
+use Rattle.disk_model.specs.Memory.{Memory, memory_state}
+use Rattle.history_text.specs.Promises.{TakesStep, AfterError, DisksFail, StaysItself}
 use Rattle.history_text.specs.Worlds.{settings_of, times_of, world_of}
 use Rattle.history_text.proofs.Served.{happens_plain}
-use Rattle.coordinator_core.proofs.Facts.{coordinator_plain}
-use Rattle.coordinator_core.specs.Tracks.{records}
-use Rattle.coordinator_core.specs.Standing.{StandsFor, role_of, steps_of}
-use Rattle.coordinator_core.specs.Standing.{times_of as times_kept}
+use Rattle.coordinator_core.specs.Standing.{StandsAs, serves, disks_of, needs, size_of, steps_left}
+use Rattle.coordinator_core.specs.Standing.{is_down as coordinator_down}
+use Rattle.coordinator_core.specs.Stepping.{stands_at}
 use Rattle.coordinator_core.specs.declared.nodes.Coordinator.{Coordinator}
-use Rattle.manager_core.specs.Standing.{StandsFor as ManagerStandsFor, settings, steps_of as manager_steps_of}
+use Rattle.manager_core.specs.Standing.{StandsFor as ManagerStandsFor, Takes, settings, steps_of as manager_steps_of}
 use Rattle.manager_core.specs.declared.nodes.Manager.{Manager}
 use Rattle.manager_core.proofs.Facts.{manager_plain}
-use Rattle.seata_lab.specs.Runs.{AllPost, HasHappened, StepsManager, IsGiven, IsNode, NamesNode, IsPost, IsManagerOf, Nodes, RegistersNothing, next}
+use Rattle.seata_types.specs.declared.errors.NodeError.{NodeError}
+use Rattle.seata_types.specs.declared.errors.NodeError.TheVariants as error
+use Rattle.seata_lab.specs.declared.faults.RunFault.{RunFault}
+use Rattle.seata_lab.specs.declared.faults.RunFault.TheVariants as fault
+use Rattle.seata_lab.specs.declared.runner.Run.{Run}
+use Rattle.seata_lab.specs.Faults.{IsNoFailure, fault_of}
+use Rattle.seata_lab.specs.Runs.{records, IsCoordinatorOf, IsUnarmed, IsOver, IsOverAt, AllPost, HasHappened, StepsManager, IsGiven, IsNode, NamesNode, IsPost, IsManagerOf, Nodes, RegistersNothing, next}
 use Rattle.seata_lab.proofs.Ungranted.{no_grants, none_asked}
 
-module _ (s : Scenario) (c : Coordinator) (managers : List Manager) (ms : List Moment) where
+-- a step at an input arms no stop
+unarmed_given : (given : Input) (a : Act) (before : Option ℕ) → before ≡ None → left_after false (Given given) a before ≡ None
+unarmed_given given (act.Durable done) before e = ap (option_map spent) e
+unarmed_given given _ before e = e
+
+module _ (s : Scenario) (c : Coordinator Memory) (managers : List Manager) (ms : List Moment) where
   -- nothing happened at a node
   pub nodes_net : (now : ℕ) (why : Reason) (step : Step) → Nodes s c managers ms → Nodes s c managers (next ms place.Net now why None step ∷ ms)
   nodes_net now why step t = record {
     can = t.can;
     coordinated = t.coordinated;
-    timed = t.timed;
     unregistered = t.unregistered;
     able = let able = t.able in omega (arith, able);
     count = t.count;
@@ -67,14 +78,19 @@ module _ (s : Scenario) (c : Coordinator) (managers : List Manager) (ms : List M
       later k def (m, at, is) = (m, at, record { stands = is.stands; same = is.same; able = let able = is.able in omega (arith, able) })
 
   -- the coordinator took a step
-  pub nodes_coordinator : (c' : Coordinator) (given : Input) (now : ℕ) (why : Reason) (step : Step) → Nodes s c managers ms
-      → TakesStep StandsFor (role_of (times_kept c)) c c' given now step → ComesFramable given → RegistersNothing (Given given) → times_kept c' ≡ times_kept c
-      → steps_of c' + 1 ≡ steps_of c
+  pub nodes_coordinator : (c' : Coordinator Memory) (given : Input) (now : ℕ) (why : Reason) (step : Step) → Nodes s c managers ms
+      → TakesStep (StandsAs memory_state) c c' given now step → RegistersNothing (Given given) → StaysItself stands_at serves (disks_of memory_state) c c' → coordinator_down c' ≡ false
+      → steps_left c' + 1 ≡ steps_left c
       → Nodes s c' managers (next ms place.Tc now why (Some (Given given)) step ∷ ms)
-  nodes_coordinator c' given now why step t takes framable fresh same left = record {
+  nodes_coordinator c' given now why step t takes fresh same up left = record {
     can = t.can;
-    coordinated = (takes (own place.Tc ms) t.coordinated framable).1;
-    timed = same ∙ t.timed;
+    coordinated = record {
+      stands = (takes (CoordinatorRole (times_of s) []) (own place.Tc ms) t.coordinated.stands).1;
+      up = up;
+      unarmed = unarmed_given given step.act (calls_left false (own place.Tc ms)) t.coordinated.unarmed;
+      sized = record { first = same.first.size ∙ t.coordinated.sized.first; second = same.second.size ∙ t.coordinated.sized.second };
+      serving = λ other is framable. same.same_inputs other (t.coordinated.serving other is framable);
+    };
     unregistered = (t.unregistered, fresh);
     able = let able = t.able in omega (arith, able, left);
     count = t.count;
@@ -98,16 +114,15 @@ slice_get-set_other (z ∷ xs) zero (suc j) x other = refl
 slice_get-set_other (z ∷ xs) (suc k) zero x other = refl
 slice_get-set_other (z ∷ xs) (suc k) (suc j) x other = slice_get-set_other xs k j x (λ e. other (ap (λ n. suc n) e))
 
-module _ (s : Scenario) (c : Coordinator) (managers : List Manager) (ms : List Moment) where
+module _ (s : Scenario) (c : Coordinator Memory) (managers : List Manager) (ms : List Moment) where
   -- a manager took a step
   pub nodes_manager : (k : ℕ) (def : ManagerDef) (m m' : Manager) (given : Input) (now : ℕ) (why : Reason) (step : Step) → Nodes s c managers ms
       → slice_get s.managers k ≡ Some def → slice_get managers k ≡ Some m → IsManagerOf s ms (k + 1) def m
-      → TakesStep ManagerStandsFor (ManagerRole (settings m)) m m' given now step → settings m' ≡ settings m → manager_steps_of m' + 1 ≡ manager_steps_of m
+      → Takes m m' given now step → settings m' ≡ settings m → manager_steps_of m' + 1 ≡ manager_steps_of m
       → Nodes s c (set managers k m') (next ms (place.Man (k + 1)) now why (Some (Given given)) step ∷ ms)
   nodes_manager k def m m' given now why step t here at is takes same left = record {
     can = t.can;
     coordinated = t.coordinated;
-    timed = t.timed;
     unregistered = t.unregistered;
     able = let able = t.able in omega (arith, able);
     count = length-set managers k m' ∙ t.count;
@@ -121,7 +136,7 @@ module _ (s : Scenario) (c : Coordinator) (managers : List Manager) (ms : List M
       mine = grind (arith, nat_tests)
 
       here_now : ManagerStandsFor m' (own (place.Man (k + 1)) whole)
-      here_now = rw mine ((takes (own (place.Man (k + 1)) ms) is.stands tt).1)
+      here_now = rw mine ((takes (own (place.Man (k + 1)) ms) is.stands).1)
 
       this : (j : ℕ) (other : ManagerDef) → slice_get s.managers j ≡ Some other → j ≡ k
           → (n : Manager) × (slice_get (set managers k m') j ≡ Some n) × IsManagerOf s whole (j + 1) other n
@@ -308,14 +323,6 @@ module _ (s : Scenario) where
   manager_posts m node calls os (input.Local number) named = none_posts (place.Man m.number)
   manager_posts m node calls os (input.Outside number) named = none_posts (place.Man m.number)
 
--- two managers of one role have the same settings
-abbrev role_settings : Settings → Role → Settings
-role_settings default (ManagerRole m) = m
-role_settings default _ = default
-
-pub manager_role-injective : (m n : Settings) → ManagerRole m ≡ ManagerRole n → m ≡ n
-manager_role-injective m n e = ap (role_settings m) e
-
 -- ---- a step of a run
 
 module _ (s : Scenario) where
@@ -335,7 +342,7 @@ module _ (s : Scenario) where
       by false event before h = before h
 
   -- where a manager stands, the scenario has one
-  man_node : (n : ℕ) → IsNode s (place.Man n) → (k : ℕ) × (def : ManagerDef) × (n ≡ k + 1) × (slice_get s.managers k ≡ Some def)
+  pub man_node : (n : ℕ) → IsNode s (place.Man n) → (k : ℕ) × (def : ManagerDef) × (n ≡ k + 1) × (slice_get s.managers k ≡ Some def)
   man_node zero (role, e) = absurd (let no : None ≡ Some role = e in cc)
   man_node (suc k) (role, e) = by (slice_get s.managers k) refl (sym (ap (option_map (λ m. ManagerRole m)) (slice_get-managers s.lock_tries 1 s.managers k)) ∙ e)
     where
@@ -352,7 +359,7 @@ module _ (s : Scenario) where
       ∙ ap (λ n. Some (ManagerRole (settings_of s.lock_tries n def))) (omega arith)
 
 -- a manager of the scenario is one of the run, and can take a step
-module _ (s : Scenario) (c : Coordinator) (managers : List Manager) (ms : List Moment) (t : Nodes s c managers ms) (n : ℕ) (node : IsNode s (place.Man n)) where
+module _ (s : Scenario) (c : Coordinator Memory) (managers : List Manager) (ms : List Moment) (t : Nodes s c managers ms) (n : ℕ) (node : IsNode s (place.Man n)) where
   pub man_within : n - 1 < length managers
   man_within =
       let (k, def, number, here) = man_node s n node in
@@ -370,18 +377,18 @@ module _ (s : Scenario) (c : Coordinator) (managers : List Manager) (ms : List M
       subst (λ o. IfSome o (λ m. 0 < manager_steps_of m)) (sym (ap (slice_get managers) index ∙ there)) some
 
 -- what a step of a run says at a place
-abbrev pub StepsAt : Scenario → Coordinator → List Manager → List Moment → Place → Input → ℕ → Reason → Step → Type 0
+abbrev pub StepsAt : Scenario → Coordinator Memory → List Manager → List Moment → Place → Input → ℕ → Reason → Step → Type 0
 StepsAt s c managers ms at given now why step =
     HasHappened s ms at given now step
     × Nodes s c managers (next ms at now why (Some (Given given)) step ∷ ms)
     × (AllPost s ms → (out : Outgoing) → step.sent ≡ Some out → IsPost s at out.to out.message)
 
-module _ (s : Scenario) (c : Coordinator) (managers : List Manager) (ms : List Moment) (given : Input) (now : ℕ) (why : Reason) (step : Step) (t : Nodes s c managers ms) (g : IsGiven s given) where
-  pub coordinator_steps : (c' : Coordinator) → TakesStep StandsFor (role_of (times_kept c)) c c' given now step → ComesFramable given → times_kept c' ≡ times_kept c
-      → steps_of c' + 1 ≡ steps_of c → StepsAt s c' managers ms place.Tc given now why step
-  coordinator_steps c' takes framable same left = (
+module _ (s : Scenario) (c : Coordinator Memory) (managers : List Manager) (ms : List Moment) (given : Input) (now : ℕ) (why : Reason) (step : Step) (t : Nodes s c managers ms) (g : IsGiven s given) where
+  pub coordinator_steps : (c' : Coordinator Memory) → TakesStep (StandsAs memory_state) c c' given now step → StaysItself stands_at serves (disks_of memory_state) c c' → coordinator_down c' ≡ false
+      → steps_left c' + 1 ≡ steps_left c → StepsAt s c' managers ms place.Tc given now why step
+  coordinator_steps c' takes same up left = (
     record { fault = false; keeps = false; comes = tt; done = answered },
-    nodes_coordinator s c managers ms c' given now why step t takes framable (registers_nothing s given g) same left,
+    nodes_coordinator s c managers ms c' given now why step t takes (registers_nothing s given g) same up left,
     posts,
   )
     where
@@ -389,10 +396,10 @@ module _ (s : Scenario) (c : Coordinator) (managers : List Manager) (ms : List M
       owns = own place.Tc ms
 
       answered : step ≡ happens (CoordinatorRole (times_of s) []) owns now false false (Given given)
-      answered = (takes owns t.coordinated framable).0 ∙ ap (λ times. happens (CoordinatorRole times []) owns now false false (Given given)) t.timed
+      answered = (takes (CoordinatorRole (times_of s) []) owns t.coordinated.stands).0
 
       plain : (is_down owns ≡ false) × (calls_left false owns ≡ None)
-      plain = coordinator_plain c owns t.coordinated
+      plain = (sym t.coordinated.stands.1.disks.down ∙ t.coordinated.up, t.coordinated.unarmed)
 
       posts : AllPost s ms → (out : Outgoing) → step.sent ≡ Some out → IsPost s place.Tc out.to out.message
       posts post out e =
@@ -416,11 +423,11 @@ module _ (s : Scenario) (c : Coordinator) (managers : List Manager) (ms : List M
           same_manager : st.before ≡ m
           same_manager = same_Some st.before m (sym st.at ∙ there)
 
-          takes : TakesStep ManagerStandsFor (ManagerRole (settings m)) m st.after given now step
-          takes = subst (λ b. TakesStep ManagerStandsFor (ManagerRole (settings b)) b st.after given now step) same_manager st.takes
+          takes : Takes m st.after given now step
+          takes = subst (λ b. Takes b st.after given now step) same_manager st.takes
 
           answered : step ≡ happens (ManagerRole wanted) owns now false false (Given given)
-          answered = (takes owns is.stands tt).0 ∙ ap (λ w. happens (ManagerRole w) owns now false false (Given given)) is.same
+          answered = (takes owns is.stands).0 ∙ ap (λ w. happens (ManagerRole w) owns now false false (Given given)) is.same
 
           happened : Happens (ManagerRole wanted) owns now (Given given) step
           happened = record { fault = false; keeps = false; comes = tt; done = answered }
@@ -448,17 +455,45 @@ module _ (s : Scenario) (c : Coordinator) (managers : List Manager) (ms : List M
           (at k def here (subst (λ j. StepsManager managers managers' j given now step) index st) (t.managed k def here))
 
 -- the same where the other nodes are said to be the same
-pub coordinator_steps_at : (s : Scenario) (c c' : Coordinator) (managers managers' : List Manager) (ms : List Moment) (p : Place) (given : Input) (now : ℕ) (why : Reason) (step : Step)
-    → Nodes s c managers ms → IsGiven s given → p ≡ place.Tc → TakesStep StandsFor (role_of (times_kept c)) c c' given now step → ComesFramable given
-    → times_kept c' ≡ times_kept c → steps_of c' + 1 ≡ steps_of c → managers' ≡ managers → StepsAt s c' managers' ms p given now why step
-coordinator_steps_at s c c' managers managers' ms p given now why step t g at takes framable same left others =
+pub coordinator_steps_at : (s : Scenario) (c c' : Coordinator Memory) (managers managers' : List Manager) (ms : List Moment) (p : Place) (given : Input) (now : ℕ) (why : Reason) (step : Step)
+    → Nodes s c managers ms → IsGiven s given → p ≡ place.Tc → TakesStep (StandsAs memory_state) c c' given now step → StaysItself stands_at serves (disks_of memory_state) c c'
+    → coordinator_down c' ≡ false → steps_left c' + 1 ≡ steps_left c → managers' ≡ managers → StepsAt s c' managers' ms p given now why step
+coordinator_steps_at s c c' managers managers' ms p given now why step t g at takes same up left others =
     subst (λ l. StepsAt s c' l ms p given now why step) (sym others)
-    (subst (λ q. StepsAt s c' managers ms q given now why step) (sym at) (coordinator_steps s c managers ms given now why step t g c' takes framable same left))
+    (subst (λ q. StepsAt s c' managers ms q given now why step) (sym at) (coordinator_steps s c managers ms given now why step t g c' takes same up left))
 
-pub manager_steps_at : (s : Scenario) (c c' : Coordinator) (managers managers' : List Manager) (ms : List Moment) (p : Place) (n : ℕ) (given : Input) (now : ℕ) (why : Reason) (step : Step)
+pub manager_steps_at : (s : Scenario) (c c' : Coordinator Memory) (managers managers' : List Manager) (ms : List Moment) (p : Place) (n : ℕ) (given : Input) (now : ℕ) (why : Reason) (step : Step)
     → Nodes s c managers ms → IsGiven s given → IsNode s p → p ≡ place.Man n → StepsManager managers managers' (n - 1) given now step → c' ≡ c
     → StepsAt s c' managers' ms p given now why step
 manager_steps_at s c c' managers managers' ms p n given now why step t g node at stepped same =
     subst (λ k. StepsAt s k managers' ms p given now why step) (sym same)
     (subst (λ q. StepsAt s c managers' ms q given now why step) (sym at)
     (manager_steps s c managers ms given now why step t g managers' n (subst (λ q. IsNode s q) at node) stepped))
+
+-- ---- a step that isn't made
+
+-- disks in memory don't fail where no stop is armed
+pub no_failure : (c c' : Coordinator Memory) (given : Input) (now : ℕ) (e : NodeError) → IsUnarmed c
+    → AfterError (StandsAs memory_state) (DisksFail (disks_of memory_state c) (disks_of memory_state c')) (needs c) (size_of memory_state c) c c' given now e → IsNoFailure e
+no_failure c c' given now (error.Failed at) (s, owns, t) after = by (after (CoordinatorRole (times_of s) []) owns t.stands).2
+  where
+    by : (is_short (calls_left false owns) ≡ true) ⊎ DisksFail (disks_of memory_state c) (disks_of memory_state c') → ⊥
+    by (inl short) = let no : false ≡ true = sym (ap is_short t.unarmed) ∙ short in absurd (let never : false ≡ true = no in cc)
+    by (inr rose) = absurd (omega (arith, rose))
+no_failure c c' given now (error.Full full) u after = tt
+no_failure c c' given now error.NoMemory u after = tt
+
+over_by : (c c' : Coordinator Memory) (given : Input) (now : ℕ) (e : NodeError) → IsNoFailure e
+    → AfterError (StandsAs memory_state) (DisksFail (disks_of memory_state c) (disks_of memory_state c')) (needs c) (size_of memory_state c) c c' given now e → IsOver c given now (fault_of e)
+over_by c c' given now (error.Failed at) none after = absurd none
+over_by c c' given now (error.Full full) none after = (refl, after.1)
+over_by c c' given now error.NoMemory none after = tt
+
+-- the fault of a step that isn't made
+pub over_is : (c c' : Coordinator Memory) (given : Input) (now : ℕ) (e : NodeError) (f : RunFault) → IsUnarmed c
+    → AfterError (StandsAs memory_state) (DisksFail (disks_of memory_state c) (disks_of memory_state c')) (needs c) (size_of memory_state c) c c' given now e → f ≡ fault_of e → IsOver c given now f
+over_is c c' given now e f u after is = subst (IsOver c given now) (sym is) (over_by c c' given now e (no_failure c c' given now e u after) after)
+
+pub over_at : (r : Run) (at : Place) (given : Input) (f : RunFault) → at ≡ place.Tc → IsOver r.coordinator given r.clock f → IsOverAt r at given f
+over_at r at given (fault.Full node full) is over = (is, over)
+over_at r at given fault.NoMemory is over = tt

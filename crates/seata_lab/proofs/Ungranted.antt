@@ -19,8 +19,7 @@ use Rattle.durable_records.specs.Locks.{is_holding, locks, locks_of}
 use Rattle.history_rules.specs.Own.{Event, Given, Own, Left, added, asked_act, kept_part, leaves}
 use Rattle.history_rules.specs.CoordinatorMemory.{begun_by, granted_by, session_record, session_asked, sessions_left}
 use Rattle.history_rules.specs.CoordinatorRules.{first_of, last_of, next_asked}
-use Rattle.coordinator_core.specs.Tracks.{records}
-use Rattle.seata_lab.specs.Runs.{RegistersNothing, RegisterNothing}
+use Rattle.seata_lab.specs.Runs.{RegistersNothing, RegisterNothing, records}
 
 -- ---- the record of an entry
 

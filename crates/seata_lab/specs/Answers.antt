@@ -8,7 +8,10 @@ use Rattle.scenario_reader.specs.declared.errors.ScenarioError.{ScenarioError}
 use Rattle.scenario_reader.specs.declared.errors.ScenarioError.TheVariants as fault
 use Rattle.scenario_reader.specs.declared.scenarios.Scenario.{Scenario}
 use Rattle.scenario_reader.specs.Reading.{IsScenario, IsFault}
+use Rattle.seata_types.specs.declared.errors.Full.{Full}
+use Rattle.seata_lab.specs.declared.runner.Run.{Run}
 use Rattle.seata_lab.specs.declared.unbuilt.Unbuilt.{Unbuilt}
+use Rattle.seata_lab.specs.Runs.{EndsFull}
 use Rattle.seata_lab.specs.Unbuilt.{path_of, first_unbuilt, IsBuilt}
 use Rattle.history_rules.specs.Nodes.{no_past}
 use Rattle.history_rules.specs.Histories.{Moment}
@@ -47,9 +50,13 @@ pub record HasRead (input bytes : List ℕ) (left : Option (List ℕ)) : Type 0 
   pub bytes_are : bytes ≡ take (INPUT_BYTES + 1) input
   pub left_are : left ≡ Some (unread input)
 
--- a source was read, and this text and status are the answer to its input, where that is told
-pub record Answers (IsAnswer : List ℕ → List ℕ → ℕ → Type 0) (old new : Option (List ℕ)) (text : List ℕ) (status : ℕ) : Type 0 where
-  pub done_or_refused : (status ≡ 0) ⊎ (status ≡ 3)
+-- a number is one of these
+abbrev pub is_among : List ℕ → ℕ → Bool
+is_among numbers n = list_any (nat_eq n) numbers
+
+-- a source was read, and this text and status, one of these, are the answer to its input, where that is told
+pub record Answers (IsAnswer : List ℕ → List ℕ → ℕ → Type 0) (statuses : List ℕ) (old new : Option (List ℕ)) (text : List ℕ) (status : ℕ) : Type 0 where
+  pub is_known : is_among statuses status ≡ true
   pub is_answer : (input : List ℕ) → old ≡ Some input → IsAnswer input text status
   pub read : (input : List ℕ) → old ≡ Some input → new ≡ Some (unread input)
 
@@ -82,13 +89,33 @@ IsFaultOf bytes text = (e : ScenarioError) × IsFault bytes e × (text ≡ line 
 unfoldable pub IsUnbuiltOf : List ℕ → List ℕ → Type 0
 IsUnbuiltOf bytes text = (s : Scenario) × IsScenario bytes s × (part : Unbuilt) × (first_unbuilt s ≡ Some part) × (text ≡ line (unbuilt_text part))
 
+-- the line of a record of the coordinator that doesn't fit on its disk
+abbrev pub full_text : Full → List ℕ
+full_text full = codes "full: tc needs " ++ (decimal full.needed ++ (codes " of " ++ decimal full.size))
+
+-- the line of the record that ends a replay of a scenario
+abbrev pub IsFullLine : Scenario → List ℕ → Type 0
+IsFullLine s text = (full : Full) × ((r : Run) × (ms : List Moment) × EndsFull s r ms full) × (text ≡ line (full_text full))
+
+-- the same of the scenario that the bytes are, all of which can be run
+unfoldable pub IsFullOf : List ℕ → List ℕ → Type 0
+IsFullOf bytes text = (s : Scenario) × IsScenario bytes s × IsBuilt s × IsFullLine s text
+
 -- the line of what keeps the bytes from being replayed
 abbrev pub IsRefusalOf : List ℕ → List ℕ → Type 0
 IsRefusalOf bytes text = IsFaultOf bytes text ⊎ IsUnbuiltOf bytes text
 
+-- the text of a scenario that can be run with its status
+unfoldable pub IsReplayOf : List ℕ → List ℕ → ℕ → Type 0
+IsReplayOf bytes text status = ((status ≡ 0) × IsReportOf bytes text) ⊎ ((status ≡ 8) × IsFullOf bytes text)
+
 -- the text of an input with its status
 unfoldable pub IsAnswerTo : List ℕ → List ℕ → ℕ → Type 0
-IsAnswerTo bytes text status = ((status ≡ 0) × IsReportOf bytes text) ⊎ ((status ≡ 3) × IsRefusalOf bytes text)
+IsAnswerTo bytes text status = ((status ≡ 3) × IsRefusalOf bytes text) ⊎ IsReplayOf bytes text status
+
+-- the statuses of a replay that come with a text
+abbrev pub replay_statuses : List ℕ
+replay_statuses = 0 ∷ 3 ∷ 8 ∷ []
 
 -- at status 0: the source was read to its end, its bytes are a scenario, all of which can be run, and the sink got the
 -- report of a legal history that follows its schedule; and this history is safe, at each of its points: no row has two
@@ -111,6 +138,20 @@ pub record Refuses (input : List ℕ) (old new : Devices) : Type 0 where
   pub is_refusal : IsRefusalOf input text
   pub printed : Appends old.written new.written text
 
+-- at status 8: the source was read to its end, its bytes are a scenario, all of which can be run, and the sink got the line of
+-- a record that would pass the end of the coordinator's disk: a legal history follows the schedule up to the step that asks
+-- for it
+pub record FillsDisk (input : List ℕ) (old new : Devices) : Type 0 where
+  pub read_to_end : new.left ≡ Some []
+  pub scenario : Scenario
+  pub is_scenario : IsScenario input scenario
+  pub is_built : IsBuilt scenario
+  pub full : Full
+  pub run : Run
+  pub history : List Moment
+  pub ends : EndsFull scenario run history full
+  pub printed : Appends old.written new.written (line (full_text full))
+
 -- at status 5: the sink got the front of the text that another status would have
 pub record CutsShort (input : List ℕ) (old new : Devices) : Type 0 where
   pub text : List ℕ
@@ -118,14 +159,15 @@ pub record CutsShort (input : List ℕ) (old new : Devices) : Type 0 where
   pub is_answer : IsAnswerTo input text status
   pub printed : GainsFront old.written new.written text
 
--- what can be run was replayed, or memory was refused
+-- what can be run was replayed, or filled a disk, or memory was refused
 abbrev pub IsDone : ℕ → Type 0
-IsDone status = (status ≡ 0) ⊎ (status ≡ 6)
+IsDone status = (status ≡ 0) ⊎ (status ≡ 8) ⊎ (status ≡ 6)
 
 -- what the status of a replay says of the input, where that is told
 pub record TellsReplay (status : ℕ) (old new : Devices) : Type 0 where
   pub done : status ≡ 0 → (input : List ℕ) → old.left ≡ Some input → Replays input old new
   pub refused : status ≡ 3 → (input : List ℕ) → old.left ≡ Some input → Refuses input old new
+  pub full : status ≡ 8 → (input : List ℕ) → old.left ≡ Some input → FillsDisk input old new
   pub cut_short : status ≡ 5 → (input : List ℕ) → old.left ≡ Some input → CutsShort input old new
   pub complete : (input : List ℕ) (scenario : Scenario) → old.left ≡ Some input → IsScenario input scenario → IsBuilt scenario → IsCalm old new → IsDone status
 
@@ -145,6 +187,10 @@ frames_answer input = if is_short input then frames_text input else over_text
 
 abbrev pub frames_status : List ℕ → ℕ
 frames_status input = if is_short input then 0 else 3
+
+-- the statuses of a listing of frames that come with a text
+abbrev pub frames_statuses : List ℕ
+frames_statuses = 0 ∷ 3 ∷ []
 
 -- the text of an input of frames with its status
 pub record IsFramesAnswer (input text : List ℕ) (status : ℕ) : Type 0 where
@@ -172,9 +218,13 @@ pub record TellsFrames (status : ℕ) (old new : Devices) : Type 0 where
 
 -- ---- all words
 
+-- the statuses of a call: those that come with a text, and those of a device that failed and of want of memory
+abbrev pub with_failures : List ℕ → List ℕ
+with_failures statuses = statuses ++ 4 ∷ 5 ∷ 6 ∷ []
+
 -- the status is one of these; the source failed at 4 and the sink at 5, each in this call; nothing was written at 4 and 6
 pub record TellsFaults (possible : List ℕ) (status : ℕ) (old new : Devices) : Type 0 where
-  pub statuses : list_any (nat_eq status) possible ≡ true
+  pub statuses : is_among possible status ≡ true
   pub source_failed : status ≡ 4 → Rose old.source_faults new.source_faults × (new.written ≡ old.written)
   pub sink_failed : status ≡ 5 → Rose old.sink_faults new.sink_faults
   pub no_memory : status ≡ 6 → new.written ≡ old.written

@@ -1,5 +1,6 @@
 pub mod Unbuilt
 pub mod Streams
+pub mod Faults
 pub mod Runs
 pub mod Sessions
 pub mod FrameLines

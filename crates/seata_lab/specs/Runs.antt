@@ -2,6 +2,10 @@
 use Rattle.seata_types.specs.declared.limits.TheConstants.{STEPS, TICKS}
 use Rattle.coordinator_core.specs.declared.nodes.TheConstants.{NODE_STEPS}
 use Rattle.std.specs.Prelude.{◌≡◌, ◌+◌, ◌*◌, ◌<◌, ◌≤◌, ℕ, zero, suc, false, List, [], ◌∷◌, ◌++◌, length, slice_get, slice_set as set, Option, Some, None, option_map}
+use Rattle.disk_model.specs.Memory.{Memory, memory_state}
+use Rattle.disk_journal.specs.Keeping.{IsFull}
+use Rattle.journal_checkpoint.specs.Images.{Pair}
+use Rattle.seata_types.specs.declared.errors.Full.{Full}
 use Rattle.seata_types.specs.declared.ids.Place.{Place}
 use Rattle.seata_types.specs.declared.ids.Place.TheVariants as place
 use Rattle.seata_types.specs.declared.messages.Input.{Input}
@@ -15,27 +19,31 @@ use Rattle.scenario_reader.specs.declared.scenarios.Scenario.{Scenario}
 use Rattle.scenario_reader.specs.declared.scenarios.ScheduleItem.{ScheduleItem}
 use Rattle.scenario_reader.specs.Runnable.{FitsNodes}
 use Rattle.seata_lab.specs.Unbuilt.{is_unbuilt}
+use Rattle.durable_records.specs.declared.coordinators.SessionRecord.{SessionRecord}
 use Rattle.history_rules.specs.Own.{Event, Given, Own}
+use Rattle.history_rules.specs.Devices.{calls_left}
+use Rattle.history_rules.specs.CoordinatorMemory.{sessions_left}
 use Rattle.history_rules.specs.Nodes.{Role, no_past, role_at}
-use Rattle.history_rules.specs.Nodes.{Manager as ManagerRole}
-use Rattle.history_rules.specs.Histories.{Moment, own, HappensAt, Legal}
+use Rattle.history_rules.specs.Nodes.{Coordinator as CoordinatorRole, Manager as ManagerRole}
+use Rattle.history_rules.specs.Histories.{Moment, own, brings, HappensAt, Legal}
 use Rattle.history_rules.specs.Histories.{Cause as Reason}
-use Rattle.history_rules.specs.Schedules.{Follows, clock, singles}
+use Rattle.history_rules.specs.Schedules.{Follows, clock, named, singles}
 use Rattle.history_law.specs.Safety.{IsSafeHistory}
 use Rattle.history_text.specs.declared.entries.Cause.{Cause}
 use Rattle.history_text.specs.declared.entries.Entry.{Entry}
 use Rattle.history_text.specs.Notes.{sent_of}
 use Rattle.history_text.specs.History.{entries}
-use Rattle.history_text.specs.Promises.{TakesStep}
 use Rattle.history_text.specs.Framing.{ComesFramable}
-use Rattle.history_text.specs.Worlds.{items_of, resources_of, settings_of, times_of, world_of}
+use Rattle.history_text.specs.Promises.{Overflows, asked_bytes}
+use Rattle.history_text.specs.Worlds.{item_of, items_of, resources_of, settings_of, times_of, world_of}
 use Rattle.frame_codec.specs.Limits.{IsFramable}
-use Rattle.coordinator_core.specs.Standing.{StandsFor, steps_of}
-use Rattle.coordinator_core.specs.Standing.{times_of as times_kept}
+use Rattle.coordinator_core.specs.Standing.{StandsAs, serves, disks_of, needs, size_of, steps_left, is_down}
 use Rattle.coordinator_core.specs.declared.nodes.Coordinator.{Coordinator}
-use Rattle.manager_core.specs.Standing.{StandsFor as ManagerStandsFor, settings, steps_of as manager_steps_of}
+use Rattle.manager_core.specs.Standing.{StandsFor as ManagerStandsFor, Takes, settings, steps_of as manager_steps_of}
 use Rattle.manager_core.specs.declared.nodes.Manager.{Manager}
 use Rattle.manager_core.specs.declared.nodes.TheConstants.{NODE_STEPS as MANAGER_STEPS}
+use Rattle.seata_lab.specs.declared.faults.RunFault.{RunFault}
+use Rattle.seata_lab.specs.declared.faults.RunFault.TheVariants as fault
 use Rattle.seata_lab.specs.declared.runner.Delivery.{Delivery}
 use Rattle.seata_lab.specs.declared.runner.Letter.{Letter}
 use Rattle.seata_lab.specs.declared.runner.Run.{Run}
@@ -127,15 +135,39 @@ abbrev pub RegisterNothing : List Own → Type 0
 RegisterNothing [] = Unit {0}
 RegisterNothing (o ∷ os) = RegisterNothing os × RegistersNothing o.event
 
+-- a message that a node is given came from a node, and names one
+abbrev pub IsGiven : Scenario → Input → Type 0
+IsGiven s input.Turn = Unit {0}
+IsGiven s (input.Message from heard) = IsNode s from × NamesNode s heard
+IsGiven s (input.Local number) = Unit {0}
+IsGiven s (input.Outside number) = Unit {0}
+
+-- both disks have so many bytes
+pub record HaveSize (bytes : ℕ) (disks : Pair) : Type 0 where
+  pub first : disks.first.size ≡ bytes
+  pub second : disks.second.size ≡ bytes
+
+-- the coordinator stands for its own entries, on two disks in memory of the scenario's size that were blank; it is up, no
+-- stop arms a disk of it, and it serves what the scenario's nodes send
+pub record IsCoordinatorOf (s : Scenario) (c : Coordinator Memory) (owns : List Own) : Type 0 where
+  pub stands : StandsAs memory_state c (CoordinatorRole (times_of s) []) owns
+  pub up : is_down c ≡ false
+  pub unarmed : calls_left false owns ≡ None
+  pub sized : HaveSize s.disk (disks_of memory_state c)
+  pub serving : (given : Input) → IsGiven s given → ComesFramable given → serves c given
+
 -- the nodes stand for their own entries
-pub record Nodes (s : Scenario) (coordinator : Coordinator) (managers : List Manager) (ms : List Moment) : Type 0 where
+pub record Nodes (s : Scenario) (coordinator : Coordinator Memory) (managers : List Manager) (ms : List Moment) : Type 0 where
   pub can : CanRun s
-  pub coordinated : StandsFor coordinator (own place.Tc ms)
-  pub timed : times_kept coordinator ≡ times_of s
+  pub coordinated : IsCoordinatorOf s coordinator (own place.Tc ms)
   pub unregistered : RegisterNothing (own place.Tc ms)
-  pub able : NODE_STEPS ≤ steps_of coordinator + length ms
+  pub able : NODE_STEPS ≤ steps_left coordinator + length ms
   pub count : length managers ≡ length s.managers
   pub managed : (k : ℕ) → HasManager s ms k managers
+
+-- the records that stand after these own entries of the coordinator
+abbrev pub records : List Own → List SessionRecord
+records owns = (sessions_left [] owns).records
 
 -- the run made this history
 pub record Plays (s : Scenario) (r : Run) (ms : List Moment) : Type 0 where
@@ -165,19 +197,14 @@ pub record IsRecorded (old new : Run) (at : Place) (why : Cause) (step : Step) :
   pub same_managers : new.managers ≡ old.managers
   pub same_clock : new.clock ≡ old.clock
 
--- a message that a node is given came from a node, and names one
-abbrev pub IsGiven : Scenario → Input → Type 0
-IsGiven s input.Turn = Unit {0}
-IsGiven s (input.Message from heard) = IsNode s from × NamesNode s heard
-IsGiven s (input.Local number) = Unit {0}
-IsGiven s (input.Outside number) = Unit {0}
-
--- a node of the scenario can take a step after these moments
-pub record CanStep (old : Run) (at : Place) : Type 0 where
+-- a node of the scenario can take a step after these moments, at an input from another
+pub record CanStep (old : Run) (at : Place) (given : Input) : Type 0 where
   pub s : Scenario
   pub ms : List Moment
   pub nodes : Nodes s old.coordinator old.managers.items ms
   pub node : IsNode s at
+  pub is_given : IsGiven s given
+  pub is_framable : ComesFramable given
   pub short : length ms < STEPS
 
 -- the k-th manager took a step, and no other
@@ -186,9 +213,23 @@ pub record StepsManager (old new : List Manager) (k : ℕ) (given : Input) (now 
   pub after : Manager
   pub at : slice_get old k ≡ Some before
   pub changed : new ≡ set old k after
-  pub takes : TakesStep ManagerStandsFor (ManagerRole (settings before)) before after given now step
+  pub takes : Takes before after given now step
   pub same : settings after ≡ settings before
   pub counted : manager_steps_of after + 1 ≡ manager_steps_of before
+
+-- the coordinator stands for entries at which no stop armed a disk of it
+abbrev pub IsUnarmed : Coordinator Memory → Type 0
+IsUnarmed c = (s : Scenario) × (owns : List Own) × IsCoordinatorOf s c owns
+
+-- at this input the coordinator's record would pass the end of its disk; or memory was refused
+abbrev pub IsOver : Coordinator Memory → Input → ℕ → RunFault → Type 0
+IsOver c given now (fault.Full at full) = (at ≡ place.Tc) × Overflows (StandsAs memory_state) (needs c) (size_of memory_state c) c given now full
+IsOver c given now fault.NoMemory = Unit {0}
+
+-- the same of the node at a place: managers have no disk
+abbrev pub IsOverAt : Run → Place → Input → RunFault → Type 0
+IsOverAt r at given (fault.Full node full) = (at ≡ place.Tc) × IsOver r.coordinator given r.clock (fault.Full node full)
+IsOverAt r at given fault.NoMemory = Unit {0}
 
 -- what happened at a place is this step
 abbrev pub HasHappened : Scenario → List Moment → Place → Input → ℕ → Step → Type 0
@@ -244,3 +285,30 @@ pub record HasPlayed (s : Scenario) (r : Run) : Type 0 where
   pub plays : Plays s r history
   pub whole : length history ≡ length s.schedule
   pub safe : IsSafeHistory (world_of s) no_past history
+
+-- ---- a replay that ends before its schedule does
+
+-- The run made this history, and the schedule's next step asks the coordinator for a record that would pass the end of its
+-- disk, which has the scenario's size. Where the record would end is asked of the coordinator's own disks.
+pub record EndsFull (s : Scenario) (r : Run) (ms : List Moment) (full : Full) : Type 0 where
+  pub plays : Plays s r ms
+  pub step : ScheduleItem
+  pub is_next : slice_get s.schedule (length ms) ≡ Some step
+  pub reason : Reason
+  pub given : Input
+  pub names : (place.Tc, reason) ≡ named (world_of s) ms (item_of step)
+  pub brought : Some (Given given) ≡ brings ms place.Tc reason
+  pub bytes : List ℕ
+  pub asked : asked_bytes (CoordinatorRole (times_of s) []) (own place.Tc ms) r.clock given ≡ Some bytes
+  pub over : IsFull (needs r.coordinator (length bytes)) s.disk full
+
+-- said of each history that the run made: at this step of the schedule it ends so, or memory was refused
+abbrev pub EndsAt : Run → ScheduleItem → RunFault → Type 0
+EndsAt old step (fault.Full at full) =
+    (at ≡ place.Tc) × ((s : Scenario) (ms : List Moment) → Plays s old ms → slice_get s.schedule (length ms) ≡ Some step → EndsFull s old ms full)
+EndsAt old step fault.NoMemory = Unit {0}
+
+-- a replay of the scenario ends so
+abbrev pub EndsBy : Scenario → RunFault → Type 0
+EndsBy s (fault.Full at full) = (at ≡ place.Tc) × ((r : Run) × (ms : List Moment) × EndsFull s r ms full)
+EndsBy s fault.NoMemory = Unit {0}

@@ -5,13 +5,16 @@ ghost use Rattle.history_text.specs.Report.{line};
 ghost use Rattle.scenario_reader.specs.Reading.{IsScenario};
 ghost use Rattle.scenario_reader.specs.Runnable.{IsRunnable};
 ghost use Rattle.seata_lab.specs.Unbuilt.{IsBuilt};
-ghost use Rattle.seata_lab.specs.Answers.{fault_text, unbuilt_text, IsReportOf, IsAnswerTo};
+ghost use Rattle.seata_lab.specs.Answers.{fault_text, unbuilt_text, full_text, IsFullLine, IsReplayOf, IsAnswerTo};
+ghost use Rattle.seata_lab.specs.Runs.{EndsBy};
+ghost use Rattle.scenario_reader.specs.declared.scenarios.Scenario.{Scenario as TheScenario};
 
+use crate::faults::RunFault;
 use crate::replays::replay;
 use crate::reports::write_report;
 use crate::unbuilt::{Unbuilt, first_unbuilt, put_path};
 use scenario_reader::{Scenario, ScenarioError, read};
-use seata_types::{NoMemory, Text};
+use seata_types::{Full, NoMemory, Text};
 use std::alloc::{AllocError, Global};
 
 /// The text that is written, and the status once it was.
@@ -110,16 +113,48 @@ fn not_built(alloc: Global, part: Unbuilt) -> Result<Answer, NoMemory>
     Ok(refusal(text))
 }
 
+/// The line of a record of the coordinator that doesn't fit on its disk, with its line feed.
+fn full_line(alloc: Global, full: Full) -> Result<String, AllocError>
+    ensures { IfOk result (λ text. string_bytes text ≡ line (full_text full)) }
+{
+    let Full { needed, size } = full;
+    let mut out = String::new(alloc);
+    write!(out, "full: tc needs {needed} of {size}")?;
+    out.push_str("\n")?;
+    Ok(out)
+}
+
+/// The answer to a replay that ended before its schedule did.
+fn filled(alloc: Global, fault: RunFault) -> Result<Answer, NoMemory>
+    ensures text { IfOk result (λ answer. (s : TheScenario) → EndsBy s fault → IsFullLine s (string_bytes answer.text)) }
+    ensures status { IfOk result (λ answer. answer.status ≡ 8) }
+{
+    match fault {
+        RunFault::Full { place: _, full } => match full_line(alloc, full) {
+            Ok(text) => Ok(Answer { text, status: 8 }),
+            Err(AllocError) => Err(NoMemory),
+        },
+        RunFault::NoMemory => Err(NoMemory),
+    }
+}
+
 /// The answer to a scenario that can be run.
+#[tactic(auto, unfolding(crate::specs::Answers::IsReplayOf))]
 fn replayed(alloc: Global, scenario: &Scenario) -> Result<Answer, NoMemory>
     requires runnable { IsRunnable scenario.now }
     requires built { IsBuilt scenario.now }
-    ensures text { IfOk result (λ answer. (bytes : List ℕ) → IsScenario bytes scenario.now → IsReportOf bytes (string_bytes answer.text)) }
-    ensures status { IfOk result (λ answer. answer.status ≡ 0) }
+    ensures { IfOk result (λ answer. (bytes : List ℕ) → IsScenario bytes scenario.now → IsReplayOf bytes (string_bytes answer.text) answer.status) }
 {
-    let run = replay(alloc, scenario)?;
-    let text = write_report(alloc, scenario, &run)?;
-    Ok(Answer { text, status: 0 })
+    match replay(alloc, scenario) {
+        Ok(run) => {
+            let text = write_report(alloc, scenario, &run)?;
+            Ok(Answer { text, status: 0 })
+        }
+        Err(fault) => {
+            let answer = filled(alloc, fault)?;
+            Ok(answer)
+        }
+    }
 }
 
 /// The answer to an input that is a scenario.

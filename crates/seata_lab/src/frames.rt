@@ -1,7 +1,7 @@
 //! The lines of an input of frames.
 ghost use Rattle.std.specs.Prelude.{◌≡◌, ◌≢◌, ◌++◌, [], ℕ, List as Items, IfOk, IfErr, OnOk, string_bytes};
 ghost use Rattle.disk_model.specs.Disk.{Rose};
-ghost use Rattle.seata_lab.specs.Answers.{over_text, Answers, IsFramesAnswer};
+ghost use Rattle.seata_lab.specs.Answers.{over_text, Answers, IsFramesAnswer, frames_statuses};
 ghost use Rattle.seata_lab.specs.FrameLines as lines;
 ghost use Rattle.seata_lab.specs.Listings.{Awaits, IsReady};
 
@@ -142,7 +142,7 @@ fn listed(listing: Listing) -> Result<Answer, ReadFault>
 /// Reads an input of frames piece by piece: the lines of its frames, or the line of an input that is too long, with its
 /// status.
 pub fn list_frames<S: Source>(alloc: Global, source: &mut S) -> Result<Answer, ReadFault>
-    ensures answer { IfOk result (λ a. Answers IsFramesAnswer (S.left source.old) (S.left source.new) (string_bytes a.text) a.status) }
+    ensures answer { IfOk result (λ a. Answers IsFramesAnswer frames_statuses (S.left source.old) (S.left source.new) (string_bytes a.text) a.status) }
     ensures err { IfErr result (λ e. e ≡ ReadFault.Failed → Rose (S.faults source.old) (S.faults source.new)) }
 {
     let mut buffer = zeros(alloc, PIECE_BYTES).map_err(|_| ReadFault::NoMemory)?;

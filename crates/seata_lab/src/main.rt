@@ -5,6 +5,7 @@
 mod answers;
 #[cfg(test)]
 mod failing;
+mod faults;
 mod frames;
 #[cfg(test)]
 mod kept;

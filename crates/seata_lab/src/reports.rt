@@ -1,17 +1,18 @@
 //! The report of a run.
-ghost use Rattle.std.specs.Prelude.{◌≡◌, ◌++◌, [], ℕ, List, codes, map, IfOk, OnOk, string_bytes};
+ghost use Rattle.std.specs.Prelude.{◌≡◌, ◌++◌, [], ℕ, false, List, codes, map, IfOk, OnOk, string_bytes};
 ghost use Rattle.history_rules.specs.Own.{Own};
 ghost use Rattle.history_rules.specs.Histories.{Moment};
 ghost use Rattle.history_text.specs.Report as report;
 ghost use Rattle.history_text.specs.Lines.{entry_text};
+ghost use Rattle.disk_model.specs.Memory.{memory_state};
 ghost use Rattle.session_log.specs.SnapshotOf.{snapshot_of};
-ghost use Rattle.coordinator_core.specs.Standing.{StandsFor};
-ghost use Rattle.coordinator_core.specs.Tracks.{records};
-ghost use Rattle.seata_lab.specs.Runs.{Plays};
+ghost use Rattle.coordinator_core.specs.Standing.{StandsOver, is_down};
+ghost use Rattle.seata_lab.specs.Runs.{Plays, records};
 ghost use Rattle.seata_lab.specs.Sessions.{failure_at, known_line, plain_report};
 
 use crate::runner::Run;
 use coordinator_core::Coordinator;
+use disk_model::MemDisk;
 use history_text::{Entry, Names, put_entry, put_place};
 use scenario_reader::{ManagerDef, ResourceDef, Scenario};
 use seata_types::{BranchId, Duplicate, GlobalStatus, List, NoMemory, Place, Text};
@@ -129,10 +130,16 @@ fn put_sessions(
 }
 
 /// The sessions that a coordinator knows.
-fn sessions_of(coordinator: &Coordinator) -> &[SessionEntry]
-    ensures { (owns : List Own) → StandsFor coordinator.now owns → result.now ≡ (snapshot_of (records owns)).sessions }
+fn sessions_of(coordinator: &Coordinator<MemDisk>) -> &[SessionEntry]
+    requires up { is_down coordinator.now ≡ false }
+    ensures { (owns : List Own) → StandsOver memory_state coordinator.now [] owns → result.now ≡ (snapshot_of (records owns)).sessions }
 {
-    coordinator.memory().snapshot().sessions.as_slice()
+    coordinator
+        .sessions()
+        .memory()
+        .snapshot()
+        .sessions
+        .as_slice()
 }
 
 /// The text of the report.
@@ -155,6 +162,7 @@ fn put_report(
 
 /// The report of a run.
 pub fn write_report(alloc: Global, scenario: &Scenario, run: &Run) -> Result<String, NoMemory>
+    requires up { is_down run.now.coordinator ≡ false }
     ensures { IfOk result (λ text. (ms : List Moment) → Plays scenario.now run.now ms → string_bytes text ≡ report.report scenario.now ms) }
 {
     let names = node_names(alloc, scenario)?;

@@ -1,5 +1,5 @@
 //! Whole runs of `top` over memory: the words, the input, what is written, and the status.
-ghost use Rattle.std.specs.Prelude.{◌<◌};
+ghost use Rattle.std.specs.Prelude.{◌<◌, ◌≤◌};
 
 use crate::memory::{MemSink, MemSource};
 use crate::rows::{
@@ -71,6 +71,38 @@ fn replays(rt: HostRuntime) -> Result<(), Fail> {
         let ran = run(rt.alloc(), &["replay"], input.as_bytes(), SOUND)?;
         expect(&rt, &ran, 0, output);
     }
+    Ok(())
+}
+
+/// A scenario of so many managers, each of which begins a transaction, over disks of 4,096 bytes.
+fn crowd(alloc: Global, managers: u32) -> Result<String, Fail>
+    requires { managers ≤ 1000 }
+{
+    let mut names = String::new(alloc);
+    let mut steps = String::new(alloc);
+    for k in 1..=managers {
+        let comma = if k > 1 { "," } else { "" };
+        write!(
+            names,
+            r#"{comma}{{"name":"m{k}","calls":[],"end":"commit"}}"#
+        )?;
+        write!(steps, r#"{comma}"turn m{k}","deliver {}""#, 2 * k - 1)?;
+    }
+    Ok(format!(in alloc;
+        r#"{{"resources":[],"managers":[{}],"disk":4096,"schedule":[{}]}}"#,
+        names.as_str(),
+        steps.as_str()
+    )?)
+}
+
+#[test]
+fn fills_a_disk(rt: HostRuntime) -> Result<(), Fail> {
+    let fitting = crowd(rt.alloc(), 127)?;
+    let ran = run(rt.alloc(), &["replay"], fitting.as_bytes(), SOUND)?;
+    assert_eq!(rt; ran.status, 0);
+    let crowded = crowd(rt.alloc(), 128)?;
+    let ran = run(rt.alloc(), &["replay"], crowded.as_bytes(), SOUND)?;
+    expect(&rt, &ran, 8, "full: tc needs 4106 of 4096\n");
     Ok(())
 }
 

@@ -1,8 +1,8 @@
 //! The calls at the top: one replay, and the program's words.
-ghost use Rattle.std.specs.Prelude.{◌≡◌, ◌≢◌, ◌⊎◌, true, false, List, [], ◌∷◌, IfOk, IfErr, string_bytes};
+ghost use Rattle.std.specs.Prelude.{◌≡◌, ◌≢◌, ◌⊎◌, true, false, List, ◌∷◌, IfOk, IfErr, string_bytes};
 ghost use Rattle.std.specs.Io.KnownBytes.{Appends};
 ghost use Rattle.disk_model.specs.Disk.{Rose};
-ghost use Rattle.seata_lab.specs.Answers.{Answers, IsAnswerTo, IsFramesAnswer, TellsReplay, TellsFrames, TellsUsage, TellsFaults, is_replay, is_frames};
+ghost use Rattle.seata_lab.specs.Answers.{Answers, IsAnswerTo, IsFramesAnswer, TellsReplay, TellsFrames, TellsUsage, TellsFaults, is_replay, is_frames, replay_statuses, frames_statuses, with_failures};
 ghost use Rattle.seata_lab.specs.Streams.{GainsFront, devices};
 
 use crate::answers::{Answer, answer_to};
@@ -50,7 +50,7 @@ fn fault_status(fault: ReadFault) -> u8
 
 /// Reads an input and replays it: the text with its status, or the status of what kept it from being answered.
 fn replay_input<S: Source>(alloc: Global, source: &mut S) -> Result<Answer, u8>
-    ensures answer { IfOk result (λ a. Answers IsAnswerTo (S.left source.old) (S.left source.new) (string_bytes a.text) a.status) }
+    ensures answer { IfOk result (λ a. Answers IsAnswerTo replay_statuses (S.left source.old) (S.left source.new) (string_bytes a.text) a.status) }
     ensures statuses { IfErr result (λ status. (status ≡ 4) ⊎ (status ≡ 6)) }
     ensures failed { IfErr result (λ status. status ≡ 4 → Rose (S.faults source.old) (S.faults source.new)) }
 {
@@ -66,7 +66,7 @@ fn replay_input<S: Source>(alloc: Global, source: &mut S) -> Result<Answer, u8>
 
 /// Reads an input and lists its frames, likewise.
 fn list_input<S: Source>(alloc: Global, source: &mut S) -> Result<Answer, u8>
-    ensures answer { IfOk result (λ a. Answers IsFramesAnswer (S.left source.old) (S.left source.new) (string_bytes a.text) a.status) }
+    ensures answer { IfOk result (λ a. Answers IsFramesAnswer frames_statuses (S.left source.old) (S.left source.new) (string_bytes a.text) a.status) }
     ensures statuses { IfErr result (λ status. (status ≡ 4) ⊎ (status ≡ 6)) }
     ensures failed { IfErr result (λ status. status ≡ 4 → Rose (S.faults source.old) (S.faults source.new)) }
 {
@@ -89,10 +89,11 @@ fn write_answer<K: Sink>(sink: &mut K, answer: Result<Answer, u8>) -> u8
 }
 
 /// Replays the scenario of a source once, and writes the report of its history. The status is 0 where that is done, 3
-/// where the input is no scenario, 4 where the source failed, 5 where the sink did, and 6 where memory was refused.
+/// where the input is no scenario, 4 where the source failed, 5 where the sink did, 6 where memory was refused, and 8 where
+/// the coordinator's next record would pass the end of its disk.
 pub fn replay_once<S: Source, K: Sink>(alloc: Global, source: &mut S, sink: &mut K) -> u8
     ensures replay { TellsReplay result (devices S.left S.faults K.written K.faults source.old sink.old) (devices S.left S.faults K.written K.faults source.new sink.new) }
-    ensures faults { TellsFaults (0 ∷ 3 ∷ 4 ∷ 5 ∷ 6 ∷ []) result (devices S.left S.faults K.written K.faults source.old sink.old) (devices S.left S.faults K.written K.faults source.new sink.new) }
+    ensures faults { TellsFaults (with_failures replay_statuses) result (devices S.left S.faults K.written K.faults source.old sink.old) (devices S.left S.faults K.written K.faults source.new sink.new) }
 {
     write_answer(sink, replay_input(alloc, source))
 }
@@ -102,7 +103,7 @@ pub fn replay_once<S: Source, K: Sink>(alloc: Global, source: &mut S, sink: &mut
 /// source failed, 5 where the sink did, and 6 where memory was refused.
 pub fn frames_once<S: Source, K: Sink>(alloc: Global, source: &mut S, sink: &mut K) -> u8
     ensures frames { TellsFrames result (devices S.left S.faults K.written K.faults source.old sink.old) (devices S.left S.faults K.written K.faults source.new sink.new) }
-    ensures faults { TellsFaults (0 ∷ 3 ∷ 4 ∷ 5 ∷ 6 ∷ []) result (devices S.left S.faults K.written K.faults source.old sink.old) (devices S.left S.faults K.written K.faults source.new sink.new) }
+    ensures faults { TellsFaults (with_failures frames_statuses) result (devices S.left S.faults K.written K.faults source.old sink.old) (devices S.left S.faults K.written K.faults source.new sink.new) }
 {
     write_answer(sink, list_input(alloc, source))
 }
@@ -121,7 +122,7 @@ pub fn top<S: Source, K: Sink>(alloc: Global, words: &[Text], source: &mut S, si
         → TellsReplay result (devices S.left S.faults K.written K.faults source.old sink.old) (devices S.left S.faults K.written K.faults source.new sink.new) }
     ensures frames { is_frames words.now ≡ true
         → TellsFrames result (devices S.left S.faults K.written K.faults source.old sink.old) (devices S.left S.faults K.written K.faults source.new sink.new) }
-    ensures faults { TellsFaults (0 ∷ 2 ∷ 3 ∷ 4 ∷ 5 ∷ 6 ∷ []) result (devices S.left S.faults K.written K.faults source.old sink.old) (devices S.left S.faults K.written K.faults source.new sink.new) }
+    ensures faults { TellsFaults (2 ∷ with_failures replay_statuses) result (devices S.left S.faults K.written K.faults source.old sink.old) (devices S.left S.faults K.written K.faults source.new sink.new) }
 {
     if words::are(words, "replay") {
         return replay_once(alloc, source, sink);

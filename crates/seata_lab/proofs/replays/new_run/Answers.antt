@@ -11,5 +11,5 @@ new_managers-requires-clause-uncalled c =
 
 pub returns : goal.returns
 returns c =
-    plays_nothing c.args.scenario.now _ (can_run c.args.scenario.now c.requires.runnable c.requires.built) c.new.ensures.fresh c.new.ensures.times c.new.ensures.steps
-    (subst (λ defs. AreManagers c.args.scenario.now.lock_tries defs c.in_ok-new_managers.field-0.items) c.as_slice.ensures c.in_ok-new_managers.ensures) c.new-2.ensures.items c.new-3.ensures.items refl
+    plays_nothing c.args.scenario.now _ (can_run c.args.scenario.now c.requires.runnable c.requires.built) c.in_ok-new_coordinator.ensures.stands c.in_ok-new_coordinator.ensures.steps
+    (subst (λ defs. AreManagers c.args.scenario.now.lock_tries defs c.in_ok-new_managers.field-0.items) c.as_slice.ensures c.in_ok-new_managers.ensures) c.new.ensures.items c.new-2.ensures.items refl

@@ -1,11 +1,11 @@
-use Rattle.std.proofs.Common.{◌≡◌, refl, arith}
-use Rattle.std.proofs.lemmas.Grind.{common_steps}
-use Rattle.coordinator_core.proofs.Kept.{unanswered_back}
-use Rattle.coordinator_core.specs.Changes.{prepared, withdrawn}
+use Rattle.std.proofs.Common.{subst}
+use Rattle.coordinator_core.specs.Changes.{GivesUp}
+use Rattle.coordinator_core.specs.Plain.{is_failure}
+use Rattle.coordinator_core.proofs.Errors.{unmade_after}
 use Rattle.coordinator_core.proofs.table.Table.add.Goals as goal
 
-pub returns-then-is_err-clause-err : goal.returns-then-is_err-clause-err
-returns-then-is_err-clause-err c =
-    let memory : c.apply.new.memory ≡ c.args.self.now.memory = grind (arith, common_steps) in
-    let moments : c.withdraw.new.self ≡ withdrawn c.args.item.now (prepared c.args.item.now c.args.now c.args.self.now.moments) = grind (arith, common_steps) in
-    unanswered_back c.args.self.now _ c.args.item.now c.args.now c.ranges.now.fits c.requires.allowed memory moments refl refl
+pub returns-in-Err-put : goal.returns-in-Err-put
+returns-in-Err-put g c =
+    unmade_after g.D.Disk.state c.args.self.now c.put.new.sessions c.give_up.new.self c.args.item.now c.args.now c.ranges.now.fits c.requires.allowed c.in-Err-put.error c.in-Err-put.ensures
+    (subst (λ m. GivesUp (is_failure c.in-Err-put.error) c.args.self.now.retry c.args.now c.args.item.now m c.give_up.new.self) c.in_default.ensures.ok
+    (subst (λ b. GivesUp b c.args.self.now.retry c.args.now c.args.item.now c.prepare.new.self c.give_up.new.self) c.is_failure.ensures c.give_up.ensures))

@@ -1,13 +1,40 @@
-use Rattle.std.proofs.Common.{refl, arith}
-use Rattle.coordinator_core.proofs.TakesRows.{granted_answered, conflict_result}
+use Rattle.std.proofs.Common.{◌+◌, arith}
+use Rattle.session_store.specs.Keeping.{managers_of, resources_of}
+use Rattle.coordinator_core.specs.Knowledge.{memory}
+use Rattle.coordinator_core.proofs.Registered.{record_within, record_short, keys_fit}
+use Rattle.coordinator_core.proofs.TakesRows.{is_new_branch}
+use Rattle.coordinator_core.proofs.Holds.{registered_answers, refused_answers}
 use Rattle.coordinator_core.proofs.table.Table.hold.Goals as goal
 
 pub returns-in-Ok-clause-answers : goal.returns-in-Ok-clause-answers
 returns-in-Ok-clause-answers g c =
-    granted_answered c.args.self.now c.args.now (omega (arith, c.requires.moment)) c.granted.result c.args.from c.args.xid c.args.place c.args.hold.now c.args.check.now c.requires.new c.requires.begin c.requires.timely
-    _ c.next_branch-branch.result c.next_branch-branch.ensures c.in-Ok.ensures.granted.0 c.in-Ok.ensures.granted.1 refl refl refl c.granted.ensures.value c.granted.ensures.framable
+    registered_answers g.D.Disk.state c.args.self.now c.register.new.self c.args.now (omega (arith, c.requires.moment)) c.args.from c.args.xid c.args.place c.args.hold.now c.args.check.now c.requires.new c.requires.begin c.requires.timely
+    c.next_branch-branch.result c.in-Ok.field-0 c.granted.result c.next_branch-branch.ensures c.in-Ok.ensures.made c.granted.ensures.value
 
 pub returns-in-Err-clause-answers : goal.returns-in-Err-clause-answers
 returns-in-Err-clause-answers g c =
-    conflict_result c.args.self.now _ c.args.now (omega (arith, c.requires.moment)) c.args.from c.args.xid c.args.place c.args.hold.now c.args.check.now c.requires.new c.requires.begin c.requires.timely
-    c.in-Err.error c.conflict.result c.in-Err.ensures.granted refl refl refl c.conflict.ensures.told c.conflict.ensures.framable
+    (refused_answers g.D.Disk.state c.args.self.now c.register.new.self c.args.now (omega (arith, c.requires.moment)) c.args.from c.args.xid c.args.place c.args.hold.now c.args.check.now c.requires.new c.requires.begin c.requires.timely
+    c.next_branch-branch.result c.in-Err.error c.refuse.result c.next_branch-branch.ensures c.in-Err.ensures.made c.refuse.ensures).0
+
+pub returns-in-Err-clause-framable : goal.returns-in-Err-clause-framable
+returns-in-Err-clause-framable g c =
+    (refused_answers g.D.Disk.state c.args.self.now c.register.new.self c.args.now (omega (arith, c.requires.moment)) c.args.from c.args.xid c.args.place c.args.hold.now c.args.check.now c.requires.new c.requires.begin c.requires.timely
+    c.next_branch-branch.result c.in-Err.error c.refuse.result c.next_branch-branch.ensures c.in-Err.ensures.made c.refuse.ensures).1
+
+pub register-requires-clause-new : goal.register-requires-clause-new
+register-requires-clause-new g c = is_new_branch (memory c.args.self.now) c.args.xid c.args.place c.requires.new
+
+pub register-requires-clause-within : goal.register-requires-clause-within
+register-requires-clause-within g c =
+    let p = c.args.place in
+    record_within c.args.xid p.resource p.call p.ticket p.kind c.args.hold.now c.args.check.now (managers_of c.args.self.now.sessions) (resources_of c.args.self.now.sessions) (record { 0 = (memory c.args.self.now).granted + 1 }) c.requires.served
+
+pub register-requires-clause-keys : goal.register-requires-clause-keys
+register-requires-clause-keys g c =
+    let p = c.args.place in
+    keys_fit c.args.xid p.resource p.call p.ticket p.kind c.args.hold.now c.args.check.now c.requires.served.framable
+
+pub register-requires-clause-small : goal.register-requires-clause-small
+register-requires-clause-small g c =
+    let p = c.args.place in
+    record_short c.args.xid p.resource p.call p.ticket p.kind c.args.hold.now c.args.check.now (record { 0 = (memory c.args.self.now).granted + 1 }) c.requires.served.framable

@@ -1,38 +1,29 @@
-use Rattle.std.proofs.Common.{Some, subst, ap, refl, ◌∙◌, arith, length}
+use Rattle.std.proofs.Common.{sym, subst, length}
+use Rattle.std.specs.Prelude.{OnOk, IfErr}
 use Rattle.scenario_reader.specs.Runnable.{FitsNodes}
-use Rattle.seata_lab.proofs.Played.{turn_plays, wait_plays, run_node, can_step, slow_clock}
+use Rattle.seata_lab.specs.Runs.{EndsAt, PlaysOn}
 use Rattle.seata_lab.proofs.runner.Run.play.Goals as goal
 
-pub give-requires-clause-can : goal.give-requires-clause-can
-give-requires-clause-can c =
-    let (s, ms, t) = c.requires.can in
-    can_step s c.args.self.now ms t c.in-Turn.place c.requires.short
-    (run_node s c.args.self.now ms t c.in-Turn.place (subst (λ i. FitsNodes 0 (length c.args.self.now.managers.items) 0 i) c.in-Turn.is c.requires.fits.1))
+pub turn-requires-clause-among : goal.turn-requires-clause-among
+turn-requires-clause-among c = subst (λ i. FitsNodes 0 (length c.args.self.now.managers.items) 0 i) c.in-Turn.is c.requires.fits.1
 
-pub give-requires-clause-moment : goal.give-requires-clause-moment
-give-requires-clause-moment c =
-    let (s, ms, t) = c.requires.can in
-    let slow = slow_clock s c.args.self.now ms t c.requires.short in
-    omega (arith, slow)
+pub wait-requires-clause-few : goal.wait-requires-clause-few
+wait-requires-clause-few c = (subst (λ i. FitsNodes 0 (length c.args.self.now.managers.items) 0 i) c.in-Wait.is c.requires.fits.1).1
 
-pub overflow_add-self : goal.overflow_add-self
-overflow_add-self c =
-    let (s, ms, t) = c.requires.can in
-    let slow = slow_clock s c.args.self.now ms t c.requires.short in
-    let short = (subst (λ i. FitsNodes 0 (length c.args.self.now.managers.items) 0 i) c.in-Wait.is c.requires.fits.1).1 in
-    omega (arith, slow, short)
+pub returns-in-Turn-clause-plays : goal.returns-in-Turn-clause-plays
+returns-in-Turn-clause-plays c = subst (λ i. OnOk c.turn.result (PlaysOn c.args.self.now c.turn.new.self i)) (sym c.in-Turn.is) c.turn.ensures.plays
 
-pub returns-in_ok-give-in-Turn : goal.returns-in_ok-give-in-Turn
-returns-in_ok-give-in-Turn c =
-    record {
-      plays = λ s ms t at. turn_plays s c.args.self.now ms t c.give.new.self c.in-Turn.place c.in_ok-give-in-Turn.ensures.gives
-          (run_node s c.args.self.now ms t c.in-Turn.place (subst (λ i. FitsNodes 0 (length c.args.self.now.managers.items) 0 i) c.in-Turn.is c.requires.fits.1))
-          (at ∙ ap (λ i. Some i) c.in-Turn.is);
-    }
+pub returns-in-Turn-clause-full : goal.returns-in-Turn-clause-full
+returns-in-Turn-clause-full c = subst (λ i. IfErr c.turn.result (EndsAt c.args.self.now i)) (sym c.in-Turn.is) c.turn.ensures.full
 
-pub returns-in_ok-pass-in-Wait : goal.returns-in_ok-pass-in-Wait
-returns-in_ok-pass-in-Wait c =
-    record {
-      plays = λ s ms t at. wait_plays s c.args.self.now ms t _ c.pass.new.self c.in-Wait.ticks c.in_ok-pass-in-Wait.ensures.recorded refl refl refl refl refl
-          (subst (λ i. FitsNodes 0 (length c.args.self.now.managers.items) 0 i) c.in-Wait.is c.requires.fits.1).1 (at ∙ ap (λ i. Some i) c.in-Wait.is);
-    }
+pub returns-in-Deliver-clause-plays : goal.returns-in-Deliver-clause-plays
+returns-in-Deliver-clause-plays c = subst (λ i. OnOk c.deliver.result (PlaysOn c.args.self.now c.deliver.new.self i)) (sym c.in-Deliver.is) c.deliver.ensures.plays
+
+pub returns-in-Deliver-clause-full : goal.returns-in-Deliver-clause-full
+returns-in-Deliver-clause-full c = subst (λ i. IfErr c.deliver.result (EndsAt c.args.self.now i)) (sym c.in-Deliver.is) c.deliver.ensures.full
+
+pub returns-in-Wait-clause-plays : goal.returns-in-Wait-clause-plays
+returns-in-Wait-clause-plays c = subst (λ i. OnOk c.wait.result (PlaysOn c.args.self.now c.wait.new.self i)) (sym c.in-Wait.is) c.wait.ensures.plays
+
+pub returns-in-Wait-clause-full : goal.returns-in-Wait-clause-full
+returns-in-Wait-clause-full c = subst (λ i. IfErr c.wait.result (EndsAt c.args.self.now i)) (sym c.in-Wait.is) c.wait.ensures.full

@@ -1,0 +1,199 @@
+-- What a stop and a crash leave of the coordinator.
+use Rattle.std.proofs.Common.{◌≡◌, ℕ, Bool, true, false, List, ◌∷◌, Some, None, option_map, is_some, refl, sym, ap, subst, ◌∙◌, arith}
+use Rattle.disk_model.specs.Disk.{DiskState, Content, IsLawful, SameKind}
+use Rattle.disk_model.specs.Stop.{below, stop_of, failures_of, state_of}
+use Rattle.disk_model.specs.declared.stoppable.Stop.TheVariants.{Armed}
+use Rattle.disk_model.specs.declared.stoppable.Stoppable.{Stoppable}
+use Rattle.journal_checkpoint.specs.Keeping.{active_disk, other_disk, is_second, with_active}
+use Rattle.seata_types.specs.declared.acts.Act.TheVariants as act
+use Rattle.durable_records.specs.declared.coordinators.SessionRecord.{SessionRecord}
+use Rattle.session_log.specs.declared.sessions.Snapshot.{Snapshot}
+use Rattle.session_store.specs.declared.sessions.Sessions.{Sessions}
+use Rattle.session_store.specs.Keeping.{twin, known, SameOpening, SameDisks, KeepsRecords}
+use Rattle.history_rules.specs.Own.{Own, Stopped, Crashed, still}
+use Rattle.history_rules.specs.Devices.{is_down as down_by}
+use Rattle.history_rules.specs.CoordinatorMemory.{Times}
+use Rattle.history_rules.specs.Nodes.{Resource, Manager, happens}
+use Rattle.history_rules.specs.Nodes.{Coordinator as CoordinatorRole}
+use Rattle.history_text.specs.Durable.{SamePicks}
+use Rattle.history_text.specs.Promises.{Does, StaysItself, own_entry}
+use Rattle.coordinator_core.specs.declared.nodes.Coordinator.{Coordinator}
+use Rattle.coordinator_core.specs.Knowledge.{knowledge, times_in}
+use Rattle.coordinator_core.specs.Moving.{ArmsPair, ArmsSessions, Arms}
+use Rattle.coordinator_core.specs.Standing.{StandsAs, StandsOver, course, pair_of, disks_of, sessions_of, is_down, times_of, serves}
+use Rattle.coordinator_core.specs.Stepping.{stands_at}
+use Rattle.coordinator_core.specs.Tracks.{Follows}
+use Rattle.coordinator_core.proofs.Disks.{false_true, Moved, pair_on, same_kind, on_armed, on_crashed}
+use Rattle.coordinator_core.proofs.Stays.{Remains, stays_itself, same_picks}
+
+-- ---- a stop on the active disk
+
+-- a disk of which a stop lets so many calls pass
+abbrev armed_disk : {D : Type 0} → ℕ → Stoppable D → Stoppable D
+armed_disk calls d = record { disk = below d; stop = Armed calls; failures = failures_of d }
+
+is_armed_disk : {D : Type 0} (calls : ℕ) (d d' : Stoppable D) → below d' ≡ below d → stop_of d' ≡ Armed calls → failures_of d' ≡ failures_of d → armed_disk calls d ≡ d'
+is_armed_disk calls d d' same stop failures = λ i. record { disk = sym same i; stop = sym stop i; failures = sym failures i }
+
+-- sessions with another active disk
+abbrev pub put_active : {D : Type 0} → Sessions D → D → Sessions D
+put_active s disk = record s { store = record s.store { twin = with_active (twin s) disk } }
+
+module _ {D : Type 0} (state : D → DiskState) (calls : ℕ) where
+  pair_armed : (second : Bool) (a o : Stoppable D) → ArmsPair (pair_on (state_of state) second a o) (pair_on (state_of state) second (armed_disk calls a) o)
+  pair_armed false a o = record {
+    own = refl;
+    first_content = refl;
+    second_content = refl;
+    first_size = refl;
+    second_size = refl;
+    first_moments = refl;
+    second_moments = refl;
+  }
+  pair_armed true a o = record {
+    own = refl;
+    first_content = refl;
+    second_content = refl;
+    first_size = refl;
+    second_size = refl;
+    first_moments = refl;
+    second_moments = refl;
+  }
+
+  keeps_armed : (s : Sessions (Stoppable D)) (rs : List SessionRecord) → KeepsRecords (state_of state) rs s → KeepsRecords (state_of state) rs (put_active s (armed_disk calls (active_disk (twin s))))
+  keeps_armed s rs k = record {
+    found = k.found;
+    store = record {
+      pair = record {
+        journal = record {
+          disk = record { settled = k.store.pair.journal.disk.settled; images = k.store.pair.journal.disk.images };
+          end = k.store.pair.journal.end;
+        };
+        settled = k.store.pair.settled;
+        active = k.store.pair.active;
+        passive = k.store.pair.passive;
+        side = k.store.pair.side;
+      };
+      held = k.store.held;
+    };
+    list = k.list;
+    knows = k.knows;
+  }
+
+  sessions_armed : (s : Sessions (Stoppable D)) → ArmsSessions state calls s (put_active s (armed_disk calls (active_disk (twin s))))
+  sessions_armed s = record {
+    keeps = keeps_armed s;
+    left = refl;
+    pair = pair_armed (is_second (twin s)) (active_disk (twin s)) (other_disk (twin s));
+    known = refl;
+    opening = record { managers = refl; resources = refl; found = refl };
+    down = refl;
+  }
+
+  pub arms_sessions : (s : Sessions (Stoppable D)) (lent disk : Stoppable D) → lent ≡ active_disk (twin s) → below disk ≡ below lent → stop_of disk ≡ Armed calls → failures_of disk ≡ failures_of lent
+      → ArmsSessions state calls s (put_active s disk)
+  arms_sessions s lent disk is same stop failures =
+      subst (λ d. ArmsSessions state calls s (put_active s d)) (is_armed_disk calls (active_disk (twin s)) disk (same ∙ ap below is) stop (failures ∙ ap failures_of is)) (sessions_armed s)
+
+-- ---- what stays
+
+module _ {D : Type 0} (state : D → DiskState) where
+  same_kind_by : (old new : DiskState) → new.size ≡ old.size → new.content ≡ old.content → new.tells_moments ≡ old.tells_moments → SameKind old new
+  same_kind_by old new size content moments = record { size = size; tells_images = ap is_some content; tells_moments = moments }
+
+  pub remains_armed : (calls : ℕ) (old new : Sessions (Stoppable D)) → ArmsSessions state calls old new → Remains state old new
+  remains_armed calls old new a = record {
+    managers = a.opening.managers;
+    resources = a.opening.resources;
+    moved = record {
+      own = omega (arith, a.pair.own);
+      first_pick = ap (option_map (λ (c : Content). c.last_pick)) a.pair.first_content;
+      second_pick = ap (option_map (λ (c : Content). c.last_pick)) a.pair.second_content;
+      first_kind = same_kind_by (pair_of state old).first (pair_of state new).first a.pair.first_size a.pair.first_content a.pair.first_moments;
+      second_kind = same_kind_by (pair_of state old).second (pair_of state new).second a.pair.second_size a.pair.second_content a.pair.second_moments;
+    };
+  }
+
+  pub same_pair : (old new : Sessions (Stoppable D)) → SameDisks old new → pair_of state old ≡ pair_of state new
+  same_pair old new same = λ i. record { first = sym (ap (state_of state) same.first) i; second = sym (ap (state_of state) same.second) i }
+
+  pub remains_fallen : (old new : Sessions (Stoppable D)) → SameDisks old new → SameOpening old new → Remains state old new
+  remains_fallen old new same opening = record {
+    managers = opening.managers;
+    resources = opening.resources;
+    moved = subst (λ p. Moved (pair_of state old) p) (same_pair old new same) (record {
+      own = omega arith;
+      first_pick = refl;
+      second_pick = refl;
+      first_kind = same_kind (pair_of state old).first;
+      second_kind = same_kind (pair_of state old).second;
+    });
+  }
+
+  -- ---- an entry that stops it, or takes it down
+
+  upon : (c : Coordinator D) (past : List SessionRecord) (owns : List Own) → is_down c ≡ false → StandsOver state c past owns → down_by owns ≡ false
+  upon c past owns up s = sym s.disks.down ∙ up
+
+  armed_happens : (times : Times) (past : List SessionRecord) (owns : List Own) (now calls : ℕ) → down_by owns ≡ false → still act.Armed ≡ happens (CoordinatorRole times past) owns now false false (Stopped calls)
+  armed_happens times past owns now calls up = rw up refl
+
+  crashed_happens : (times : Times) (past : List SessionRecord) (owns : List Own) (now : ℕ) → down_by owns ≡ false → still (act.Down None None) ≡ happens (CoordinatorRole times past) owns now false false Crashed
+  crashed_happens times past owns now up = rw up refl
+
+  module _ (law : (d : Stoppable D) → IsLawful (state_of state d)) (c c' : Coordinator D) (up : is_down c ≡ false) where
+    module _ (calls : ℕ) (a : Arms state calls c c') where
+      same_knowledge : knowledge c.table ≡ knowledge c'.table
+      same_knowledge = λ i. record { retry = sym a.rest.retry i; forget = sym a.rest.forget i; memory = sym a.sessions.known i; moments = sym a.moments i }
+
+      pub arm_does : (now : ℕ) → Does (StandsAs state) c c' (Stopped calls) now (still act.Armed)
+      arm_does now (CoordinatorRole times past) owns (same, s) = (
+        armed_happens times past owns now calls (upon c past owns up s),
+        (
+          same ∙ ap times_in same_knowledge,
+          record {
+            disks = on_armed state law (sessions_of c) (sessions_of c') past owns s.disks up now calls a.sessions;
+            follows = λ e. subst (λ k. Follows k (course past (own_entry (Stopped calls) now (still act.Armed) ∷ owns))) same_knowledge (record { tracks = (s.follows (upon c past owns up s)).tracks });
+            fallen = λ e. false_true (sym (upon c past owns up s) ∙ e);
+          },
+        ),
+      )
+      arm_does now (Resource setup past) owns s = absurd s
+      arm_does now (Manager settings) owns s = absurd s
+
+      pub arm_same : StaysItself stands_at serves (disks_of state) c c'
+      arm_same = stays_itself state c c' (remains_armed calls (sessions_of c) (sessions_of c') a.sessions)
+
+      pub arm_picks : SamePicks (disks_of state c) (disks_of state c')
+      arm_picks = same_picks state c c' (remains_armed calls (sessions_of c) (sessions_of c') a.sessions)
+
+    -- its sessions fell, and nothing was in flight
+    module _ (disks : SameDisks (sessions_of c) (sessions_of c')) (opening : SameOpening (sessions_of c) (sessions_of c')) (down : is_down c' ≡ true) where
+      pub crash_same : StaysItself stands_at serves (disks_of state) c c'
+      crash_same = stays_itself state c c' (remains_fallen (sessions_of c) (sessions_of c') disks opening)
+
+      pub crash_picks : SamePicks (disks_of state c) (disks_of state c')
+      crash_picks = same_picks state c c' (remains_fallen (sessions_of c) (sessions_of c') disks opening)
+
+      module _ (times : times_of c ≡ times_of c') (flight : c'.flight ≡ None) (count : c'.records ≡ (known (sessions_of c)).acts) where
+        pub crash_does : (now : ℕ) → Does (StandsAs state) c c' Crashed now (still (act.Down None None))
+        crash_does now (CoordinatorRole role past) owns (same, s) =
+            let keeps = s.disks.keeps (upon c past owns up s) in
+            let follows = s.follows (upon c past owns up s) in (
+              crashed_happens role past owns now (upon c past owns up s),
+              (
+                same ∙ times,
+                record {
+                  disks = on_crashed state law (sessions_of c) (sessions_of c') past owns s.disks up now disks opening down;
+                  follows = λ e. false_true (sym e);
+                  fallen = λ e. record {
+                    flight = flight;
+                    count = count ∙ ap (λ (k : Snapshot). k.acts) keeps.knows;
+                    sendable = follows.tracks.sendable;
+                    pending = λ r is. absurd (let no : None ≡ Some r = is in cc);
+                  };
+                },
+              ),
+            )
+        crash_does now (Resource setup past) owns s = absurd s
+        crash_does now (Manager settings) owns s = absurd s

@@ -1,0 +1,11 @@
+use Rattle.std.proofs.Common.{sym, subst}
+use Rattle.seata_types.specs.declared.ids.Place.TheVariants as place
+use Rattle.seata_types.specs.declared.statuses.BranchKind.TheVariants as kind
+use Rattle.coordinator_core.specs.Serving.{ServesInput}
+use Rattle.history_tests.proofs.Asked.{register_served}
+use Rattle.history_tests.proofs.served.registration.Goals as goal
+
+pub returns : goal.returns
+returns c =
+    subst (ServesInput 2 1) (sym c.from_resource.ensures)
+    (register_served (place.Res 1) c.xid_of-xid.result c.ticket_of-ticket.result kind.At c.args.hold c.args.check c.xid_of-xid.ensures c.ticket_of-ticket.ensures c.requires.hold c.requires.check)
