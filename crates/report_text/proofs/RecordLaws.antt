@@ -1,0 +1,157 @@
+-- The records of a legal history may come one after the other, and are counted in 32 bits.
+use Rattle.std.proofs.Common.{◌≡◌, ◌+◌, ◌≤◌, ℕ, suc, Bool, true, false, List, [], ◌∷◌, length, slice_get, Option, Some, None, option_map, refl, sym, ap, ◌∙◌, subst, arith}
+use Rattle.seata_types.specs.declared.acts.Act.{Act}
+use Rattle.seata_types.specs.declared.acts.Act.TheVariants as act
+use Rattle.seata_types.specs.declared.acts.Durable.{Durable}
+use Rattle.seata_types.specs.declared.ids.Place.{Place}
+use Rattle.seata_types.specs.declared.ids.Place.TheVariants as place
+use Rattle.local_tables.specs.Rows.{Database}
+use Rattle.durable_records.specs.declared.resources.ResourceRecord.{ResourceRecord}
+use Rattle.scenario_reader.specs.declared.scenarios.Scenario.{Scenario}
+use Rattle.history_rules.specs.CoordinatorMemory.{sessions_left, session_asked}
+use Rattle.history_rules.specs.Chains.{IsBlankPast}
+use Rattle.history_rules.specs.Own.{Event, Own, Left, added, kept_part, leaves}
+use Rattle.history_rules.specs.Histories.{Moment, Legal, HappensAt, IsDone, own, own_if, same_place, memory_at}
+use Rattle.history_rules.specs.Nodes.{Resource, counted_at, no_past, role_at}
+use Rattle.history_rules.specs.ResourceMemory.{Setup, Memory, memory, opening_tables, resource_asked, booted}
+use Rattle.history_law.specs.Cover.{all_of}
+use Rattle.history_law.proofs.CoverChains.{covers_first}
+use Rattle.history_law.proofs.CoverHistory.{covers}
+use Rattle.history_law.proofs.Deliveries.{one_place}
+use Rattle.history_law.proofs.ResourceSteps.{resource_moves}
+use Rattle.history_law.proofs.SessionHistory.{both_allowed}
+use Rattle.history_law.proofs.TicketSteps.{memory_by}
+use Rattle.history_text.proofs.Worlds.{world_of-numbered}
+use Rattle.history_text.specs.Worlds.{resources_of, world_of}
+use Rattle.report_text.proofs.AskLaws.{is_asked}
+use Rattle.report_text.proofs.ComingLaws.{ComesBoth, OpensFit, act_comes, from_fits}
+use Rattle.report_text.proofs.FoldLaws.{HaveRoom}
+use Rattle.report_text.proofs.NumberedLaws.{setup_at}
+use Rattle.report_text.proofs.ReportLaws.{RecordsMay}
+
+blank : IsBlankPast no_past
+blank = record { sessions = refl; resources = λ n. (0, refl) }
+
+-- ---- how many records there are
+
+kept_most : {R : Type 0} (kept : Option Durable) (flight : Option R) (rs : List R) → length (added (kept_part kept flight) rs) ≤ length (added flight rs)
+kept_most None None rs = omega arith
+kept_most None (Some r) rs = omega arith
+kept_most (Some d) flight rs = omega arith
+
+stand_most : {R : Type 0} (flight : Option R) (rs : List R) → length rs ≤ length (added flight rs)
+stand_most None rs = omega arith
+stand_most (Some r) rs = omega arith
+
+one_most : {R : Type 0} (o : Option R) (rs : List R) → length (added o rs) ≤ length rs + 1
+one_most None rs = omega arith
+one_most (Some r) rs = omega arith
+
+-- with one more entry at most one more
+leaves_most : {R : Type 0} (done : Act) (asked : Option R) (left : Left R) → length (all_of (leaves done asked left)) ≤ length (all_of left) + 1
+leaves_most (act.Durable d) asked left =
+    let one = one_most asked left.records in let before = stand_most left.flight left.records in omega (arith, one, before)
+leaves_most (act.Down kept at) asked left =
+    let one = one_most asked (added (kept_part kept left.flight) left.records) in let before = kept_most kept left.flight left.records in omega (arith, one, before)
+leaves_most (act.Restarted kept) asked left = let before = kept_most kept left.flight left.records in omega (arith, before)
+leaves_most _ asked left = omega arith
+
+booted_most : (done : Act) (asked : Option ResourceRecord) (left : Left ResourceRecord) → length (all_of (booted done (leaves done asked left))) ≤ length (all_of left) + 1
+booted_most (act.Restarted kept) asked left = let before = kept_most kept left.flight left.records in omega (arith, before)
+booted_most (act.Durable d) asked left = leaves_most (act.Durable d) asked left
+booted_most (act.Down kept at) asked left = leaves_most (act.Down kept at) asked left
+booted_most _ asked left = omega arith
+
+sessions_most : (os : List Own) → length (all_of (sessions_left [] os)) ≤ length os
+sessions_most [] = omega arith
+sessions_most (o ∷ os) = let one = leaves_most o.step.act (session_asked o) (sessions_left [] os) in let below = sessions_most os in omega (arith, one, below)
+
+memory_most : (u : Setup) (os : List Own) → length (all_of (memory u [] os).left) ≤ length os + 1
+memory_most u [] = omega arith
+memory_most u (o ∷ os) =
+    let one = booted_most o.step.act (resource_asked u (memory u [] os) o) (memory u [] os).left in let below = memory_most u os in omega (arith, one, below)
+
+own_by : (b : Bool) (event : Option Event) (m : Moment) (os : List Own) → length (own_if b event m os) ≤ length os + 1
+own_by true (Some e) m os = omega arith
+own_by true None m os = omega arith
+own_by false event m os = omega arith
+
+own_most : (p : Place) (ms : List Moment) → length (own p ms) ≤ length ms
+own_most p [] = omega arith
+own_most p (m ∷ ms) = let one = own_by (same_place p m.place) m.event m (own p ms) in let below = own_most p ms in omega (arith, one, below)
+
+-- ---- records that come
+
+-- what holds of a resource: its records, and these with the one in flight, may come one after the other, and its open tickets
+-- fit its tables
+record ComesAt (opening : Database) (m : Memory) : Type 0 where
+  pub records : ComesBoth opening m.left
+  pub opens : OpensFit opening m.opens
+
+module _ (s : Scenario) (k : ℕ) (u : Setup) (there : slice_get (resources_of s) k ≡ Some u) where
+  abbrev here : Place
+  here = place.Res u.number
+
+  known : counted_at (resources_of s) u.number ≡ Some u
+  known =
+      let is = setup_at s k u there in
+      let number : u.number ≡ suc k = ap (λ (v : Setup). v.number) is.is ∙ omega arith in
+      ap (counted_at (resources_of s)) number ∙ there
+
+  role : role_at (world_of s) no_past here ≡ Some (Resource u [])
+  role = ap (option_map (λ v. Resource v [])) known
+
+  -- one more own entry
+  module _ (m : Moment) (ms : List Moment) (legal : Legal (world_of s) no_past (m ∷ ms)) (before : ComesAt (opening_tables u) (memory_at no_past u ms)) where
+    own_comes : (event : Event) → HappensAt (role_at (world_of s) no_past here) (own here ms) m.now event m.step
+        → ComesAt (opening_tables u) (memory u [] (record { event = event; now = m.now; step = m.step } ∷ own here ms))
+    own_comes event done =
+        let mem = memory_at no_past u ms in
+        let start = covers_first (world_of s) no_past blank in
+        let tickets = ((covers (world_of s) no_past (world_of-numbered s) start ms legal.0).at u.number u known).tickets in
+        let happens = subst (λ r. HappensAt r (own here ms) m.now event m.step) role done in
+        let asked = is_asked u [] (own here ms) event m.now m.step tickets happens in
+        let moves = resource_moves u [] (own here ms) event m.now m.step tickets happens in
+        record {
+          records = act_comes u mem before.records before.opens event m.step.act asked.asks asked.fits;
+          opens = λ o i. from_fits u mem before.records.stand before.opens event (memory_by u mem event m.now m.step) o (moves.opens_from o i);
+        }
+
+    by : (b : Bool) → same_place here m.place ≡ b → (event : Option Event) → IsDone (world_of s) no_past ms m event → ComesAt (opening_tables u) (memory u [] (own_if b event m (own here ms)))
+    by true at (Some event) done =
+        own_comes event (subst (λ p. HappensAt (role_at (world_of s) no_past p) (own p ms) m.now event m.step) (sym (one_place here m.place at)) done)
+    by true at None done = before
+    by false at event done = before
+
+    more_come : ComesAt (opening_tables u) (memory_at no_past u (m ∷ ms))
+    more_come = by (same_place here m.place) refl m.event legal.1.done
+
+  none_come : ComesAt (opening_tables u) (memory_at no_past u [])
+  none_come = record { records = record { stand = (tt, refl); fly = (tt, refl) }; opens = λ o i. absurd i }
+
+  all_come : (ms : List Moment) → Legal (world_of s) no_past ms → ComesAt (opening_tables u) (memory_at no_past u ms)
+  all_come [] legal = none_come
+  all_come (m ∷ ms) legal = more_come m ms legal (all_come ms legal.0)
+
+-- ---- all nodes
+
+pub records_may : (s : Scenario) → RecordsMay s
+unfolding RecordsMay HaveRoom
+records_may s ms legal counted = (
+  record {
+    sessions =
+        let both = both_allowed (world_of s) no_past ms tt legal in
+        let most = sessions_most (own place.Tc ms) in
+        let few = own_most place.Tc ms in
+        record { stand = both.stand; fly = both.fly; few = omega (arith, most, few, counted) };
+    resources = λ k u there.
+        let both = (all_come s k u there ms legal).records in
+        let most = memory_most u (own (place.Res u.number) ms) in
+        let few = own_most (place.Res u.number) ms in
+        record { stand = both.stand; fly = both.fly; few = omega (arith, most, few, counted) };
+  },
+  λ room k u there.
+      let most = memory_most u (own (place.Res u.number) ms) in
+      let few = own_most (place.Res u.number) ms in
+      omega (arith, most, few, room),
+)

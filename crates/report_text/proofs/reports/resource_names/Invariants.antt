@@ -1,0 +1,7 @@
+use Rattle.std.proofs.Common.{◌≡◌, map, take}
+use Rattle.history_text.specs.Report.{resource_name}
+use Rattle.report_text.proofs.reports.resource_names.Given as goal
+
+abbrev pub invariant-loop-resource : goal.invariant-loop-resource
+invariant-loop-resource l =
+    l.names.items ≡ map resource_name (take l.resource-index l.resources)

@@ -1,0 +1,298 @@
+//! One more entry of the coordinator.
+ghost use Rattle.std.specs.Prelude.{◌≡◌, ◌<◌, ◌+◌, ◌^◌, true, IfOk, OnOk, OnErr};
+ghost use Rattle.std.specs.Option.{option_copied, option_and_then};
+ghost use Rattle.session_memory.specs.Changes.{may_come, after};
+ghost use Rattle.report_text.specs.Made.{sending_resource, begun_from, granted_from, session_made};
+
+use crate::left::CoordinatorLeft;
+use crate::scenarios::counted;
+use durable_records::SessionRecord;
+use history_text::{Cause, Entry, Note};
+use lock_table::Steps;
+use seata_types::{Act, BranchId, Decision, Duplicate, Durable, NoMemory, Place, Xid};
+use session_memory::Memory;
+use std::alloc::Global;
+use std::marker::Brand;
+use std::mem;
+use std::sync::ledger::{Blank, Ledger};
+
+impl CoordinatorLeft {
+    ghost use Rattle.std.specs.Prelude.{◌≡◌, OnOk, IfOk};
+    ghost use Rattle.std.specs.Option.{option_copied};
+    ghost use Rattle.report_text.specs.Made.{session_made};
+    ghost use Rattle.report_text.specs.Keeping.{none_kept, number_at, with_session, with_sessions, settled, with_flight, session_taken, with_manager, with_call};
+
+    /// Before the first entry, on disks without records; takes no memory.
+    pub(crate) fn new(alloc: Global) -> CoordinatorLeft
+        ensures { result ≡ none_kept }
+    {
+        CoordinatorLeft {
+            memory: Memory::new(alloc),
+            flight: None,
+            managers: Vec::new(alloc),
+            calls: Vec::new(alloc),
+        }
+    }
+
+    /// The manager that began a transaction, 0 where it never began; takes no memory.
+    pub(crate) fn manager(&self, xid: Xid) -> u16
+        ensures { result ≡ number_at self.now.managers xid.0 }
+    {
+        counted(self.managers.as_slice(), xid.0)
+            .copied()
+            .unwrap_or(0)
+    }
+
+    /// The call that a branch was granted for, 0 where it never was; takes no memory.
+    pub(crate) fn call(&self, branch: BranchId) -> u16
+        ensures { result ≡ number_at self.now.calls branch.0 }
+    {
+        counted(self.calls.as_slice(), branch.0)
+            .copied()
+            .unwrap_or(0)
+    }
+
+    /// The next entry, with the note of the message that it took.
+    pub(crate) fn take(
+        &mut self,
+        alloc: Global,
+        next: &Entry,
+        heard: Option<&Note>,
+    ) -> Result<(), NoMemory>
+        ensures { OnOk result (self.new ≡ session_taken (session_made next.entry.now (option_copied heard.entry)) next.entry.now.act self.old) }
+    {
+        match &next.act {
+            Act::Durable(done) => {
+                self.settle(alloc, None)?;
+                let made = session_record(alloc, next, heard, *done)?;
+                self.stand(alloc, made)
+            }
+            Act::Down { kept, at } => {
+                self.settle(alloc, *kept)?;
+                let made = asked_record(alloc, next, heard, *at)?;
+                self.fly(made);
+                Ok(())
+            }
+            Act::Restarted { kept } => self.settle(alloc, *kept),
+            _ => Ok(()),
+        }
+    }
+
+    // Nothing is in flight any more, and what was stands where it was kept.
+    fn settle(&mut self, alloc: Global, kept: Option<Durable>) -> Result<(), NoMemory>
+        ensures { OnOk result (self.new ≡ settled kept self.old) }
+    {
+        let flight = mem::replace(&mut self.flight, None);
+        if kept.is_some() {
+            return self.stand(alloc, flight);
+        }
+        drop(flight);
+        Ok(())
+    }
+
+    // A record is in flight in place of the one before.
+    fn fly(&mut self, made: Option<SessionRecord>)
+        ensures { self.new ≡ with_flight made self.old }
+    {
+        drop(mem::replace(&mut self.flight, made));
+    }
+
+    // One more record stands, if there is one.
+    fn stand(&mut self, alloc: Global, made: Option<SessionRecord>) -> Result<(), NoMemory>
+        ensures { OnOk result (self.new ≡ with_sessions made self.old) }
+    {
+        match made {
+            Some(record) => {
+                let result = self.add(alloc, &record);
+                drop(record);
+                result
+            }
+            None => Ok(()),
+        }
+    }
+
+    // One more record stands; no legal history has one that may not come.
+    fn add(&mut self, alloc: Global, record: &SessionRecord) -> Result<(), NoMemory>
+        ensures { OnOk result (self.new ≡ with_session record.now self.old) }
+    {
+        if self.memory.snapshot().acts == u32::MAX || !may_come(&self.memory, record) {
+            return Ok(());
+        }
+        apply(alloc, &mut self.memory, record)?;
+        self.count(record)
+    }
+
+    // The manager of a transaction, or the call of a branch, is found by its number from now on.
+    fn count(&mut self, record: &SessionRecord) -> Result<(), NoMemory>
+        ensures managers { OnOk result (self.new.managers ≡ with_manager record.now self.old.managers) }
+        ensures calls { OnOk result (self.new.calls ≡ with_call record.now self.old.calls) }
+        ensures known { self.new.known ≡ self.old.known }
+        ensures flight { self.new.flight ≡ self.old.flight }
+    {
+        match record {
+            SessionRecord::Begun { manager, .. } => {
+                self.managers.push(*manager).map_err(|_| NoMemory)?;
+                Ok(())
+            }
+            SessionRecord::Granted { call, .. } => {
+                self.calls.push(*call).map_err(|_| NoMemory)?;
+                Ok(())
+            }
+            _ => Ok(()),
+        }
+    }
+}
+
+// Whether a record may come.
+fn may_come(memory: &Memory, record: &SessionRecord) -> bool
+    ensures { result ≡ may_come memory.now record.now }
+{
+    allows_counted::<Brand>(memory, record, Blank::new(1))
+}
+
+fn allows_counted<L: Ledger>(memory: &Memory, record: &SessionRecord, blank: Blank) -> bool
+    requires name { blank.name ≡ L.name }
+    requires parts { blank.parts ≡ L.parts }
+    requires some { 0 < blank.parts }
+    ensures { result ≡ may_come memory.now record.now }
+{
+    let mut steps = Steps::<L>::new(blank);
+    memory.allows(record, &mut steps)
+}
+
+// Takes in a record that may come.
+fn apply(alloc: Global, memory: &mut Memory, record: &SessionRecord) -> Result<(), NoMemory>
+    requires allowed { may_come memory.old record.now ≡ true }
+    requires room { memory.old.acts + 1 < 2 ^ 32 }
+    ensures { OnOk result (memory.new ≡ after record.now memory.old) }
+{
+    apply_counted::<Brand>(alloc, memory, record, Blank::new(1))
+}
+
+fn apply_counted<L: Ledger>(
+    alloc: Global,
+    memory: &mut Memory,
+    record: &SessionRecord,
+    blank: Blank,
+) -> Result<(), NoMemory>
+    requires name { blank.name ≡ L.name }
+    requires parts { blank.parts ≡ L.parts }
+    requires some { 0 < blank.parts }
+    requires allowed { may_come memory.old record.now ≡ true }
+    requires room { memory.old.acts + 1 < 2 ^ 32 }
+    ensures { OnOk result (memory.new ≡ after record.now memory.old) }
+{
+    let mut steps = Steps::<L>::new(blank);
+    memory.apply(alloc, record, &mut steps)
+}
+
+// The resource that sent the message that a cause delivers.
+fn sending_resource(cause: &Cause) -> Option<u16>
+    ensures { result ≡ sending_resource cause.now }
+{
+    match cause {
+        Cause::Deliver {
+            from: Place::Res(n),
+            ..
+        } => Some(*n),
+        _ => None,
+    }
+}
+
+// The record of a Begin that was taken.
+fn begun(xid: Xid, now: u64, heard: Option<&Note>) -> Option<SessionRecord>
+    ensures { result ≡ begun_from xid now (option_copied heard.entry) }
+{
+    match heard {
+        Some(Note::Begin { manager, timeout }) => Some(SessionRecord::Begun {
+            xid,
+            manager: *manager,
+            begun: now,
+            timeout: *timeout,
+        }),
+        _ => None,
+    }
+}
+
+// The record of a Register that was taken from a resource.
+fn granted(
+    alloc: Global,
+    xid: Xid,
+    branch: BranchId,
+    heard: Option<&Note>,
+    resource: Option<u16>,
+) -> Result<Option<SessionRecord>, NoMemory>
+    ensures { IfOk result (λ made. made ≡ granted_from xid branch (option_copied heard.entry) resource) }
+{
+    match (heard, resource) {
+        (
+            Some(
+                Note::Register {
+                    call,
+                    ticket,
+                    kind,
+                    hold,
+                    ..
+                },
+            ),
+            Some(resource),
+        ) => {
+            let hold = hold.copy(alloc)?;
+            Ok(Some(SessionRecord::Granted {
+                xid,
+                branch,
+                resource,
+                call: *call,
+                ticket: *ticket,
+                kind: *kind,
+                hold,
+            }))
+        }
+        _ => Ok(None),
+    }
+}
+
+// The record of a durable act of the coordinator.
+fn session_record(
+    alloc: Global,
+    next: &Entry,
+    heard: Option<&Note>,
+    done: Durable,
+) -> Result<Option<SessionRecord>, NoMemory>
+    ensures { IfOk result (λ made. made ≡ session_made next.entry.now (option_copied heard.entry) done) }
+{
+    match done {
+        Durable::Begun { xid } => Ok(begun(xid, next.now, heard)),
+        Durable::Granted { xid, branch } => {
+            granted(alloc, xid, branch, heard, sending_resource(&next.cause))
+        }
+        Durable::Late { xid } => Ok(Some(SessionRecord::Decided {
+            xid,
+            how: Decision::Timeout,
+        })),
+        Durable::Decided { xid, how } => Ok(Some(SessionRecord::Decided { xid, how })),
+        Durable::Ended { xid, branch } => Ok(Some(SessionRecord::Ended { xid, branch })),
+        Durable::Retrying { xid, branch: _ } => Ok(Some(SessionRecord::Retrying { xid })),
+        Durable::Failed { xid, branch, stmt } => {
+            Ok(Some(SessionRecord::Failed { xid, branch, stmt }))
+        }
+        Durable::Finished { xid, status: _ } => Ok(Some(SessionRecord::Finished { xid })),
+        Durable::Forgot { xid } => Ok(Some(SessionRecord::Forgot { xid })),
+        _ => Ok(None),
+    }
+}
+
+// The record of the act in flight of an entry that took the coordinator down.
+fn asked_record(
+    alloc: Global,
+    next: &Entry,
+    heard: Option<&Note>,
+    at: Option<Durable>,
+) -> Result<Option<SessionRecord>, NoMemory>
+    ensures { IfOk result (λ made. made ≡ option_and_then (session_made next.entry.now (option_copied heard.entry)) at) }
+{
+    match at {
+        Some(done) => session_record(alloc, next, heard, done),
+        None => Ok(None),
+    }
+}

@@ -1,0 +1,18 @@
+//! The report of a history, from its scenario and its entries alone. The entries are read once, from the first to the last:
+//! what their records say at each node is kept, and the sections are printed of that.
+#![tactic(auto)]
+
+mod coordinator;
+mod folding;
+mod kept;
+mod left;
+mod open_works;
+mod records;
+mod reports;
+mod resources;
+mod scenarios;
+mod sections;
+mod sent;
+
+pub use kept::{OpenWork, Origin};
+pub use reports::write_report;
