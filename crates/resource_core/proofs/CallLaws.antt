@@ -26,12 +26,14 @@ use Rattle.history_rules.specs.ResourceMemory.{Memory, next_ticket, opening_tabl
 use Rattle.history_rules.specs.ResourceRules as rules
 use Rattle.history_rules.specs.ResourceRules.{least_branch, requests}
 use Rattle.history_text.specs.Promises.{own_step}
-use Rattle.resource_store.specs.Keeping.{setting_of, is_down, KeepsRecords}
+use Rattle.resource_store.specs.Keeping.{known, setting_of, is_down, KeepsRecords}
 use Rattle.resource_core.specs.Holding.{setup_of, Holds}
+use Rattle.resource_core.specs.Ready.{IsReady, IsTicketWithin, Serves}
 use Rattle.resource_core.specs.Stepping.{Answers, KeepsSettings, done_by}
 use Rattle.resource_core.specs.Telling.{tells}
 use Rattle.resource_core.specs.declared.branches.Branches.{Branches}
 use Rattle.resource_core.specs.declared.callers.Caller.{Caller}
+use Rattle.resource_core.proofs.TicketLists.{opened_within}
 use Rattle.resource_core.proofs.TicketSteps.{answers_with, answers_still}
 
 abbrev pub call_input : Caller → Work → (resource : ℕ) → Place → Input
@@ -129,8 +131,10 @@ module _ {D : Type 0} (state : D → DiskState) (old : Branches D) (c : Caller) 
               → ((m : Memory) → Holds state old m → opened_for (setup_of old) (tables (opening_tables (setup_of old)) m.left.records) (next_ticket m) (Given (call_input c w resource from))
               ≡ Some (opening_of (next_ticket m) (OfCall c.manager c.xid.0 c.call w) x.effect))
               → step ≡ requests (setting_of old.store).resource (act.Opened c.xid c.call t) (opening_of t (owner_by c.xid.0 c.manager c.call w) x.effect)
-              → new.store ≡ old.store → KeepsSettings old new → Answers state old new (call_input c w resource from) (Ok step)
-          opened new t step x opens is same itself =
+              → new.store ≡ old.store → KeepsSettings old new
+              → (IsReady old → Serves (call_input c w resource from) → IsTicketWithin (known old.store).tables (opening_of t (owner_by c.xid.0 c.manager c.call w) x.effect))
+              → Answers state old new (call_input c w resource from) (Ok step)
+          opened new t step x opens is same itself within =
               answers_with state old (call_input c w resource from) up new step same
               (λ m h.
               let next : t ≡ next_ticket m = x.ticket ∙ ap new_ticket h.tickets in
@@ -148,4 +152,4 @@ module _ {D : Type 0} (state : D → DiskState) (old : Branches D) (c : Caller) 
                 tickets = x.opens ∙ λ i. with_open (h.tickets i) (opening_of (next i) (owner i) x.effect);
               })
               (subst (λ (ts : Tickets). ts.opened ≤ old.txns.opened + 1) (sym x.opens) (omega arith))
-              itself
+              itself (λ ready served. opened_within old ready new.txns (opening_of t (owner_by c.xid.0 c.manager c.call w) x.effect) x.opens (within ready served))

@@ -33,6 +33,7 @@ use Rattle.std.specs.Prelude.{nat_le}
 use Rattle.resource_core.specs.Telling.{drops, why_of, given_up}
 use Rattle.resource_core.specs.declared.branches.Branches.{Branches}
 use Rattle.resource_core.specs.declared.callers.Caller.{Caller}
+use Rattle.resource_core.proofs.TicketLists.{counted_within, left_within}
 use Rattle.resource_core.proofs.TicketSteps.{answers_with, answers_still}
 
 -- ---- whose a ticket is
@@ -142,7 +143,7 @@ module _ {D : Type 0} (state : D → DiskState) (old : Branches D) (t : Ticket) 
           tickets = tickets ∙ ap (λ (ts : Tickets). with_opens ts (without ts.opens t)) h.tickets;
         })
         (subst (λ (ts : Tickets). ts.opened ≤ old.txns.opened + 1) (sym tickets) (omega arith))
-        itself)
+        itself (λ ready served. left_within old ready new.txns t tickets))
 
     pub closed : (status : GlobalStatus) (new : Branches D) (step : Step) → step ≡ drops c t (why.Closed status) → new.store ≡ old.store
         → new.txns ≡ with_opens old.txns (without old.txns.opens t) → KeepsSettings old new → Answers state old new (answer_input t xid from (registered.Closed status)) (Ok step)
@@ -181,7 +182,7 @@ module _ {D : Type 0} (state : D → DiskState) (old : Branches D) (t : Ticket) 
           tickets = tickets ∙ ap (λ (ts : Tickets). with_opens ts (map (counting t n) ts.opens)) h.tickets;
         })
         (subst (λ (ts : Tickets). ts.opened ≤ old.txns.opened + 1) (sym tickets) (omega arith))
-        itself
+        itself (λ ready served. counted_within old ready new.txns t n tickets)
 
     pub gives_up : (key : RowKey) (holder : Xid) (rolling : Bool) (p : Open) (cause : Why) → conflict old.tries holder rolling (open_at old.txns.opens t) ≡ GivesUp p cause → (new : Branches D) (step : Step)
         → step ≡ drops c t cause → new.store ≡ old.store → new.txns ≡ with_opens old.txns (without old.txns.opens t) → KeepsSettings old new
@@ -198,7 +199,7 @@ module _ {D : Type 0} (state : D → DiskState) (old : Branches D) (t : Ticket) 
           tickets = tickets ∙ ap (λ (ts : Tickets). with_opens ts (without ts.opens t)) h.tickets;
         })
         (subst (λ (ts : Tickets). ts.opened ≤ old.txns.opened + 1) (sym tickets) (omega arith))
-        itself)
+        itself (λ ready served. left_within old ready new.txns t tickets))
 
     -- a call's conflict is never ignored
     not_met : (o : Open) (last : Option Why) → met_with o last ≡ Ignores → ⊥

@@ -63,13 +63,13 @@ module _ {D : Type 0} (state : D → DiskState) (old : Branches D) (s : Store D)
   pub clears_ok : (a : Committed) (step : Step) → step ≡ commit_step x b a → GivesBy state (committed leg) (Ok a) old.store s → Leaves state (Ok a) old.store s
       → (manager call : ℕ) → Hears state old (with_store old s) (message.BranchCommit leg.xid leg.branch kind.At manager call) (Ok step)
   clears_ok a step is gives leaves = λ manager call from.
-      answers_ok state old (commit_input leg from manager call) (commit_step x b) as_they_are (durable.Cleared leg.xid leg.branch) (with_store old s) up (committed leg) a step is
+      answers_ok state old (commit_input leg from manager call) (commit_step x b) as_they_are (durable.Cleared leg.xid leg.branch) (with_store old s) up (λ P a opens all. all) (committed leg) a step is
       (λ m h. commits state old leg from manager call m (undo_of m.left.records x b) refl) gives leaves refl (settings_stay old s)
 
   pub clears_err : (e : StoreError) (error : NodeError) → error ≡ node_error (durable.Cleared leg.xid leg.branch) e → GivesBy state (committed leg) (Err e) old.store s
       → Leaves {A = Committed} state (Err e) old.store s → (manager call : ℕ) → Hears state old (with_store old s) (message.BranchCommit leg.xid leg.branch kind.At manager call) (Err error)
   clears_err e error is gives leaves = λ manager call from.
-      answers_err state old (commit_input leg from manager call) (commit_step x b) as_they_are (durable.Cleared leg.xid leg.branch) (with_store old s) up (committed leg) e error is
+      answers_err state old (commit_input leg from manager call) (commit_step x b) as_they_are (durable.Cleared leg.xid leg.branch) (with_store old s) up (λ P a opens all. all) (committed leg) e error is
       (λ m h. commits state old leg from manager call m (undo_of m.left.records x b) refl) gives leaves refl (settings_stay old s)
 
   module _ (flight : Durable) (at : flight ≡ undoing leg (entry_at (known old.store).undo_log leg)) (manager call : ℕ) where
@@ -86,13 +86,13 @@ module _ {D : Type 0} (state : D → DiskState) (old : Branches D) (s : Store D)
     pub undoes_ok : (a : Rolled) (step : Step) → step ≡ rollback_step x b a → GivesBy state (rolled_back leg old.txns.opens) (Ok a) old.store s → Leaves state (Ok a) old.store s
         → Hears state old (with_store old s) (message.BranchRollback leg.xid leg.branch kind.At manager call) (Ok step)
     undoes_ok a step is gives leaves = λ from.
-        answers_ok state old (rollback_input leg from manager call) (rollback_step x b) as_they_are flight (with_store old s) up (rolled_back leg old.txns.opens) a step is
+        answers_ok state old (rollback_input leg from manager call) (rollback_step x b) as_they_are flight (with_store old s) up (λ P a opens all. all) (rolled_back leg old.txns.opens) a step is
         (undo_rule from) gives leaves refl (settings_stay old s)
 
     pub undoes_err : (e : StoreError) (error : NodeError) → error ≡ node_error flight e → GivesBy state (rolled_back leg old.txns.opens) (Err e) old.store s
         → Leaves {A = Rolled} state (Err e) old.store s → Hears state old (with_store old s) (message.BranchRollback leg.xid leg.branch kind.At manager call) (Err error)
     undoes_err e error is gives leaves = λ from.
-        answers_err state old (rollback_input leg from manager call) (rollback_step x b) as_they_are flight (with_store old s) up (rolled_back leg old.txns.opens) e error is
+        answers_err state old (rollback_input leg from manager call) (rollback_step x b) as_they_are flight (with_store old s) up (λ P a opens all. all) (rolled_back leg old.txns.opens) e error is
         (undo_rule from) gives leaves refl (settings_stay old s)
 
   -- ---- TCC
@@ -101,13 +101,13 @@ module _ {D : Type 0} (state : D → DiskState) (old : Branches D) (s : Store D)
     pub confirms_ok : (a : TccAnswer) (step : Step) → step ≡ confirm_step x b a → GivesBy state (confirmed leg action) (Ok a) old.store s → Leaves state (Ok a) old.store s
         → Hears state old (with_store old s) (message.BranchCommit leg.xid leg.branch kind.Tcc manager call) (Ok step)
     confirms_ok a step is gives leaves = λ from.
-        answers_ok state old (confirm_input leg from manager call) (confirm_step x b) as_they_are (durable.Confirmed leg.xid leg.branch) (with_store old s) up (confirmed leg action) a step is
+        answers_ok state old (confirm_input leg from manager call) (confirm_step x b) as_they_are (durable.Confirmed leg.xid leg.branch) (with_store old s) up (λ P a opens all. all) (confirmed leg action) a step is
         (λ m h. confirms state old leg from manager call m action here (on_confirm (fence m.left.records x b)) refl) gives leaves refl (settings_stay old s)
 
     pub confirms_err : (e : StoreError) (error : NodeError) → error ≡ node_error (durable.Confirmed leg.xid leg.branch) e → GivesBy state (confirmed leg action) (Err e) old.store s
         → Leaves {A = TccAnswer} state (Err e) old.store s → Hears state old (with_store old s) (message.BranchCommit leg.xid leg.branch kind.Tcc manager call) (Err error)
     confirms_err e error is gives leaves = λ from.
-        answers_err state old (confirm_input leg from manager call) (confirm_step x b) as_they_are (durable.Confirmed leg.xid leg.branch) (with_store old s) up (confirmed leg action) e error is
+        answers_err state old (confirm_input leg from manager call) (confirm_step x b) as_they_are (durable.Confirmed leg.xid leg.branch) (with_store old s) up (λ P a opens all. all) (confirmed leg action) e error is
         (λ m h. confirms state old leg from manager call m action here (on_confirm (fence m.left.records x b)) refl) gives leaves refl (settings_stay old s)
 
     module _ (flight : Durable) (at : flight ≡ cancelling leg (on_cancel (fence_at (known old.store).fences leg))) where
@@ -121,13 +121,13 @@ module _ {D : Type 0} (state : D → DiskState) (old : Branches D) (s : Store D)
       pub cancels_ok : (a : TccAnswer) (step : Step) → step ≡ cancel_step x b a → GivesBy state (cancelled leg action) (Ok a) old.store s → Leaves state (Ok a) old.store s
           → Hears state old (with_store old s) (message.BranchRollback leg.xid leg.branch kind.Tcc manager call) (Ok step)
       cancels_ok a step is gives leaves = λ from.
-          answers_ok state old (cancel_input leg from manager call) (cancel_step x b) as_they_are flight (with_store old s) up (cancelled leg action) a step is
+          answers_ok state old (cancel_input leg from manager call) (cancel_step x b) as_they_are flight (with_store old s) up (λ P a opens all. all) (cancelled leg action) a step is
           (cancel_rule from) gives leaves refl (settings_stay old s)
 
       pub cancels_err : (e : StoreError) (error : NodeError) → error ≡ node_error flight e → GivesBy state (cancelled leg action) (Err e) old.store s
           → Leaves {A = TccAnswer} state (Err e) old.store s → Hears state old (with_store old s) (message.BranchRollback leg.xid leg.branch kind.Tcc manager call) (Err error)
       cancels_err e error is gives leaves = λ from.
-          answers_err state old (cancel_input leg from manager call) (cancel_step x b) as_they_are flight (with_store old s) up (cancelled leg action) e error is
+          answers_err state old (cancel_input leg from manager call) (cancel_step x b) as_they_are flight (with_store old s) up (λ P a opens all. all) (cancelled leg action) e error is
           (cancel_rule from) gives leaves refl (settings_stay old s)
 
 -- a TCC branch whose call has no actions here

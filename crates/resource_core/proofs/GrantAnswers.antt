@@ -1,6 +1,7 @@
 -- Grants: the answers of calls on the store are the resource's.
 use Rattle.std.proofs.Common.{◌≡◌, ◌∙◌, true, false, List, Option, Some, None, Result, Ok, Err, refl, sym, ap, subst}
 use Rattle.std.specs.Prelude.{IfSome}
+use Rattle.std.specs.List.{AllByRecursion}
 use Rattle.disk_model.specs.Disk.{DiskState}
 use Rattle.seata_types.specs.declared.acts.Durable.TheVariants as durable
 use Rattle.seata_types.specs.declared.errors.NodeError.{NodeError}
@@ -45,9 +46,20 @@ use Rattle.resource_core.specs.declared.callers.Caller.{Caller}
 use Rattle.resource_core.proofs.DropLaws.{IsOpenFor, open_for, kind_in}
 use Rattle.resource_core.proofs.GrantLaws.{grant_input, after_grant, after_try, grants, runs_try}
 use Rattle.resource_core.proofs.StoreSteps.{IsRule, answers_ok, answers_err}
+use Rattle.resource_core.proofs.TicketLists.{all_left}
 use Rattle.resource_core.proofs.TicketSteps.{answers_not}
 
 -- ---- the open tickets
+
+kept_grants : (t : Ticket) (P : Open → Type 0) (a : Granted) (opens : List Open) → AllByRecursion P opens → AllByRecursion P (after_grant t a opens)
+kept_grants t P grant.Committed opens all = all_left P opens t all
+kept_grants t P grant.Marker opens all = all_left P opens t all
+kept_grants t P grant.NotOpen opens all = all
+
+kept_tries : (t : Ticket) (P : Open → Type 0) (a : TryAnswer) (opens : List Open) → AllByRecursion P opens → AllByRecursion P (after_try t a opens)
+kept_tries t P tries.Tried opens all = all_left P opens t all
+kept_tries t P (tries.Refused cause) opens all = all_left P opens t all
+kept_tries t P tries.NotOpen opens all = all
 
 at_tickets : (t : Ticket) (a : Granted) (ts : Tickets) → at.tickets_after t (Ok a) ts ≡ with_opens ts (after_grant t a ts.opens)
 at_tickets t grant.Committed ts = refl
@@ -95,14 +107,14 @@ module _ {D : Type 0} (state : D → DiskState) (old : Branches D) (s : Store D)
       → GivesBy state (granted leg (open_at old.txns.opens t)) (Ok a) old.store s → Leaves state (Ok a) old.store s → ts ≡ at.tickets_after t (Ok a) old.txns
       → HearsOf state old (with_both old s ts) t (registered.Granted branch) (Ok step)
   grants_ok here a step is gives leaves tickets = λ xid from.
-      answers_ok state old (grant_input t xid from branch) (granted_step c.manager c.xid.0 c.call branch.0 t) (after_grant t) (durable.Committed c.xid branch t) (with_both old s ts) up
+      answers_ok state old (grant_input t xid from branch) (granted_step c.manager c.xid.0 c.call branch.0 t) (after_grant t) (durable.Committed c.xid branch t) (with_both old s ts) up (kept_grants t)
       (granted leg (open_at old.txns.opens t)) a step is (at_rule here xid from) gives leaves (tickets ∙ at_tickets t a old.txns) (both_stay old s ts)
 
   pub grants_err : (here : caller_at (open_at old.txns.opens t) ≡ Some (c, kind.At)) (e : StoreError) (error : NodeError) → error ≡ node_error (durable.Committed c.xid branch t) e
       → GivesBy state (granted leg (open_at old.txns.opens t)) (Err e) old.store s → Leaves {A = Granted} state (Err e) old.store s → ts ≡ old.txns
       → HearsOf state old (with_both old s ts) t (registered.Granted branch) (Err error)
   grants_err here e error is gives leaves tickets = λ xid from.
-      answers_err state old (grant_input t xid from branch) (granted_step c.manager c.xid.0 c.call branch.0 t) (after_grant t) (durable.Committed c.xid branch t) (with_both old s ts) up
+      answers_err state old (grant_input t xid from branch) (granted_step c.manager c.xid.0 c.call branch.0 t) (after_grant t) (durable.Committed c.xid branch t) (with_both old s ts) up (kept_grants t)
       (granted leg (open_at old.txns.opens t)) e error is (at_rule here xid from) gives leaves tickets (both_stay old s ts)
 
   -- ---- TCC
@@ -132,14 +144,14 @@ module _ {D : Type 0} (state : D → DiskState) (old : Branches D) (s : Store D)
       → GivesBy state (tcc.granted leg (open_at old.txns.opens t)) (Err e) old.store s → Leaves {A = TryAnswer} state (Err e) old.store s → ts ≡ old.txns
       → HearsOf state old (with_both old s ts) t (registered.Granted branch) (Err error)
   tries_err here e error is gives leaves tickets = λ xid from.
-      answers_err state old (grant_input t xid from branch) (try_step c.manager c.xid.0 c.call branch.0 t) (after_try t) (durable.Tried c.xid branch t) (with_both old s ts) up
+      answers_err state old (grant_input t xid from branch) (try_step c.manager c.xid.0 c.call branch.0 t) (after_try t) (durable.Tried c.xid branch t) (with_both old s ts) up (kept_tries t)
       (tcc.granted leg (open_at old.txns.opens t)) e error is (try_rule here xid from) gives leaves tickets (both_stay old s ts)
 
   tries_with : (later : Tickets) (here : caller_at (open_at old.txns.opens t) ≡ Some (c, kind.Tcc)) (a : TryAnswer) (step : Step) → step ≡ try_step c.manager c.xid.0 c.call branch.0 t a
       → GivesBy state (tcc.granted leg (open_at old.txns.opens t)) (Ok a) old.store s → Leaves state (Ok a) old.store s → later ≡ with_opens old.txns (after_try t a old.txns.opens)
       → HearsOf state old (with_both old s later) t (registered.Granted branch) (Ok step)
   tries_with later here a step is gives leaves tickets = λ xid from.
-      answers_ok state old (grant_input t xid from branch) (try_step c.manager c.xid.0 c.call branch.0 t) (after_try t) (durable.Tried c.xid branch t) (with_both old s later) up
+      answers_ok state old (grant_input t xid from branch) (try_step c.manager c.xid.0 c.call branch.0 t) (after_try t) (durable.Tried c.xid branch t) (with_both old s later) up (kept_tries t)
       (tcc.granted leg (open_at old.txns.opens t)) a step is (try_rule here xid from) gives leaves tickets (both_stay old s later)
 
   -- a refusal changed nothing yet

@@ -18,3 +18,5 @@ pub mod DoneLaws
 pub mod TurnLaws
 pub mod CountLaws
 pub mod ReadyLaws
+pub mod TicketLists
+pub mod StayReady

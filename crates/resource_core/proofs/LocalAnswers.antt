@@ -1,6 +1,7 @@
 -- Answers to lock queries, as the code makes them.
 use Rattle.std.proofs.Common.{◌≡◌, ◌∙◌, ℕ, false, List, Option, Some, None, Ok, Err, refl, sym, ap, subst}
 use Rattle.std.specs.Prelude.{IfSome}
+use Rattle.std.specs.List.{AllByRecursion}
 use Rattle.disk_model.specs.Disk.{DiskState}
 use Rattle.seata_types.specs.declared.acts.Act.TheVariants as act
 use Rattle.seata_types.specs.declared.acts.Durable.TheVariants as durable
@@ -29,8 +30,13 @@ use Rattle.resource_core.specs.declared.branches.Branches.{Branches}
 use Rattle.resource_core.proofs.GrantAnswers.{with_both}
 use Rattle.resource_core.proofs.LocalRules.{after_free, free_input, frees, lock_ignored, lock_held}
 use Rattle.resource_core.proofs.StoreSteps.{IsRule, answers_ok, answers_err}
+use Rattle.resource_core.proofs.TicketLists.{all_left}
 
 -- ---- the open tickets
+
+kept_free : (t : Ticket) (P : Open → Type 0) (number : Option ℕ) (opens : List Open) → AllByRecursion P opens → AllByRecursion P (after_free t number opens)
+kept_free t P None opens all = all
+kept_free t P (Some k) opens all = all_left P opens t all
 
 free_tickets : (t : Ticket) (number : Option ℕ) (ts : Tickets) → closed t number ts ≡ with_opens ts (after_free t number ts.opens)
 free_tickets t None ts = refl
@@ -55,13 +61,13 @@ module _ {D : Type 0} (state : D → DiskState) (old : Branches D) (t : Ticket) 
     pub frees_ok : (number : Option ℕ) (step : Step) → step ≡ freed_step t number → GivesBy state (freed (open_at old.txns.opens t)) (Ok number) old.store s → Leaves state (Ok number) old.store s
         → ts ≡ closed t number old.txns → Hears state old (with_both old s ts) (message.LockAnswer t None) (Ok step)
     frees_ok number step is gives leaves tickets = λ from.
-        answers_ok state old (free_input t from) (freed_step t) (after_free t) (durable.LocalCommitted k t) (with_both old s ts) up
+        answers_ok state old (free_input t from) (freed_step t) (after_free t) (durable.LocalCommitted k t) (with_both old s ts) up (kept_free t)
         (freed (open_at old.txns.opens t)) number step is (free_rule from) gives leaves (tickets ∙ free_tickets t number old.txns) (both_stay old s ts)
 
     pub frees_err : (e : StoreError) (error : NodeError) → error ≡ node_error (durable.LocalCommitted k t) e → GivesBy state (freed (open_at old.txns.opens t)) (Err e) old.store s
         → Leaves {A = Option ℕ} state (Err e) old.store s → ts ≡ old.txns → Hears state old (with_both old s ts) (message.LockAnswer t None) (Err error)
     frees_err e error is gives leaves tickets = λ from.
-        answers_err state old (free_input t from) (freed_step t) (after_free t) (durable.LocalCommitted k t) (with_both old s ts) up
+        answers_err state old (free_input t from) (freed_step t) (after_free t) (durable.LocalCommitted k t) (with_both old s ts) up (kept_free t)
         (freed (open_at old.txns.opens t)) e error is (free_rule from) gives leaves tickets (both_stay old s ts)
 
   pub ignored_by : (held : Option (RowKey × Xid)) → local_number (open_at old.txns.opens t) ≡ None → (step : Step) → step ≡ still act.Ignored

@@ -33,9 +33,11 @@ use Rattle.resource_store.proofs.AnswerLaws.{tables_of}
 use Rattle.local_guard.specs.Locals.{freed, freed_by, local_number, number_by}
 use Rattle.local_guard.specs.Steps.{freed_step}
 use Rattle.resource_core.specs.Holding.{setup_of, Holds}
+use Rattle.resource_core.specs.Ready.{IsReady, IsTicketWithin, Serves}
 use Rattle.resource_core.specs.Stepping.{Answers, KeepsSettings}
 use Rattle.resource_core.specs.declared.branches.Branches.{Branches}
 use Rattle.resource_core.proofs.StoreSteps.{IsRule}
+use Rattle.resource_core.proofs.TicketLists.{left_within, opened_within}
 use Rattle.resource_core.proofs.TicketSteps.{answers_with, answers_still}
 
 some_same : (a b : ℕ) → Some a ≡ Some b → a ≡ b
@@ -86,8 +88,9 @@ module _ {D : Type 0} (state : D → DiskState) (old : Branches D) (k : ℕ) (up
 
       pub local_opened : (new : Branches D) (t : Ticket) (step : Step) → (x : Executed old.txns (OfLocal k) (effect (known old.store).tables stmts) t new.txns)
           → step ≡ requests (setting_of old.store).resource (act.OpenedLocal k t) (opening_of t (OfLocal k) x.effect)
-          → new.store ≡ old.store → KeepsSettings old new → Answers state old new (input.Local k) (Ok step)
-      local_opened new t step x is same itself =
+          → new.store ≡ old.store → KeepsSettings old new → (IsReady old → Serves (input.Local k) → IsTicketWithin (known old.store).tables (opening_of t (OfLocal k) x.effect))
+          → Answers state old new (input.Local k) (Ok step)
+      local_opened new t step x is same itself within =
           answers_with state old (input.Local k) up new step same
           (λ m h.
           let next : t ≡ next_ticket m = x.ticket ∙ ap new_ticket h.tickets in
@@ -108,7 +111,7 @@ module _ {D : Type 0} (state : D → DiskState) (old : Branches D) (k : ℕ) (up
             tickets = x.opens ∙ λ i. with_open (h.tickets i) (opening_of (next i) (OfLocal k) x.effect);
           })
           (subst (λ (ts : Tickets). ts.opened ≤ old.txns.opened + 1) (sym x.opens) (omega arith))
-          itself
+          itself (λ ready served. opened_within old ready new.txns (opening_of t (OfLocal k) x.effect) x.opens (within ready served))
 
 -- ---- the answer to its lock query
 
@@ -183,4 +186,4 @@ module _ {D : Type 0} (state : D → DiskState) (old : Branches D) (t : Ticket) 
           tickets = tickets ∙ ap (λ (ts : Tickets). with_opens ts (without ts.opens t)) h.tickets;
         })
         (subst (λ (ts : Tickets). ts.opened ≤ old.txns.opened + 1) (sym tickets) (omega arith))
-        itself
+        itself (λ ready served. left_within old ready new.txns t tickets)

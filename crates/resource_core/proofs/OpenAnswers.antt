@@ -1,5 +1,5 @@
 -- Openings: a ticket that is opened asks, or all is as before.
-use Rattle.std.proofs.Common.{◌≡◌, ◌∙◌, ℕ, Bool, true, false, List, ◌∷◌, Option, Some, None, is_some, option_map, Result, Ok, Err, refl, sym, ap, subst}
+use Rattle.std.proofs.Common.{◌≡◌, ◌∙◌, ◌<◌, ℕ, Bool, true, false, List, ◌∷◌, Option, Some, None, is_some, option_map, Result, Ok, Err, refl, sym, ap, subst}
 use Rattle.std.specs.Prelude.{find}
 use Rattle.disk_model.specs.Disk.{DiskState}
 use Rattle.seata_types.specs.declared.acts.Act.TheVariants as act
@@ -27,11 +27,13 @@ use Rattle.history_rules.specs.ResourceRules as rules
 use Rattle.history_rules.specs.ResourceRules.{requests}
 use Rattle.resource_store.specs.Keeping.{setting_of, is_down, known}
 use Rattle.resource_core.specs.Holding.{setup_of, Holds}
+use Rattle.resource_core.specs.Ready.{IsReady, IsTicketWithin, Serves}
 use Rattle.resource_core.specs.Stepping.{Answers, HearsCall, IsNew, AsksOr, NotOpened, LocalNotOpened, KeepsSettings, with_tickets}
 use Rattle.resource_core.specs.declared.branches.Branches.{Branches}
 use Rattle.resource_core.specs.declared.callers.Caller.{Caller}
-use Rattle.resource_core.proofs.CallLaws.{call_input, refused, busy, opened}
+use Rattle.resource_core.proofs.CallLaws.{owner_is, call_input, refused, busy, opened}
 use Rattle.resource_core.proofs.LocalRules.{effect_known, local_refused, local_busy, local_opened}
+use Rattle.resource_core.proofs.ReadyLaws.{local_within, rows_of_effect, tables_within}
 use Rattle.resource_core.proofs.TicketSteps.{answers_not}
 
 -- ---- a ticket that was opened last
@@ -68,7 +70,8 @@ module _ {D : Type 0} (state : D → DiskState) (old : Branches D) (ts : Tickets
     local_asks t x new (Ok step) asks =
         subst (λ (b : Branches D). Answers state old b (input.Local k) (Ok step)) (sym asks.1)
         (local_opened state old k up stmts here closed (with_tickets old ts) t step x
-        (asks.0 ∙ ap (λ (n : ℕ). requests n (act.OpenedLocal k t) (opening_of t (OfLocal k) x.effect)) numbered) refl (tickets_stay old ts))
+        (asks.0 ∙ ap (λ (n : ℕ). requests n (act.OpenedLocal k t) (opening_of t (OfLocal k) x.effect)) numbered) refl (tickets_stay old ts)
+        (λ ready served. (served, rows_of_effect (known old.store).tables (tables_within (known old.store) ready.knows) stmts (local_within old.locals k stmts ready.locals here) t (OfLocal k) x.effect x.means)))
     local_asks t x new (Err e) asks =
         subst (λ (f : NodeError). Answers state old new (input.Local k) (Err f)) (sym asks.0) (answers_not state old (input.Local k) up new asks.1)
 
@@ -89,13 +92,15 @@ module _ {D : Type 0} (state : D → DiskState) (old : Branches D) (ts : Tickets
   module _ (c : Caller) (w : Work) (new_call : IsNew state old c w) (r : Result Effect (ℕ × StmtError))
       (means : (m : Memory) → Holds state old m → rules.meaning (setup_of old) m.left.records m.opens (next_ticket m) w ≡ r)
       (opens : (m : Memory) → Holds state old m → (e : Effect) → r ≡ Ok e → (resource : ℕ) (from : _) → opened_for (setup_of old) (tables (opening_tables (setup_of old)) m.left.records) (next_ticket m) (Given (call_input c w resource from))
-      ≡ Some (opening_of (next_ticket m) (OfCall c.manager c.xid.0 c.call w) e)) where
+      ≡ Some (opening_of (next_ticket m) (OfCall c.manager c.xid.0 c.call w) e))
+      (within : (t : Ticket) (e : Effect) → r ≡ Ok e → IsReady old → (resource : ℕ) (from : _) → Serves (call_input c w resource from) → IsTicketWithin (known old.store).tables (opening_of t (owner_by c.xid.0 c.manager c.call w) e)) where
     pub call_asks : (t : Ticket) (x : Executed old.txns (owner_by c.xid.0 c.manager c.call w) r t ts) (new : Branches D) (result : Result Step NodeError)
         → AsksOr (with_tickets old ts) new old.txns (act.Opened c.xid c.call t) (opening_of t (owner_by c.xid.0 c.manager c.call w) x.effect) result → HearsCall state old new c w result
     call_asks t x new (Ok step) asks = λ resource from.
         subst (λ (b : Branches D). Answers state old b (call_input c w resource from) (Ok step)) (sym asks.1)
         (opened state old c w up resource from new_call.of_one new_call.undone new_call.closed r means (with_tickets old ts) t step x (λ m h. opens m h x.effect x.means resource from)
-        (asks.0 ∙ ap (λ (n : ℕ). requests n (act.Opened c.xid c.call t) (opening_of t (owner_by c.xid.0 c.manager c.call w) x.effect)) numbered) refl (tickets_stay old ts))
+        (asks.0 ∙ ap (λ (n : ℕ). requests n (act.Opened c.xid c.call t) (opening_of t (owner_by c.xid.0 c.manager c.call w) x.effect)) numbered) refl (tickets_stay old ts)
+        (λ ready served. within t x.effect x.means ready resource from served))
     call_asks t x new (Err e) asks = λ resource from.
         subst (λ (f : NodeError). Answers state old new (call_input c w resource from) (Err f)) (sym asks.0) (answers_not state old (call_input c w resource from) up new asks.1)
 
@@ -132,6 +137,19 @@ module _ {D : Type 0} (state : D → DiskState) (old : Branches D) (ts : Tickets
       → opened_for (setup_of old) (tables (opening_tables (setup_of old)) m.left.records) (next_ticket m) (Given (call_input c (work.Tcc action) resource from))
       ≡ Some (opening_of (next_ticket m) (OfCall c.manager c.xid.0 c.call (work.Tcc action)) e)
   tcc_opens c action m h e is resource from = ap (λ (q : Result Effect (ℕ × StmtError)). Some (opening_of (next_ticket m) (OfCall c.manager c.xid.0 c.call (work.Tcc action)) (or_none q))) is
+
+  -- ---- that what calls open has places
+
+  pub at_within : (c : Caller) (stmts : List Stmt) → 0 < c.xid.0 → (t : Ticket) (e : Effect) → effect (known old.store).tables stmts ≡ Ok e → IsReady old → (resource : ℕ) (from : _) → Serves (call_input c (work.At stmts) resource from)
+      → IsTicketWithin (known old.store).tables (opening_of t (owner_by c.xid.0 c.manager c.call (work.At stmts)) e)
+  at_within c stmts pos t e means ready resource from served =
+      subst (λ (w : Owner). IsTicketWithin (known old.store).tables (opening_of t w e)) (sym (owner_is c.xid.0 c.manager c.call (work.At stmts) pos))
+      (served.1, rows_of_effect (known old.store).tables (tables_within (known old.store) ready.knows) stmts served.2 t (OfCall c.manager c.xid.0 c.call (work.At stmts)) e means)
+
+  pub tcc_within : (c : Caller) (action : Action) → 0 < c.xid.0 → (t : Ticket) (e : Effect) → ◌≡◌ {A = Result Effect (ℕ × StmtError)} (Ok no_effect) (Ok e) → IsReady old → (resource : ℕ) (from : _)
+      → Serves (call_input c (work.Tcc action) resource from) → IsTicketWithin (known old.store).tables (opening_of t (owner_by c.xid.0 c.manager c.call (work.Tcc action)) e)
+  tcc_within c action pos t e means ready resource from served =
+      subst (λ (w : Owner). IsTicketWithin (known old.store).tables (opening_of t w e)) (sym (owner_is c.xid.0 c.manager c.call (work.Tcc action) pos)) (served.1, served.2)
 
 -- a ticket of a Try is one that was opened for no rows
 abbrev pub prepared : (old new : Tickets) (owner : Owner) (t : Ticket) → Prepares old owner (Ok t) new → Executed old owner (Ok no_effect) t new

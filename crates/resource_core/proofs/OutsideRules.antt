@@ -126,6 +126,7 @@ module _ {D : Type 0} (state : D → DiskState) (old : Branches D) (k : ℕ) (up
       leaves = leaves;
       tickets = tt;
       opened = omega arith;
+      within = λ ready served. ready.tickets;
       same = record { number = refl; tries = refl; actions = refl; locals = refl };
     }
 
@@ -156,5 +157,6 @@ module _ {D : Type 0} (state : D → DiskState) (old : Branches D) (k : ℕ) (up
       leaves = left_so fault result is leaves;
       tickets = kept_tickets result;
       opened = omega arith;
+      within = λ ready served. ready.tickets;
       same = record { number = refl; tries = refl; actions = refl; locals = refl };
     }

@@ -22,12 +22,13 @@ use Rattle.byte_fields.specs.Parts.{FitsLeg, FitsNamedRow}
 use Rattle.local_tables.specs.Calls.{effect}
 use Rattle.local_tables.specs.Rows.{Database}
 use Rattle.local_tables.specs.declared.schemas.Effect.{Effect}
-use Rattle.local_txn.specs.OpenTickets.{Open, Owner, OfCall, OfLocal, open_at}
+use Rattle.local_txn.specs.OpenTickets.{Open, Owner, OfCall, OfLocal, open_at, opening_of}
 use Rattle.durable_records.specs.declared.resources.ResourceRecord.TheVariants as log
 use Rattle.history_rules.specs.ResourceMemory.{action_in, call_of, local_in, tries_of}
 use Rattle.resource_log.specs.SnapshotOf.{named_row}
 use Rattle.resource_memory.specs.Changes.{fit}
 use Rattle.resource_memory.specs.Known.{Known}
+use Rattle.resource_memory.proofs.EffectFits.{effects_fit}
 use Rattle.resource_memory.proofs.Fits.{fits}
 use Rattle.resource_store.specs.Answers.{HasPlace, HasPlaces}
 use Rattle.at_branch.specs.Grants.{MayCommit, is_at_call}
@@ -43,6 +44,7 @@ use Rattle.resource_core.specs.Setups.{actions_of}
 use Rattle.resource_core.specs.Stepping.{caller_at, caller_by}
 use Rattle.resource_core.specs.declared.callers.Caller.{Caller}
 use Rattle.resource_core.proofs.DropLaws.{kind_in}
+use Rattle.resource_core.proofs.TicketLists.{found_open}
 
 some_is : {A : Type 0} (a b : A) → Some a ≡ Some b → a ≡ b
 some_is a b e = cc
@@ -105,18 +107,6 @@ local_may db o (OfLocal j) k owner e is =
     let place = (records_have_places (effect_in o) is.1.places).local j is.0 in
     subst (λ (v : Owner). locals.MayCommitBy db o v) (sym owner) (record { fit = images_fit db o.images o.reads is.1.fits; fits = place.fits; small = place.small })
 
--- what holds of each open ticket holds of one that is found
-pub found_open : (P : Open → Type 0) (opens : List Open) (t : Ticket) (o : Open) → AllByRecursion P opens → open_at opens t ≡ Some o → P o
-found_open P opens t o all e = found P _ opens o all e
-  where
-    found : (P : Open → Type 0) (p : Open → Bool) (xs : List Open) (o : Open) → AllByRecursion P xs → find p xs ≡ Some o → P o
-    found P p [] o all e = absurd (none-some o e)
-    found P p (x ∷ xs) o all e = by (found P p xs o all.1) (p x) e
-      where
-        by : (find p xs ≡ Some o → P o) → (b : Bool) → cond b (Some x) (find p xs) ≡ Some o → P o
-        by later true f = subst P (some_is x o f) all.0
-        by later false f = later f
-
 module _ (db : Database) (tables : AreTablesWithin db) (opens : List Open) (t : Ticket) (tickets : AllByRecursion (IsTicketWithin db) opens) where
   pub may_commit : (leg : Leg) → FitsLeg leg → (c : Caller) → caller_at (open_at opens t) ≡ Some (c, kind.At) → IfSome (open_at opens t) (MayCommit db leg)
   may_commit leg few c e = by (open_at opens t) refl e
@@ -138,6 +128,14 @@ module _ (db : Database) (tables : AreTablesWithin db) (opens : List Open) (t : 
       by : (p : Option Open) → open_at opens t ≡ p → local_number p ≡ Some k → IfSome p (locals.MayCommit db)
       by None found h = tt
       by (Some o) found h = local_may db o o.owner k refl h (found_open (IsTicketWithin db) opens t o tickets found)
+
+-- ---- what is opened
+
+module _ (db : Database) (tables : AreTablesWithin db) where
+  pub rows_of_effect : (stmts : List Stmt) → AreStmtsWithin stmts → (t : Ticket) (w : Owner) (e : Effect) → effect db stmts ≡ Ok e → HasRows db (opening_of t w e)
+  rows_of_effect stmts is t w e means =
+      let found = effects_have_places db stmts e tables is.each means in
+      record { fits = effects_fit db stmts e tables.rows means; places = record { images = found.images; reads = found.reads; room = found.room } }
 
 -- ---- actions and local transactions
 

@@ -1,6 +1,7 @@
 -- Answers of calls on the store, as steps: where the answer at a memory is the rule's, so is the step.
 use Rattle.std.proofs.Common.{◌≡◌, ◌∙◌, ◌+◌, ◌≤◌, ◌∷◌, ℕ, false, List, Option, Some, None, Result, Ok, Err, refl, sym, ap, subst, arith}
 use Rattle.std.specs.Prelude.{IfErr, IfSome}
+use Rattle.std.specs.List.{AllByRecursion}
 use Rattle.disk_model.specs.Disk.{DiskState}
 use Rattle.seata_types.specs.declared.acts.Act.TheVariants as act
 use Rattle.seata_types.specs.declared.acts.Durable.{Durable}
@@ -17,9 +18,10 @@ use Rattle.durable_records.specs.UndoRecords.{boots}
 use Rattle.history_rules.specs.ResourceMemory.{Memory, resource_asked, memory_after}
 use Rattle.history_rules.specs.ResourceRules.{resource_answer}
 use Rattle.history_text.specs.Promises.{own_step}
-use Rattle.resource_store.specs.Keeping.{is_down, setting_of}
+use Rattle.resource_store.specs.Keeping.{is_down, known, setting_of}
 use Rattle.resource_store.specs.Answers.{Answer, Gives, GivesBy, Leaves, outcome, tables_now}
 use Rattle.resource_core.specs.Holding.{setup_of, Holds}
+use Rattle.resource_core.specs.Ready.{AreTicketsWithin, IsReady, IsTicketWithin}
 use Rattle.resource_core.specs.Stepping.{StepsAt, Answers, KeepsSettings, made_as}
 use Rattle.resource_core.specs.Telling.{node_error}
 use Rattle.resource_core.specs.declared.branches.Branches.{Branches}
@@ -84,7 +86,7 @@ module _ {A D : Type 0} (state : D → DiskState) (old : Branches D) (given : In
         by None e = with_none a.told result (subst (λ (o : Option ResourceRecord). IsRule m (record { told = a.told; made = o })) e is)
             (subst (λ (o : Option ResourceRecord). Gives state (record { told = a.told; made = o }) result old.store new.store) e g) tickets
 
-  module _ (new : Branches D) (up : is_down old.store ≡ false) where
+  module _ (new : Branches D) (up : is_down old.store ≡ false) (keeps : (P : Open → Type 0) (a : A) (opens : List Open) → AllByRecursion P opens → AllByRecursion P (closing a opens)) where
     kept_tickets : (result : Result A StoreError) → new.txns ≡ tickets_by result old.txns → IfErr (stepped result) (λ e. new.txns ≡ old.txns)
     kept_tickets (Ok a) same = tt
     kept_tickets (Err e) same = same
@@ -92,6 +94,10 @@ module _ {A D : Type 0} (state : D → DiskState) (old : Branches D) (given : In
     none_opened : (result : Result A StoreError) → (tickets_by result old.txns).opened ≤ old.txns.opened + 1
     none_opened (Ok a) = omega arith
     none_opened (Err e) = omega arith
+
+    all_within : IsReady old → (result : Result A StoreError) → AreTicketsWithin (known old.store).tables (tickets_by result old.txns).opens
+    all_within ready (Ok a) = keeps (IsTicketWithin (known old.store).tables) a old.txns.opens ready.tickets
+    all_within ready (Err e) = ready.tickets
 
     left_so : (result : Result A StoreError) → outcome result ≡ outcome (made_as (stepped result))
     left_so (Ok a) = refl
@@ -108,6 +114,7 @@ module _ {A D : Type 0} (state : D → DiskState) (old : Branches D) (given : In
       leaves = leaves_as state result (made_as (stepped result)) old.store new.store (left_so result) leaves;
       tickets = kept_tickets result tickets;
       opened = subst (λ (ts : Tickets). ts.opened ≤ old.txns.opened + 1) (sym tickets) (none_opened result);
+      within = λ ready served. subst (λ (ts : Tickets). AreTicketsWithin (known old.store).tables ts.opens) (sym tickets) (all_within ready result);
       same = same;
     }
 

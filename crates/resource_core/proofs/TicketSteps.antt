@@ -13,9 +13,10 @@ use Rattle.history_rules.specs.ResourceMemory.{Memory, resource_asked, memory_af
 use Rattle.history_rules.specs.ResourceRules.{resource_answer}
 use Rattle.history_text.specs.Promises.{own_step}
 use Rattle.resource_store.specs.declared.store.Store.{Store}
-use Rattle.resource_store.specs.Keeping.{is_down, has_failed}
+use Rattle.resource_store.specs.Keeping.{known, is_down, has_failed}
 use Rattle.resource_store.specs.Answers.{Leaves, outcome}
 use Rattle.resource_core.specs.Holding.{setup_of, Holds}
+use Rattle.resource_core.specs.Ready.{AreTicketsWithin, IsReady, Serves}
 use Rattle.resource_core.specs.Stepping.{Answers, KeepsSettings}
 use Rattle.resource_core.specs.declared.branches.Branches.{Branches}
 use Rattle.resource_core.proofs.HoldingLaws.{holds_as}
@@ -36,8 +37,9 @@ module _ {D : Type 0} (state : D → DiskState) (old : Branches D) (given : Inpu
     pub tickets : ts ≡ record { boot = boots m.left.records; opened = opened; opens = opens }
 
   pub answers_with : (new : Branches D) (step : Step) → new.store ≡ old.store → ((m : Memory) → Holds state old m → IsTicketRule new.txns step m)
-      → new.txns.opened ≤ old.txns.opened + 1 → KeepsSettings old new → Answers state old new given (Ok step)
-  answers_with new step same is opened itself = record {
+      → new.txns.opened ≤ old.txns.opened + 1 → KeepsSettings old new → (IsReady old → Serves given → AreTicketsWithin (known old.store).tables new.txns.opens)
+      → Answers state old new given (Ok step)
+  answers_with new step same is opened itself within = record {
     steps = λ m h.
         let r = is m h in
         stays state old new given m step step refl r.rule r.asks same
@@ -45,6 +47,7 @@ module _ {D : Type 0} (state : D → DiskState) (old : Branches D) (given : Inpu
     leaves = subst (λ (s : Store D). Leaves state (Ok tt) old.store s) (sym same) (stays_up state (Ok tt) old.store up refl);
     tickets = tt;
     opened = opened;
+    within = within;
     same = itself;
   }
 
@@ -54,7 +57,7 @@ module _ {D : Type 0} (state : D → DiskState) (old : Branches D) (given : Inpu
   answers_still step rule asks leaves =
       answers_with old step refl
       (λ m h. record { opens = m.opens; opened = m.opened; rule = rule m h; asks = asks m; leaves = leaves m; tickets = h.tickets })
-      (omega arith) (record { number = refl; tries = refl; actions = refl; locals = refl })
+      (omega arith) (record { number = refl; tries = refl; actions = refl; locals = refl }) (λ ready served. ready.tickets)
 
   -- memory was refused, and all is as before
   pub answers_not : (new : Branches D) → new ≡ old → Answers state old new given (Err error.NoMemory)
@@ -63,5 +66,6 @@ module _ {D : Type 0} (state : D → DiskState) (old : Branches D) (given : Inpu
     leaves = stays_up state (Err store_error.NoMemory) old.store up refl;
     tickets = refl;
     opened = omega arith;
+    within = λ ready served. ready.tickets;
     same = record { number = refl; tries = refl; actions = refl; locals = refl };
   })

@@ -21,6 +21,7 @@ use Rattle.resource_store.specs.Keeping.{setting_of, is_down}
 use Rattle.resource_core.specs.Holding.{setup_of}
 use Rattle.resource_core.specs.Stepping.{Answers, asks_of, with_tickets, Hears}
 use Rattle.resource_core.specs.declared.branches.Branches.{Branches}
+use Rattle.resource_core.proofs.TicketLists.{sent_within}
 use Rattle.resource_core.proofs.TicketSteps.{answers_with, answers_still}
 
 -- the ticket that was sent longest ago
@@ -89,7 +90,7 @@ module _ {D : Type 0} (state : D → DiskState) (old : Branches D) (up : is_down
         tickets = tickets ∙ ap (λ (u : Tickets). with_opens u (sent_again t u.opens)) h.tickets;
       })
       (subst (λ (u : Tickets). u.opened ≤ old.txns.opened + 1) (sym tickets) (omega arith))
-      (record { number = refl; tries = refl; actions = refl; locals = refl }))
+      (record { number = refl; tries = refl; actions = refl; locals = refl }) (λ ready served. sent_within old ready ts t tickets))
 
   -- ---- messages of other nodes
 

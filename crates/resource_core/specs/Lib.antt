@@ -3,3 +3,4 @@ pub mod Telling
 pub mod Holding
 pub mod Ready
 pub mod Stepping
+pub mod Laws

@@ -60,6 +60,9 @@ IsOwnedWithin db o (OfLocal k) = (k < 2 ^ 16) × HasRows db o
 abbrev pub IsTicketWithin : Database → Open → Type 0
 IsTicketWithin db o = IsOwnedWithin db o o.owner
 
+abbrev pub AreTicketsWithin : Database → List Open → Type 0
+AreTicketsWithin db opens = AllByRecursion (IsTicketWithin db) opens
+
 -- ---- a resource
 
 abbrev pub HasActionWithin : ℕ × ℕ × Action → Type 0
@@ -73,7 +76,7 @@ pub record IsReady {D : Type 0} (b : Branches D) : Type 0 where
   pub room : b.txns.opened < 2 ^ 32 - 1
   pub numbered : b.number ≡ (setting_of b.store).resource
   pub knows : IsKnownWithin (known b.store)
-  pub tickets : AllByRecursion (IsTicketWithin (known b.store).tables) b.txns.opens
+  pub tickets : AreTicketsWithin (known b.store).tables b.txns.opens
   pub actions : AllByRecursion HasActionWithin b.actions
   pub locals : AllByRecursion HasStmtsWithin b.locals
 
@@ -84,9 +87,10 @@ ServesWork (work.At stmts) = AreStmtsWithin stmts
 ServesWork (work.Tcc action) = AreStmtsWithin action.tries
 
 abbrev pub ServesMessage : Message → Type 0
-ServesMessage (message.Call xid manager resource call asked) = (1 ≤ call) × ServesWork asked
+ServesMessage (message.Call xid manager resource call asked) = (1 ≤ call) × (call < 2 ^ 16) × ServesWork asked
 ServesMessage _ = Unit {0}
 
 abbrev pub Serves : Input → Type 0
 Serves (input.Message from heard) = ServesMessage heard
+Serves (input.Local k) = k < 2 ^ 16
 Serves _ = Unit {0}

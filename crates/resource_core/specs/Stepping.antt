@@ -47,8 +47,9 @@ use Rattle.history_rules.specs.ResourceMemory.{Setup, Memory, resource_asked, me
 use Rattle.history_rules.specs.ResourceRules.{resource_answer, request_of, requests, least_branch}
 use Rattle.history_text.specs.Promises.{own_step}
 use Rattle.resource_store.specs.Answers.{Does, Leaves}
-use Rattle.resource_store.specs.Keeping.{setting_of, KeepsRecords}
+use Rattle.resource_store.specs.Keeping.{known, setting_of, KeepsRecords}
 use Rattle.resource_core.specs.Holding.{setup_of, Holds}
+use Rattle.resource_core.specs.Ready.{AreTicketsWithin, IsReady, Serves}
 use Rattle.resource_core.specs.Telling.{tells, drops}
 use Rattle.resource_core.specs.declared.branches.Branches.{Branches}
 use Rattle.resource_core.specs.declared.callers.Caller.{Caller}
@@ -142,12 +143,13 @@ pub record KeepsSettings {D : Type 0} (old new : Branches D) : Type 0 where
   pub locals : new.locals ≡ old.locals
 
 -- A resource answered an input: at each memory that it holds, and whatever its disks keep. After an error the open tickets are as
--- before.
+-- before. A ticket that is open then has rows of the tables that were known, with places.
 pub record Answers {D : Type 0} (state : D → DiskState) (old new : Branches D) (given : Input) (result : Result Step NodeError) : Type 0 where
   pub steps : (m : Memory) → Holds state old m → StepsAt state old new given result m
   pub leaves : Leaves state (made_as result) old.store new.store
   pub tickets : IfErr result (λ e. new.txns ≡ old.txns)
   pub opened : new.txns.opened ≤ old.txns.opened + 1
+  pub within : IsReady old → Serves given → AreTicketsWithin (known old.store).tables new.txns.opens
   pub same : KeepsSettings old new
 
 -- the same of a message, wherever it came from

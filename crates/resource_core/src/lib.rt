@@ -8,6 +8,7 @@ mod callers;
 mod calls;
 mod ends;
 mod grants;
+pub mod laws;
 mod locals;
 mod numbers;
 mod requests;

@@ -9,7 +9,7 @@ pub call-requires-clause-counted : goal.call-requires-clause-counted
 call-requires-clause-counted g c = (subst (λ (m : Message). ServesMessage m) c.in-Call.is c.requires.served).0
 
 pub call-requires-clause-served : goal.call-requires-clause-served
-call-requires-clause-served g c = (subst (λ (m : Message). ServesMessage m) c.in-Call.is c.requires.served).1
+call-requires-clause-served g c = (subst (λ (m : Message). ServesMessage m) c.in-Call.is c.requires.served).2
 
 pub returns-in-Call : goal.returns-in-Call
 returns-in-Call g c = subst (λ (m : Message). Hears g.D.Disk.state c.args.self.now c.call.new.self m c.call.result) (sym c.in-Call.is) (c.call.ensures _)

@@ -4,7 +4,7 @@ use Rattle.local_tables.specs.Calls.{effect}
 use Rattle.local_txn.specs.OpenTickets.{opening_of}
 use Rattle.local_txn.specs.Answers.{owner_by}
 use Rattle.resource_store.specs.Keeping.{known}
-use Rattle.resource_core.proofs.OpenAnswers.{opened_last, opened_now, call_asks, call_fails, at_means, at_opens}
+use Rattle.resource_core.proofs.OpenAnswers.{opened_last, opened_now, call_asks, call_fails, at_means, at_opens, at_within}
 use Rattle.resource_core.proofs.branches.Branches.open_at.Goals as goal
 
 pub phase_one-requires-clause-statements : goal.phase_one-requires-clause-statements
@@ -29,6 +29,7 @@ returns-in-Ok g c =
     (effect (known c.args.self.now.store).tables c.args.stmts.now)
     (at_means g.D.Disk.state c.args.self.now c.phase_one.new.txns c.requires.ready.up c.requires.ready.numbered c.args.caller c.args.stmts.now)
     (at_opens g.D.Disk.state c.args.self.now c.phase_one.new.txns c.requires.ready.up c.requires.ready.numbered c.args.caller c.args.stmts.now)
+    (at_within g.D.Disk.state c.args.self.now c.phase_one.new.txns c.requires.ready.up c.requires.ready.numbered c.args.caller c.args.stmts.now c.requires.fresh.of_one)
     c.in-Ok.ticket c.in-Ok.ensures c.register.new.self c.register.result
     (c.register.ensures c.args.self.now.txns
     (opening_of c.in-Ok.ticket (owner_by c.args.caller.xid.0 c.args.caller.manager c.args.caller.call (work.At c.args.stmts.now)) c.in-Ok.ensures.effect) refl c.in-Ok.ensures.opens)
@@ -39,4 +40,5 @@ returns-in-Err g c =
     (effect (known c.args.self.now.store).tables c.args.stmts.now)
     (at_means g.D.Disk.state c.args.self.now c.phase_one.new.txns c.requires.ready.up c.requires.ready.numbered c.args.caller c.args.stmts.now)
     (at_opens g.D.Disk.state c.args.self.now c.phase_one.new.txns c.requires.ready.up c.requires.ready.numbered c.args.caller c.args.stmts.now)
+    (at_within g.D.Disk.state c.args.self.now c.phase_one.new.txns c.requires.ready.up c.requires.ready.numbered c.args.caller c.args.stmts.now c.requires.fresh.of_one)
     c.in-Err.error c.not_opened.result c.in-Err.ensures c.not_opened.ensures

@@ -1,0 +1,15 @@
+-- What a resource's answers leave of what it is ready for.
+use Rattle.std.specs.Prelude.{◌≡◌, ◌<◌, ◌-◌, ◌^◌, false, Result}
+use Rattle.disk_model.specs.Disk.{DiskState}
+use Rattle.seata_types.specs.declared.errors.NodeError.{NodeError}
+use Rattle.seata_types.specs.declared.messages.Input.{Input}
+use Rattle.seata_types.specs.declared.messages.Step.{Step}
+use Rattle.resource_store.specs.Keeping.{is_down}
+use Rattle.resource_core.specs.Ready.{IsReady, Serves}
+use Rattle.resource_core.specs.Stepping.{Answers}
+use Rattle.resource_core.specs.declared.branches.Branches.{Branches}
+
+-- a resource that was ready is ready again after it answered, unless its disks failed, while tickets are left
+abbrev pub StaysReady : {D : Type 0} → (D → DiskState) → Type 0
+StaysReady {D} state = (old new : Branches D) (given : Input) (result : Result Step NodeError) → Answers state old new given result → IsReady old → Serves given
+    → is_down new.store ≡ false → new.txns.opened < 2 ^ 32 - 1 → IsReady new
