@@ -20,3 +20,5 @@ pub mod CountLaws
 pub mod ReadyLaws
 pub mod TicketLists
 pub mod StayReady
+pub mod QuietLaws
+pub mod HappensLaws

@@ -4,3 +4,4 @@ pub mod Holding
 pub mod Ready
 pub mod Stepping
 pub mod Laws
+pub mod Standing
