@@ -1,0 +1,2 @@
+mod Reacted
+pub mod Kept

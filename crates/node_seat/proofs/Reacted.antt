@@ -1,0 +1,85 @@
+-- What a node does at an event.
+use Rattle.std.proofs.Common.{◌≡◌, ℕ, Bool, true, false, List, ◌∷◌, Option, Result, Ok, Err, IfOk, refl, ap, sym, subst, ◌∙◌}
+use Rattle.std.proofs.lemmas.Bool.{false≢true}
+use Rattle.journal_checkpoint.specs.Images.{Pair}
+use Rattle.seata_types.specs.declared.acts.Act.TheVariants as act
+use Rattle.seata_types.specs.declared.acts.Durable.{Durable}
+use Rattle.seata_types.specs.declared.errors.NodeError.{NodeError}
+use Rattle.seata_types.specs.declared.errors.NodeError.TheVariants as error
+use Rattle.seata_types.specs.declared.ids.Place.{Place}
+use Rattle.seata_types.specs.declared.messages.Input.{Input}
+use Rattle.seata_types.specs.declared.messages.Step.{Step}
+use Rattle.history_rules.specs.Own.{Event, Given, Stopped, Crashed, Own, still}
+use Rattle.history_rules.specs.Devices.{is_down, last_pick}
+use Rattle.history_rules.specs.Nodes.{Role, Coordinator, Resource, Manager, ComesTo, Happens, happens}
+use Rattle.history_text.specs.Durable.{HavePick, SamePicks}
+use Rattle.history_text.specs.Promises.{AfterError, cut, has_disks, own_entry}
+use Rattle.node_seat.specs.declared.faults.RunFault.{RunFault}
+use Rattle.node_seat.specs.Entering.{Does, HaveLast, IsStepOf}
+
+tells_same : (pick : ℕ) (old new : Pair) → SamePicks old new → HavePick pick old → HavePick pick new
+tells_same pick old new same have = (λ told e. have.0 told (sym same.first ∙ e), λ told e. have.1 told (sym same.second ∙ e))
+
+picks_stay : (old new : Pair) → SamePicks old new → (last : Option ℕ) → HaveLast last old → HaveLast last new
+picks_stay old new same last have pick e = tells_same pick old new same (have pick e)
+
+-- a stop comes to a node that has disks
+stop_comes : (role : Role) (calls : ℕ) → has_disks role ≡ true → ComesTo role (Stopped calls)
+stop_comes (Coordinator times past) calls has = tt
+stop_comes (Resource setup past) calls has = tt
+stop_comes (Manager settings) calls has = absurd (false≢true has)
+
+happened : (role : Role) (os : List Own) (now : ℕ) (event : Event) (step : Step) (failed keeps : Bool) → ComesTo role event → step ≡ happens role os now failed keeps event → Happens role os now event step
+happened role os now event step failed keeps comes done = record { fault = failed; keeps = keeps; comes = comes; done = done }
+
+-- while a node is down an input and a stop are lost
+lost_given : (role : Role) (os : List Own) (now : ℕ) (given : Input) → is_down os ≡ true → still act.Lost ≡ happens role os now false false (Given given)
+lost_given role os now given down = rw down refl
+
+lost_stop : (role : Role) (os : List Own) (now calls : ℕ) → is_down os ≡ true → still act.Lost ≡ happens role os now false false (Stopped calls)
+lost_stop role os now calls down = rw down refl
+
+module _ {N : Type 0} (stands_for : N → Role → List Own → Type 0) (disks : N → Pair) where
+  -- an input or a stop is lost on a node
+  lost : (n : N) (event : Event) (now : ℕ) (result : Step) → ((role : Role) (os : List Own) → stands_for n role os → ComesTo role event)
+      → ((role : Role) (os : List Own) → stands_for n role os → (still act.Lost ≡ happens role os now false false event) × stands_for n role (own_entry event now (still act.Lost) ∷ os))
+      → ((os : List Own) → last_pick (own_entry event now (still act.Lost) ∷ os) ≡ last_pick os) → result ≡ still act.Lost → Does stands_for disks n n event now result
+  lost n event now result comes does picks is = record {
+    reacts = λ told role os st. let d = does role os st in
+        (happened role os now event result false false (comes role os st) (is ∙ d.0), subst (λ x. stands_for n role (own_entry event now x ∷ os)) (sym is) d.1);
+    picked = λ told role os st have. subst (λ l. HaveLast l (disks n)) (sym (ap (λ (x : Step). last_pick (own_entry event now x ∷ os)) is ∙ picks os)) have;
+  }
+
+  -- a step whose disks failed
+  module _ (at : N → Place) (needs : N → ℕ → ℕ) (size : N → ℕ) (old new : N) (given : Input) (now : ℕ) (failed : Type 0) (same : SamePicks (disks old) (disks new)) where
+    fell : (flight : Durable) (step : Step) → AfterError stands_for failed (needs old) (size old) old new given now (error.Failed flight) → step ≡ cut flight
+        → Does stands_for disks old new (Given given) now step
+    fell flight step after is = record {
+      reacts = λ told role os st. let f = after role os st in
+          (happened role os now (Given given) step true false tt (is ∙ f.0), subst (λ x. stands_for new role (own_entry (Given given) now x ∷ os)) (sym is) f.1);
+      picked = λ told role os st have. picks_stay (disks old) (disks new) same (last_pick os) have;
+    }
+
+    pub step_ok : (e : NodeError) (r : Result Step RunFault) → AfterError stands_for failed (needs old) (size old) old new given now e → IsStepOf (at old) e r
+        → IfOk r (Does stands_for disks old new (Given given) now)
+    step_ok (error.Failed flight) (Ok step) after is = fell flight step after cc
+    step_ok (error.Full full) (Ok step) after is = absurd cc
+    step_ok error.NoMemory (Ok step) after is = absurd cc
+    step_ok e (Err missed) after is = tt
+
+module _ {N : Type 0} (stands_for : N → Role → List Own → Type 0) (disks : N → Pair) (down : N → Bool)
+    (downs : (n : N) (role : Role) (os : List Own) → stands_for n role os → down n ≡ is_down os)
+    (loses : (n : N) (role : Role) (os : List Own) (now : ℕ) → stands_for n role os → down n ≡ true →
+    ((given : Input) → stands_for n role (own_entry (Given given) now (still act.Lost) ∷ os))
+    × ((calls : ℕ) → stands_for n role (own_entry (Stopped calls) now (still act.Lost) ∷ os))
+    × stands_for n role (own_entry Crashed now (still act.Lost) ∷ os)) where
+  pub loses_given : (n : N) (given : Input) (now : ℕ) (result : Step) → down n ≡ true → result ≡ still act.Lost → Does stands_for disks n n (Given given) now result
+  loses_given n given now result is_lost is =
+      lost stands_for disks n (Given given) now result (λ role os st. tt)
+      (λ role os st. (lost_given role os now given (sym (downs n role os st) ∙ is_lost), (loses n role os now st is_lost).0 given)) (λ os. refl) is
+
+  pub loses_stop : (stops : N → Bool) → ((n : N) (role : Role) (os : List Own) → stands_for n role os → stops n ≡ has_disks role)
+      → (n : N) (calls now : ℕ) (result : Step) → stops n ≡ true → down n ≡ true → result ≡ still act.Lost → Does stands_for disks n n (Stopped calls) now result
+  loses_stop stops with_disks n calls now result has is_lost is =
+      lost stands_for disks n (Stopped calls) now result (λ role os st. stop_comes role calls (sym (with_disks n role os st) ∙ has))
+      (λ role os st. (lost_stop role os now calls (sym (downs n role os st) ∙ is_lost), (loses n role os now st is_lost).1 calls)) (λ os. refl) is

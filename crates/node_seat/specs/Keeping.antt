@@ -1,0 +1,53 @@
+-- What a seat keeps: there are moments whose entries its trace is, legal for its node alone, and the node is what they replay to.
+use Rattle.std.specs.Prelude.{◌≡◌, ◌<◌, ◌≤◌, ℕ, true, List, [], All, Option, Some, None}
+use Rattle.journal_checkpoint.specs.Images.{Pair}
+use Rattle.seata_types.specs.declared.messages.Input.{Input}
+use Rattle.seata_types.specs.declared.messages.Input.TheVariants as input
+use Rattle.history_rules.specs.Own.{Own}
+use Rattle.history_rules.specs.Nodes.{Role, World, Past, role_at}
+use Rattle.history_rules.specs.Histories.{Moment, own}
+use Rattle.history_text.specs.declared.entries.Cause.{Cause}
+use Rattle.history_text.specs.declared.entries.Cause.TheVariants as cause
+use Rattle.history_text.specs.declared.entries.Entry.{Entry}
+use Rattle.history_text.specs.History.{entries}
+use Rattle.history_text.specs.Promises.{AreTold, has_disks, place_of}
+use Rattle.node_seat.specs.Traces.{Alone}
+use Rattle.node_seat.specs.declared.stations.Station.{Station}
+
+-- these moments are of a node of this role, which they replay to, and the trace is what is printed of them
+pub record Keeps {N : Type 0} (stands_for : N → Role → List Own → Type 0) (node : N) (trace : List Entry) (role : Role) (ms : List Moment) : Type 0 where
+  pub printed : trace ≡ entries ms
+  pub alone : Alone role (place_of role) ms
+  pub stands : stands_for node role (own (place_of role) ms)
+
+-- a station has a role of the run, and keeps some moments; where it has disks, this is said where they tell their bytes
+abbrev pub KeepsSome : {N : Type 0} → (N → Role → List Own → Type 0) → (N → Pair) → World → Past → Station N → Type 0
+KeepsSome stands_for disks w past s =
+    (role : Role) × (role_at w past (place_of role) ≡ Some role)
+    × ((has_disks role ≡ true → AreTold (disks s.node)) → (ms : List Moment) × Keeps stands_for s.node s.trace.items role ms)
+
+-- what a cause gives to a node: a turn, a message that was sent at a lesser stamp by the place that it names, a local
+-- transaction, or what happens to its disks
+abbrev pub IsInputOf : (stamp : ℕ) → Cause → Option Input → Type 0
+IsInputOf stamp cause.Turn (Some input.Turn) = Unit {0}
+IsInputOf stamp (cause.Deliver sent from) (Some (input.Message sender heard)) = (sent < stamp) × (sender ≡ from)
+IsInputOf stamp (cause.Local number) (Some (input.Local given)) = given ≡ number
+IsInputOf stamp (cause.Outside number) (Some (input.Outside given)) = given ≡ number
+IsInputOf stamp (cause.Stop calls) None = Unit {0}
+IsInputOf stamp cause.Crash None = Unit {0}
+IsInputOf stamp (cause.Restart pick calls) None = Unit {0}
+IsInputOf stamp _ _ = ⊥
+
+-- an entry with this stamp and moment may come behind an older one
+pub record IsBehind (stamp now : ℕ) (older : Entry) : Type 0 where
+  pub stamp_rises : older.stamp < stamp
+  pub clock_rises : older.now ≤ now
+
+-- the next entry of a trace may have this stamp, moment, cause and input
+pub record IsNext (trace : List Entry) (stamp now : ℕ) (why : Cause) (given : Option Input) : Type 0 where
+  pub behind : All (IsBehind stamp now) trace
+  pub input : IsInputOf stamp why given
+
+-- a node of a run that did nothing yet
+abbrev pub IsFresh : {N : Type 0} → (N → Role → List Own → Type 0) → World → Past → N → Type 0
+IsFresh stands_for w past node = (role : Role) × (role_at w past (place_of role) ≡ Some role) × stands_for node role []

@@ -1,0 +1,44 @@
+-- Traces: the moments of one node, newest first, and which are legal for it alone.
+use Rattle.std.specs.Prelude.{◌≡◌, ◌<◌, ◌≤◌, ℕ, List, [], ◌∷◌, Option, Some, None}
+use Rattle.seata_types.specs.declared.ids.Place.{Place}
+use Rattle.seata_types.specs.declared.messages.Input.TheVariants as input
+use Rattle.seata_types.specs.declared.messages.Message.{Message}
+use Rattle.seata_types.specs.declared.messages.Step.{Step}
+use Rattle.history_rules.specs.Own.{Event, Given, Stopped, Crashed, Restarted, Own}
+use Rattle.history_rules.specs.Nodes.{Role, Happens}
+use Rattle.history_rules.specs.Histories.{Cause, Turn, Deliver, Stop, Crash, Restart, Local, Outside, Moment, own, last_now, ReceivesLater}
+
+-- a stamp is greater than that of the newest moment
+abbrev pub IsAfter : List Moment → ℕ → Type 0
+IsAfter [] stamp = Unit {0}
+IsAfter (m ∷ ms) stamp = m.stamp < stamp
+
+-- the events that a cause brings to a node, some message of the place that it names among them
+abbrev pub Brings : Cause → Option Event → Type 0
+Brings Turn event = event ≡ Some (Given input.Turn)
+Brings (Deliver stamp from) event = (heard : Message) × (event ≡ Some (Given (input.Message from heard)))
+Brings (Stop calls) event = event ≡ Some (Stopped calls)
+Brings Crash event = event ≡ Some Crashed
+Brings (Restart pick calls) event = event ≡ Some (Restarted pick calls)
+Brings (Local number) event = event ≡ Some (Given (input.Local number))
+Brings (Outside number) event = event ≡ Some (Given (input.Outside number))
+Brings _ event = ⊥
+
+abbrev pub IsDone : Role → List Own → ℕ → Option Event → Step → Type 0
+IsDone role owns now (Some event) step = Happens role owns now event step
+IsDone role owns now None step = ⊥
+
+-- a moment of a node may come after these: stamps rise, a message is received after it was sent, its clock doesn't fall, the
+-- cause brings the event, and what is done may happen
+pub record StandsAlone (role : Role) (p : Place) (ms : List Moment) (m : Moment) : Type 0 where
+  pub here : m.place ≡ p
+  pub rises : IsAfter ms m.stamp
+  pub receives_later : ReceivesLater m.cause m.stamp
+  pub clock_rises : last_now (own p ms) ≤ m.now
+  pub brought : Brings m.cause m.event
+  pub done : IsDone role (own p ms) m.now m.event m.step
+
+-- each moment of a trace stands after those before it
+abbrev pub Alone : Role → Place → List Moment → Type 0
+Alone role p [] = Unit {0}
+Alone role p (m ∷ ms) = Alone role p ms × StandsAlone role p ms m
