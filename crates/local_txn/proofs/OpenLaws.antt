@@ -4,7 +4,7 @@ use Rattle.std.specs.Prelude.{min, ◌^◌}
 use Rattle.seata_types.specs.declared.ids.Ticket.{Ticket}
 use Rattle.seata_types.specs.declared.rows.RowKey.{RowKey}
 use Rattle.durable_records.specs.Branches.{same_ticket}
-use Rattle.local_txn.specs.OpenTickets.{AreDistinct, Open, open_at, without, with_first, counting, has_row, ticket_with}
+use Rattle.local_txn.specs.OpenTickets.{AreDistinct, Open, open_at, last_of, without, with_first, counting, has_row, ticket_with}
 use Rattle.local_txn.specs.Answers.{ticket_of}
 use Rattle.local_txn.specs.RowIndex.{IsCounted, AreApart, without_first}
 use Rattle.local_txn.proofs.Tests.{false_true, true_false, none_some, one_ticket, ticket_itself, cond_true, cond_false}
@@ -64,6 +64,18 @@ first_is_all (x ∷ xs) t d = by (first_is_all xs t d.0) (same_ticket x.ticket t
         ap (λ b. cond b xs (x ∷ without_first t xs)) p ∙ sym (without_none xs t none) ∙ sym (ap (λ b. cond (not b) (x ∷ without xs t) (without xs t)) p)
     by later false p =
         ap (λ b. cond b xs (x ∷ without_first t xs)) p ∙ ap (λ rest. x ∷ rest) later ∙ sym (ap (λ b. cond (not b) (x ∷ without xs t) (without xs t)) p)
+
+-- the last one is found at its ticket
+pub last_found : (opens : List Open) → AreDistinct opens → (o : Open) → last_of opens ≡ Some o → open_at opens o.ticket ≡ Some o
+last_found [] d o e = none_some e
+last_found (x ∷ []) d o e =
+    subst (λ (p : Open). open_at (x ∷ []) p.ticket ≡ Some p) (some_is x o e) (cond_true (same_ticket x.ticket x.ticket) (Some x) None (ticket_itself x.ticket))
+last_found (x ∷ y ∷ ys) d o e = by (last_found (y ∷ ys) d.0 o e) (same_ticket x.ticket o.ticket) refl
+  where
+    by : open_at (y ∷ ys) o.ticket ≡ Some o → (b : Bool) → same_ticket x.ticket o.ticket ≡ b → cond (same_ticket x.ticket o.ticket) (Some x) (open_at (y ∷ ys) o.ticket) ≡ Some o
+    by later true p =
+        let none : open_at (y ∷ ys) o.ticket ≡ None = ap (open_at (y ∷ ys)) (sym (one_ticket x.ticket o.ticket p)) ∙ d.1 in none_some (sym none ∙ later)
+    by later false p = cond_false (same_ticket x.ticket o.ticket) (Some x) (open_at (y ∷ ys) o.ticket) p ∙ later
 
 pub distinct : (boot opened : ℕ) (opens : List Open) → AreApart boot opened opens → AreDistinct opens
 distinct boot opened [] a = tt

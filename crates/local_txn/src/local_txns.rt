@@ -40,11 +40,11 @@ impl Model for LocalTxns {
 }
 
 impl LocalTxns {
-    ghost use Rattle.std.specs.Prelude.{◌≡◌, ◌<◌, ◌≤◌, ◌^◌, ◌-◌, true, None, is_some, length, find, option_map, OnOk, OnErr, IfOk};
+    ghost use Rattle.std.specs.Prelude.{◌≡◌, ◌<◌, ◌≤◌, ◌^◌, ◌-◌, true, Some, None, is_some, length, find, option_map, OnOk, OnErr, IfOk};
     ghost use Rattle.std.specs.Option.{option_copied};
     ghost use Rattle.seata_types.specs.declared.statements.Work.TheVariants as work;
     ghost use Rattle.local_tables.specs.Calls.{effect};
-    ghost use Rattle.local_txn.specs.OpenTickets.{AreDistinct, open_at, without, sent_again, last_of, has_row, ticket_with};
+    ghost use Rattle.local_txn.specs.OpenTickets.{AreDistinct, Open, open_at, without, sent_again, last_of, has_row, ticket_with};
     ghost use Rattle.local_txn.specs.Answers.{open_of, owner_by, is_for, ticket_of, no_tickets, new_ticket, last_ticket, with_open, with_opens, taken_back, raised, counted, Executes, Prepares, TakesBack};
     ghost use Rattle.seata_types.specs.declared.rows.RowKey.{RowKey as Key};
 
@@ -144,9 +144,11 @@ impl LocalTxns {
         self.rows.get(key).copied()
     }
 
-    /// The open ticket that was sent longest ago; none exactly where none is open. Takes no memory.
+    /// The open ticket that was sent longest ago; none exactly where none is open. Each ticket is open once. Takes no memory.
     pub fn next_to_send(&self) -> Option<Ticket>
-        ensures { result ≡ option_map ticket_of (last_of self.now.opens) }
+        ensures last { result ≡ option_map ticket_of (last_of self.now.opens) }
+        ensures once { AreDistinct self.now.opens }
+        ensures found { (o : Open) → last_of self.now.opens ≡ Some o → open_at self.now.opens o.ticket ≡ Some o }
     {
         order::last(&self.txns)
     }
@@ -180,14 +182,6 @@ impl LocalTxns {
         ensures counted { self.new ≡ with_opens self.old (counted (open_at self.old.opens ticket) ticket self.old.opens) }
     {
         order::count_conflict(&mut self.txns, ticket)
-    }
-
-    /// How many tickets were opened since the boot. Each of those that are open is open once. Takes no memory.
-    pub fn opened(&self) -> u32
-        ensures count { result ≡ self.now.opened }
-        ensures distinct { AreDistinct self.now.opens }
-    {
-        self.opened
     }
 
     // Opens a ticket whose rows are free, and makes it the one that was sent last. Without memory all is as before.
