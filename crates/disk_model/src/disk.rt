@@ -4,7 +4,8 @@ ghost use Rattle.disk_model.specs.Disk.{DiskState, IsLawful, SameKind, KeepsRest
 
 use crate::errors::Failed;
 
-/// The greatest pick of a restart: 0 and 1, and then one for each byte.
+/// The greatest pick of a restart for the bytes that a crash left open: 0 the old ones, 1 the new ones, and from 2 on one
+/// value for all of them.
 pub const LAST_PICK: u16 = 257;
 
 /// A disk of bytes. What is written is pending until a sync: a crash may change each pending byte to anything, and

@@ -5,10 +5,11 @@ use Rattle.std.specs.List.{position, list_any}
 use Rattle.std.specs.Prelude.{if◌then◌else◌, All, codes}
 use Rattle.serde_json.specs.Data.{Data, Items}
 use Rattle.serde_json.specs.Find.{get, as_str}
+use Rattle.disk_model.specs.declared.disk.TheConstants.{LAST_PICK}
 use Rattle.seata_types.specs.Orders.{same_text}
 use Rattle.seata_types.specs.declared.ids.Place.{Place}
 use Rattle.seata_types.specs.declared.ids.Place.TheVariants as place
-use Rattle.seata_types.specs.declared.limits.TheConstants.{PICK, SCHEDULE_MEMBERS, STEPS, STOP_CALLS, TICKS}
+use Rattle.seata_types.specs.declared.limits.TheConstants.{SCHEDULE_MEMBERS, STEPS, STOP_CALLS, TICKS}
 use Rattle.scenario_reader.specs.declared.scenarios.ManagerDef.{ManagerDef}
 use Rattle.scenario_reader.specs.declared.scenarios.ResourceDef.{ResourceDef}
 use Rattle.scenario_reader.specs.declared.scenarios.ScheduleItem.{ScheduleItem}
@@ -75,11 +76,11 @@ stop_ok resources d s e =
     let parts = bind_ok (triple d) _ _ e in
     let at = bind_ok (within (to_item 0) (form.stopped resources parts.0.0)) _ _ parts.2 in
     let calls = bind_ok (within (to_item 1) (number_in 0 STOP_CALLS parts.0.1)) _ _ at.2 in
-    let pick = bind_ok (within (to_item 2) (number_in 0 PICK parts.0.2)) _ _ calls.2 in
+    let pick = bind_ok (within (to_item 2) (number_in 0 LAST_PICK parts.0.2)) _ _ calls.2 in
     let named = bind_ok (text_by (as_str parts.0.0)) (form.stopped_in resources) at.0 (within_ok (to_item 0) (form.stopped resources parts.0.0) at.0 at.1) in
     let word = if_ok _ _ _ _ named.2 in
     let most = number_in_ok 0 STOP_CALLS parts.0.1 calls.0 (within_ok (to_item 1) _ _ calls.1) in
-    let last = number_in_ok 0 PICK parts.0.2 pick.0 (within_ok (to_item 2) _ _ pick.1) in
+    let last = number_in_ok 0 LAST_PICK parts.0.2 pick.0 (within_ok (to_item 2) _ _ pick.1) in
     subst (IsStop (length resources)) (same_ok (at.0, calls.0, pick.0) s pick.2) (server_ok resources named.0 at.0 word.1, most.1, last.1)
 
 pub stops_ok : (resources : List ResourceDef) (d : Option Data) (found : List (Place × ℕ × ℕ)) → form.stops resources d ≡ Ok found → All (IsStop (length resources)) found
@@ -142,8 +143,8 @@ unfolding steps.plain_restart
 plain_restart_ok resources users count name more x e =
     let shape = if_ok _ _ _ _ e in
     let at = bind_ok (form.server resources name) _ _ shape.1 in
-    let pick = bind_ok (plain_number 0 PICK more) _ _ at.2 in
-    let last = plain_number_ok 0 PICK more pick.0 pick.1 in
+    let pick = bind_ok (plain_number 0 LAST_PICK more) _ _ at.2 in
+    let last = plain_number_ok 0 LAST_PICK more pick.0 pick.1 in
     subst (FitsNodes (length resources) users count) (same_ok (step.Restart at.0 pick.0 None) x pick.2) (server_ok resources name at.0 at.1, last.1, tt)
 
 armed_restart_ok : (resources : List ResourceDef) (users count : ℕ) (name more : List ℕ) (x : ScheduleItem) → steps.armed_restart resources name more ≡ Ok x
@@ -152,9 +153,9 @@ unfolding steps.armed_restart
 armed_restart_ok resources users count name more x e =
     let shape = if_ok _ _ _ _ e in
     let at = bind_ok (form.server resources name) _ _ shape.1 in
-    let pick = bind_ok (plain_number 0 PICK (steps.front more)) _ _ at.2 in
+    let pick = bind_ok (plain_number 0 LAST_PICK (steps.front more)) _ _ at.2 in
     let k = bind_ok (plain_number 0 STOP_CALLS (steps.behind more)) _ _ pick.2 in
-    let last = plain_number_ok 0 PICK (steps.front more) pick.0 pick.1 in
+    let last = plain_number_ok 0 LAST_PICK (steps.front more) pick.0 pick.1 in
     let most = plain_number_ok 0 STOP_CALLS (steps.behind more) k.0 k.1 in
     subst (FitsNodes (length resources) users count) (same_ok (step.Restart at.0 pick.0 (Some k.0)) x k.2) (server_ok resources name at.0 at.1, last.1, most.1)
 

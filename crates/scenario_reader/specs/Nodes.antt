@@ -2,10 +2,11 @@
 use Rattle.std.specs.Prelude.{ℕ, ◌+◌, if◌then◌else◌, List, [], position, Option, Some, None, Ok, codes}
 use Rattle.serde_json.specs.Data.{Data}
 use Rattle.serde_json.specs.Find.{as_str}
+use Rattle.disk_model.specs.declared.disk.TheConstants.{LAST_PICK}
 use Rattle.seata_types.specs.Orders.{same_text}
 use Rattle.seata_types.specs.declared.ids.Place.{Place}
 use Rattle.seata_types.specs.declared.ids.Place.TheVariants as place
-use Rattle.seata_types.specs.declared.limits.TheConstants.{PICK, STOP_CALLS}
+use Rattle.seata_types.specs.declared.limits.TheConstants.{STOP_CALLS}
 use Rattle.scenario_reader.specs.declared.scenarios.ManagerDef.{ManagerDef}
 use Rattle.scenario_reader.specs.declared.scenarios.ResourceDef.{ResourceDef}
 use Rattle.scenario_reader.specs.Faults.{Outcome, ◌>>=◌, wrong_shape, wrong_name, within, to_item, each, text_by, any_list, triple}
@@ -47,7 +48,7 @@ stop resources d = do
   parts ← triple d
   at ← within (to_item 0) (stopped resources parts.0)
   calls ← within (to_item 1) (number_in 0 STOP_CALLS parts.1)
-  pick ← within (to_item 2) (number_in 0 PICK parts.2)
+  pick ← within (to_item 2) (number_in 0 LAST_PICK parts.2)
   Ok (at, calls, pick)
 
 abbrev pub next_stop : List ResourceDef → List (Place × ℕ × ℕ) → Data → Outcome (Place × ℕ × ℕ)

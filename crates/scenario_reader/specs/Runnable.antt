@@ -1,8 +1,9 @@
 -- What holds of every scenario that is read: a run of it finds each node, each table and each number that it names.
 use Rattle.std.specs.Prelude.{◌≡◌, ◌≤◌, ℕ, List, ◌++◌, length, map, All, Option, Some, None}
+use Rattle.disk_model.specs.declared.disk.TheConstants.{LAST_PICK}
 use Rattle.seata_types.specs.declared.ids.Place.{Place}
 use Rattle.seata_types.specs.declared.ids.Place.TheVariants as place
-use Rattle.seata_types.specs.declared.limits.TheConstants.{CALLS, DISK_LEAST, DISK_MOST, LOCALS, LOCK_TRIES, MANAGERS, PICK, RESOURCES, SCHEDULE_MEMBERS, SILENT, STEPS, STOP_CALLS, TICKS}
+use Rattle.seata_types.specs.declared.limits.TheConstants.{CALLS, DISK_LEAST, DISK_MOST, LOCALS, LOCK_TRIES, MANAGERS, RESOURCES, SCHEDULE_MEMBERS, SILENT, STEPS, STOP_CALLS, TICKS}
 use Rattle.scenario_reader.specs.declared.scenarios.ManagerDef.{ManagerDef}
 use Rattle.scenario_reader.specs.declared.scenarios.ResourceDef.{ResourceDef}
 use Rattle.scenario_reader.specs.declared.scenarios.Scenario.{Scenario}
@@ -68,7 +69,7 @@ IsPlaceAmong servers users place.Net = ⊥
 
 -- a stop: a node with disks, how many calls of them it makes, and the pick of its restart
 abbrev pub IsStop : ℕ → Place × ℕ × ℕ → Type 0
-IsStop servers stop = IsServerAmong servers stop.0 × (stop.1 ≤ STOP_CALLS) × (stop.2 ≤ PICK)
+IsStop servers stop = IsServerAmong servers stop.0 × (stop.1 ≤ STOP_CALLS) × (stop.2 ≤ LAST_PICK)
 
 -- a step for one of so many resources, managers or locals, with numbers within their limits
 abbrev pub FitsNodes : (servers users locals : ℕ) → ScheduleItem → Type 0
@@ -77,7 +78,7 @@ FitsNodes servers users locals (step.Deliver stamp) = IsBetween 1 STEPS stamp
 FitsNodes servers users locals (step.Wait ticks) = IsBetween 1 TICKS ticks
 FitsNodes servers users locals (step.Stop place calls) = IsServerAmong servers place × (calls ≤ STOP_CALLS)
 FitsNodes servers users locals (step.Crash place) = IsServerAmong servers place
-FitsNodes servers users locals (step.Restart place pick calls) = IsServerAmong servers place × (pick ≤ PICK) × IsAtMost STOP_CALLS calls
+FitsNodes servers users locals (step.Restart place pick calls) = IsServerAmong servers place × (pick ≤ LAST_PICK) × IsAtMost STOP_CALLS calls
 FitsNodes servers users locals (step.Local number) = IsBetween 1 locals number
 FitsNodes servers users locals (step.Outside number) = IsBetween 1 locals number
 FitsNodes servers users locals (step.Auto steps) = IsBetween 1 STEPS steps

@@ -3,9 +3,10 @@ use Rattle.std.specs.Prelude.{ℕ, ◌+◌, ◌==◌, ◌&&◌, nat_le, Bool, tr
 use Rattle.std.specs.List.{list_any, before_first, after_first}
 use Rattle.serde_json.specs.Data.{Data}
 use Rattle.serde_json.specs.Find.{as_str}
+use Rattle.disk_model.specs.declared.disk.TheConstants.{LAST_PICK}
 use Rattle.seata_types.specs.Orders.{same_text}
 use Rattle.seata_types.specs.declared.ids.Place.{Place}
-use Rattle.seata_types.specs.declared.limits.TheConstants.{PICK, SCHEDULE_MEMBERS, STEPS, STOP_CALLS, TICKS}
+use Rattle.seata_types.specs.declared.limits.TheConstants.{SCHEDULE_MEMBERS, STEPS, STOP_CALLS, TICKS}
 use Rattle.scenario_reader.specs.declared.scenarios.ManagerDef.{ManagerDef}
 use Rattle.scenario_reader.specs.declared.scenarios.ResourceDef.{ResourceDef}
 use Rattle.scenario_reader.specs.declared.scenarios.ScheduleItem.{ScheduleItem}
@@ -58,13 +59,13 @@ crash resources rest = if is_word rest then server resources rest >>= (λ at. Ok
 abbrev pub restart_at : List ResourceDef → List ℕ → List ℕ → Outcome ScheduleItem
 restart_at resources name picked = do
   at ← server resources name
-  pick ← plain_number 0 PICK picked
+  pick ← plain_number 0 LAST_PICK picked
   Ok (step.Restart at pick None)
 
 abbrev pub armed_restart_at : List ResourceDef → List ℕ → List ℕ → List ℕ → Outcome ScheduleItem
 armed_restart_at resources name picked number = do
   at ← server resources name
-  pick ← plain_number 0 PICK picked
+  pick ← plain_number 0 LAST_PICK picked
   k ← plain_number 0 STOP_CALLS number
   Ok (step.Restart at pick (Some k))
 

@@ -10,7 +10,8 @@ use crate::names::{is_word, manager_position, resource_position};
 use crate::numbers::number_in;
 use crate::scenarios::{ManagerDef, ResourceDef};
 use crate::shapes::{any_list, text_in, triple};
-use seata_types::limits::{PICK, STOP_CALLS};
+use disk_model::LAST_PICK;
+use seata_types::limits::STOP_CALLS;
 use seata_types::{List, Place};
 use serde_json::Value;
 use std::alloc::Global;
@@ -81,7 +82,9 @@ fn stop(
     let calls = number_in(alloc, 0, STOP_CALLS as u64, second).map_err(|fault| fault.in_item(
         alloc, 1,
     ))?;
-    let pick = number_in(alloc, 0, PICK as u64, third).map_err(|fault| fault.in_item(alloc, 2))?;
+    let pick = number_in(alloc, 0, LAST_PICK as u64, third).map_err(|fault| fault.in_item(
+        alloc, 2,
+    ))?;
     Ok((place, calls as u32, pick as u16))
 }
 

@@ -11,8 +11,9 @@ use crate::nodes::{node, server};
 use crate::numbers::{is_plain, number_of_text, plain_number};
 use crate::scenarios::{ManagerDef, ResourceDef, ScheduleItem};
 use crate::shapes::{list, text_in};
+use disk_model::LAST_PICK;
 use seata_types::List;
-use seata_types::limits::{PICK, SCHEDULE_MEMBERS, STEPS, STOP_CALLS, TICKS};
+use seata_types::limits::{SCHEDULE_MEMBERS, STEPS, STOP_CALLS, TICKS};
 use serde_json::Value;
 use std::alloc::Global;
 
@@ -127,7 +128,7 @@ fn armed_restart(
         return Err(ScenarioError::shape(alloc));
     }
     let place = server(alloc, resources, name)?;
-    let pick = plain_number(alloc, 0, PICK as u64, picked)? as u16;
+    let pick = plain_number(alloc, 0, LAST_PICK as u64, picked)? as u16;
     let calls = plain_number(alloc, 0, STOP_CALLS as u64, number)? as u32;
     Ok(ScheduleItem::Restart {
         place,
@@ -150,7 +151,7 @@ fn plain_restart(
         return Err(ScenarioError::shape(alloc));
     }
     let place = server(alloc, resources, name)?;
-    let pick = plain_number(alloc, 0, PICK as u64, more)? as u16;
+    let pick = plain_number(alloc, 0, LAST_PICK as u64, more)? as u16;
     Ok(ScheduleItem::Restart {
         place,
         pick,

@@ -48,9 +48,6 @@ pub const LOCK_TRIES: u32 = 1_000;
 pub const SILENT: u32 = 1_000_000;
 /// How many calls of its disk a node may be told to make before it stops.
 pub const STOP_CALLS: u32 = 1_000_000;
-/// What a restart may pick for the bytes that a crash left open: 0 the old ones, 1 the new ones,
-/// and from 2 on one value for all of them.
-pub const PICK: u16 = 257;
 /// A node's disk in bytes, at the least and at the most.
 pub const DISK_LEAST: u64 = 4_096;
 
