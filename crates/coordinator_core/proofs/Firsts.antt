@@ -3,12 +3,15 @@ use Rattle.std.proofs.Common.{◌≡◌, ◌==◌, ◌&&◌, ◌||◌, ◌<◌, 
 use Rattle.std.specs.Prelude.{find, filter, option_map, nat_lt}
 use Rattle.std.proofs.lemmas.Bool.Decides.{nat_tests}
 use Rattle.history_rules.specs.CoordinatorMemory.{or_this, least, sooner, soonest}
-use Rattle.retry_turns.specs.Plans.{goes_before}
+use Rattle.retry_turns.specs.Plans.{goes_before, Plans}
 use Rattle.session_log.specs.SnapshotOf.{in_order}
-use Rattle.session_memory.specs.Lookups.{or_else}
+use Rattle.session_memory.specs.Lookups.{or_else, xid_of}
 use Rattle.session_memory.specs.Order.{Each}
 use Rattle.session_memory.proofs.Small.{true_false, none_some, same_nat}
-use Rattle.session_memory.proofs.Lists.{AreCounted, find_both}
+use Rattle.session_memory.proofs.Lists.{AreCounted, find_both, and_false}
+use Rattle.session_log.specs.declared.sessions.SessionEntry.{SessionEntry}
+use Rattle.session_memory.specs.Changes.{is_finished}
+use Rattle.coordinator_core.specs.Choices.{is_old_entry}
 
 -- ---- the least that passes
 
@@ -116,3 +119,14 @@ module _ (moment : ℕ → Option ℕ) where
       by : (o : Option (ℕ × ℕ)) → o ≡ Some p → IsAmong n o → moment p.0 ≡ Some p.1
       by None e a = none_some e
       by (Some r) e a = let same : r ≡ p = cc in ap (λ (z : ℕ × ℕ). moment z.0) (sym same) ∙ a.0 ∙ ap (λ (z : ℕ × ℕ). Some z.1) same
+
+-- ---- none is old where none is forgotten
+
+none_passes : {X : Type 0} (p : X → Bool) (none : (x : X) → p x ≡ false) (xs : List X) → find p xs ≡ None
+none_passes p none [] = refl
+none_passes p none (x ∷ xs) = ap (λ b. cond b (Some x) (find p xs)) (none x) ∙ none_passes p none xs
+
+pub never_old : (rests : Plans) (forget now : ℕ) (es : List SessionEntry) → forget ≡ 0 → None ≡ option_map xid_of (find (is_old_entry rests forget now) es)
+never_old rests zero now es e =
+    sym (ap (option_map xid_of) (none_passes (is_old_entry rests 0 now) (λ t. and_false (is_finished t.session.status) false refl) es))
+never_old rests (suc forget) now es e = absurd (omega (arith, e))

@@ -65,6 +65,9 @@ pub(crate) fn least_old(
 ) -> Option<Xid>
     ensures { result ≡ option_map xid_of (find (is_old_entry rests.now forget now) sessions.now) }
 {
+    if forget == 0 {
+        return None;
+    }
     for entry in sessions {
         if is_old(entry, rests, forget, now) {
             return Some(entry.xid);
