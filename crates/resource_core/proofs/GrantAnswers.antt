@@ -1,6 +1,5 @@
 -- Grants: the answers of calls on the store are the resource's.
-use Rattle.std.proofs.Common.{◌≡◌, ◌∙◌, true, false, List, Option, Some, None, Result, Ok, Err, refl, sym, ap, subst}
-use Rattle.std.specs.Prelude.{IfSome}
+use Rattle.std.proofs.Common.{◌≡◌, ◌∙◌, true, false, List, Option, Some, Result, Ok, Err, refl, sym, ap, subst}
 use Rattle.std.specs.List.{AllByRecursion}
 use Rattle.disk_model.specs.Disk.{DiskState}
 use Rattle.seata_types.specs.declared.acts.Durable.TheVariants as durable
@@ -17,10 +16,8 @@ use Rattle.seata_types.specs.declared.statements.Work.{Work}
 use Rattle.seata_types.specs.declared.statements.Work.TheVariants as work
 use Rattle.seata_types.specs.declared.statuses.BranchKind.{BranchKind}
 use Rattle.seata_types.specs.declared.statuses.BranchKind.TheVariants as kind
-use Rattle.byte_fields.specs.Parts.{FitsLeg}
 use Rattle.local_tables.specs.Calls.{effect}
-use Rattle.local_tables.specs.Rows.{Database}
-use Rattle.local_txn.specs.OpenTickets.{Open, Owner, OfCall, OfLocal, open_at}
+use Rattle.local_txn.specs.OpenTickets.{Open, Owner, OfCall, open_at}
 use Rattle.local_txn.specs.Answers.{Tickets, with_opens}
 use Rattle.durable_records.specs.Fences.{fence, on_try}
 use Rattle.durable_records.specs.UndoRecords.{undo_of, is_marked}
@@ -29,21 +26,20 @@ use Rattle.resource_store.specs.declared.store.Store.{Store}
 use Rattle.resource_store.specs.Keeping.{setting_of, is_down}
 use Rattle.resource_store.specs.Answers.{GivesBy, Leaves, tables_now}
 use Rattle.at_branch.specs.Grants as at
-use Rattle.at_branch.specs.Grants.{granted, MayCommit}
+use Rattle.at_branch.specs.Grants.{granted}
 use Rattle.at_branch.specs.Steps.{granted_step}
 use Rattle.at_branch.specs.declared.answers.Granted.{Granted}
 use Rattle.at_branch.specs.declared.answers.Granted.TheVariants as grant
 use Rattle.tcc_branch.specs.Tries as tcc
-use Rattle.tcc_branch.specs.Tries.{MayTry}
 use Rattle.tcc_branch.specs.Steps.{try_step}
 use Rattle.tcc_branch.specs.declared.answers.TryAnswer.{TryAnswer}
 use Rattle.tcc_branch.specs.declared.answers.TryAnswer.TheVariants as tries
 use Rattle.resource_core.specs.Holding.{Holds}
-use Rattle.resource_core.specs.Stepping.{Answers, HearsOf, KeepsSettings, DropsOr, TriesOr, after_refusal, is_refusal, caller_at, caller_by, kind_of}
+use Rattle.resource_core.specs.Stepping.{Answers, HearsOf, KeepsSettings, DropsOr, TriesOr, after_refusal, is_refusal, caller_at, kind_of}
 use Rattle.resource_core.specs.Telling.{node_error}
 use Rattle.resource_core.specs.declared.branches.Branches.{Branches}
 use Rattle.resource_core.specs.declared.callers.Caller.{Caller}
-use Rattle.resource_core.proofs.DropLaws.{IsOpenFor, open_for, kind_in}
+use Rattle.resource_core.proofs.DropLaws.{IsOpenFor, open_for}
 use Rattle.resource_core.proofs.GrantLaws.{grant_input, after_grant, after_try, grants, runs_try}
 use Rattle.resource_core.proofs.StoreSteps.{IsRule, answers_ok, answers_err}
 use Rattle.resource_core.proofs.TicketLists.{all_left}

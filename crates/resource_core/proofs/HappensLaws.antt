@@ -1,23 +1,22 @@
 -- What a resource answers is what happens by the rules of all nodes.
-use Rattle.std.proofs.Common.{◌≡◌, ◌∙◌, ℕ, Bool, true, false, cond, List, ◌∷◌, Some, None, Ok, Err, refl, sym, ap, subst}
+use Rattle.std.proofs.Common.{◌≡◌, ◌∙◌, ℕ, Bool, true, false, cond, List, ◌∷◌, Some, None, Ok, refl, sym, ap, subst}
 use Rattle.disk_model.specs.Disk.{DiskState}
 use Rattle.seata_types.specs.declared.acts.Act.{Act}
 use Rattle.seata_types.specs.declared.acts.Act.TheVariants as act
 use Rattle.seata_types.specs.declared.acts.Durable.{Durable}
-use Rattle.seata_types.specs.declared.errors.NodeError.TheVariants as error
 use Rattle.seata_types.specs.declared.messages.Input.{Input}
 use Rattle.seata_types.specs.declared.messages.Step.{Step}
 use Rattle.durable_records.specs.declared.resources.ResourceRecord.{ResourceRecord}
 use Rattle.history_rules.specs.Devices.{down_after, is_down, is_short, written}
 use Rattle.history_rules.specs.Nodes.{Resource, down_answer, given_answer, happens, left_at, up_answer}
 use Rattle.history_rules.specs.Own.{Given, Own, still}
-use Rattle.history_rules.specs.ResourceMemory.{Memory, Setup, memory}
+use Rattle.history_rules.specs.ResourceMemory.{Setup, memory}
 use Rattle.history_rules.specs.ResourceRules.{resource_answer}
 use Rattle.history_text.specs.Promises.{own_step}
 use Rattle.resource_store.specs.Meaning.{Setting}
 use Rattle.resource_core.specs.Holding.{Holds, setup_of}
 use Rattle.resource_core.specs.Setups.{actions_of}
-use Rattle.resource_core.specs.Standing.{AnswersAreSteps, FailuresAreSteps, StandsUp, StepsByRules}
+use Rattle.resource_core.specs.Standing.{AnswersAreSteps, FailuresAreSteps}
 use Rattle.resource_core.specs.Stepping.{Answers}
 use Rattle.resource_core.specs.declared.branches.Branches.{Branches}
 use Rattle.resource_core.proofs.QuietLaws.{answers_stay_up}

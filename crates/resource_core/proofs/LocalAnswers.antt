@@ -1,6 +1,5 @@
 -- Answers to lock queries, as the code makes them.
 use Rattle.std.proofs.Common.{◌≡◌, ◌∙◌, ℕ, false, List, Option, Some, None, Ok, Err, refl, sym, ap, subst}
-use Rattle.std.specs.Prelude.{IfSome}
 use Rattle.std.specs.List.{AllByRecursion}
 use Rattle.disk_model.specs.Disk.{DiskState}
 use Rattle.seata_types.specs.declared.acts.Act.TheVariants as act
@@ -13,15 +12,14 @@ use Rattle.seata_types.specs.declared.messages.Input.TheVariants as input
 use Rattle.seata_types.specs.declared.messages.Message.TheVariants as message
 use Rattle.seata_types.specs.declared.messages.Step.{Step}
 use Rattle.seata_types.specs.declared.rows.RowKey.{RowKey}
-use Rattle.local_tables.specs.Rows.{Database}
-use Rattle.local_txn.specs.OpenTickets.{Open, Owner, OfCall, OfLocal, open_at}
+use Rattle.local_txn.specs.OpenTickets.{Open, open_at}
 use Rattle.local_txn.specs.Answers.{Tickets, with_opens}
 use Rattle.history_rules.specs.Own.{still}
 use Rattle.history_rules.specs.ResourceMemory.{Memory}
 use Rattle.resource_store.specs.declared.store.Store.{Store}
 use Rattle.resource_store.specs.Keeping.{setting_of, is_down}
 use Rattle.resource_store.specs.Answers.{GivesBy, Leaves, tables_now}
-use Rattle.local_guard.specs.Locals.{freed, local_number, number_by, closed}
+use Rattle.local_guard.specs.Locals.{freed, local_number, closed}
 use Rattle.local_guard.specs.Steps.{freed_step}
 use Rattle.resource_core.specs.Holding.{Holds}
 use Rattle.resource_core.specs.Stepping.{Answers, Hears, KeepsSettings, with_tickets}

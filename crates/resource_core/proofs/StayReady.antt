@@ -1,11 +1,9 @@
 -- A resource that was ready is ready after its answer.
-use Rattle.std.proofs.Common.{◌≡◌, ◌∙◌, ◌⊎◌, inl, inr, ⊎_elim, ℕ, ◌<◌, ◌^◌, false, true, Result, Ok, Err, refl, sym, ap, subst, true≢false}
+use Rattle.std.proofs.Common.{◌≡◌, ◌∙◌, ◌⊎◌, ⊎_elim, ℕ, ◌<◌, ◌^◌, false, true, Result, Ok, Err, refl, sym, ap, subst, true≢false}
 use Rattle.std.specs.List.{AllByRecursion}
 use Rattle.disk_model.specs.Disk.{DiskState}
-use Rattle.seata_types.specs.declared.errors.NodeError.{NodeError}
 use Rattle.seata_types.specs.declared.errors.StoreError.{StoreError}
 use Rattle.seata_types.specs.declared.errors.StoreError.TheVariants as store_error
-use Rattle.seata_types.specs.declared.messages.Step.{Step}
 use Rattle.local_tables.specs.declared.schemas.Schema.{Schema}
 use Rattle.durable_records.specs.declared.resources.ResourceRecord.{ResourceRecord}
 use Rattle.durable_records.specs.declared.resources.ResourceRecord.TheVariants as log
@@ -18,9 +16,8 @@ use Rattle.resource_store.specs.Keeping.{Changes, IsTaken, is_down, known}
 use Rattle.resource_store.specs.Meaning.{Setting}
 use Rattle.record_places.specs.Within.{IsTableWithin}
 use Rattle.resource_core.specs.Laws.{StaysReady}
-use Rattle.resource_core.specs.Ready.{AreTicketsWithin, HasActionWithin, HasStmtsWithin, IsKnownWithin, IsReady}
-use Rattle.resource_core.specs.Stepping.{Answers, made_as}
-use Rattle.resource_core.specs.declared.branches.Branches.{Branches}
+use Rattle.resource_core.specs.Ready.{HasActionWithin, HasStmtsWithin, IsKnownWithin}
+use Rattle.resource_core.specs.Stepping.{made_as}
 use Rattle.resource_core.proofs.TicketLists.{tickets_alike}
 
 -- what is known is of the same tables

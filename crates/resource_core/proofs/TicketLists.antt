@@ -1,5 +1,5 @@
 -- Open tickets that have places: what holds of each of them holds of those that are left, counted, sent again or opened.
-use Rattle.std.proofs.Common.{◌≡◌, ◌∙◌, ℕ, Bool, true, false, cond, not, List, [], ◌∷◌, map, find, Option, Some, None, refl, sym, ap, subst}
+use Rattle.std.proofs.Common.{◌≡◌, ◌∙◌, ℕ, Bool, true, false, cond, not, List, [], ◌∷◌, map, find, Option, Some, None, refl, sym, subst}
 use Rattle.std.specs.List.{AllByRecursion}
 use Rattle.std.proofs.lemmas.Option.{none-some}
 use Rattle.seata_types.specs.declared.ids.Ticket.{Ticket}
