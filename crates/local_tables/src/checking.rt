@@ -56,8 +56,8 @@ fn knows_condition(def: &TableDef, cond: &Cond) -> bool
 {
     match &cond.node {
         CondNode::Cmp { column, .. } => is_column(def, column),
-        CondNode::And(left, right) => knows_condition(def, left) && knows_condition(def, right),
-        CondNode::Or(left, right) => knows_condition(def, left) && knows_condition(def, right),
+        CondNode::And(parts) => knows_condition(def, &parts.0) && knows_condition(def, &parts.1),
+        CondNode::Or(parts) => knows_condition(def, &parts.0) && knows_condition(def, &parts.1),
         CondNode::Not(inner) => knows_condition(def, inner),
     }
 }

@@ -69,8 +69,8 @@ pub fn holds(def: &TableDef, row: &Row, cond: &Cond) -> bool
 {
     match &cond.node {
         CondNode::Cmp { column, op, value } => compares(*op, value, cell(def, row, column)),
-        CondNode::And(left, right) => holds(def, row, left) && holds(def, row, right),
-        CondNode::Or(left, right) => holds(def, row, left) || holds(def, row, right),
+        CondNode::And(parts) => holds(def, row, &parts.0) && holds(def, row, &parts.1),
+        CondNode::Or(parts) => holds(def, row, &parts.0) || holds(def, row, &parts.1),
         CondNode::Not(inner) => !holds(def, row, inner),
     }
 }

@@ -139,11 +139,11 @@ fn literal_at<'a>(def: &TableDef, cond: &'a Cond, place: u16) -> Option<&'a Valu
             }
             Some(value)
         }
-        CondNode::And(left, right) => match literal_at(def, left, place) {
+        CondNode::And(parts) => match literal_at(def, &parts.0, place) {
             Some(literal) => Some(literal),
-            None => literal_at(def, right, place),
+            None => literal_at(def, &parts.1, place),
         },
-        CondNode::Or(_, _) => None,
+        CondNode::Or(_) => None,
         CondNode::Not(_) => None,
     }
 }

@@ -90,8 +90,8 @@ fn fits_condition(def: &TableDef, cond: &Cond) -> bool
 {
     match &cond.node {
         CondNode::Cmp { column, value, .. } => fits_column(def, column, value),
-        CondNode::And(left, right) => fits_condition(def, left) && fits_condition(def, right),
-        CondNode::Or(left, right) => fits_condition(def, left) && fits_condition(def, right),
+        CondNode::And(parts) => fits_condition(def, &parts.0) && fits_condition(def, &parts.1),
+        CondNode::Or(parts) => fits_condition(def, &parts.0) && fits_condition(def, &parts.1),
         CondNode::Not(inner) => fits_condition(def, inner),
     }
 }

@@ -37,8 +37,7 @@ fn least(
             Ordering::Greater => Ok((y.copy(alloc)?, 0, 1)),
         },
         ([x, ..], []) => Ok((x.copy(alloc)?, 1, 0)),
-        ([], [y, ..]) => Ok((y.copy(alloc)?, 0, 1)),
-        ([], []) => unreachable!(),
+        ([], rest) => Ok((rest[0].copy(alloc)?, 0, 1)),
     }
 }
 

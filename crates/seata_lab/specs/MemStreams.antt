@@ -1,5 +1,5 @@
 -- What the source and the sink in memory tell, and which of their calls fail.
-use Rattle.std.specs.Prelude.{ℕ, ◌+◌, ◌-◌, ◌^◌, min, nat_eq, Bool, List, drop, length, Option, Some}
+use Rattle.std.specs.Prelude.{ℕ, ◌+◌, ◌-◌, ◌^◌, min, nat_eq, Bool, List, drop, take, length, Option, Some}
 use Rattle.std.specs.List.{list_any}
 use Rattle.seata_lab.specs.declared.memory.MemSource.{MemSource}
 use Rattle.seata_lab.specs.declared.memory.MemSink.{MemSink}
@@ -36,14 +36,14 @@ source_calls s = s.calls
 -- ---- a sink
 
 abbrev pub bytes_written : MemSink → Option (List ℕ)
-bytes_written s = Some s.bytes.items
+bytes_written s = Some (take s.at s.bytes.items)
 
 abbrev pub sink_faults : MemSink → ℕ
 sink_faults s = s.faults
 
 -- for how many bytes there is still room
 abbrev pub room_left : MemSink → ℕ
-room_left s = s.room - length s.bytes.items
+room_left s = length s.bytes.items - s.at
 
 abbrev pub sink_fails : MemSink → List ℕ
 sink_fails s = s.failing.items

@@ -1,5 +1,5 @@
 //! A source and a sink in memory, which fail at the calls that they are told.
-ghost use Rattle.std.specs.Prelude.{◌≡◌, ◌≤◌, ◌+◌, length, vec_len, vec_capacity, IfOk};
+ghost use Rattle.std.specs.Prelude.{◌≡◌, ◌≤◌, ◌+◌, length, vec_len, IfOk};
 
 use crate::streams::{Failed, Sink, Source};
 use seata_types::NoMemory;
@@ -76,12 +76,11 @@ impl Source for MemSource {
 #[derive(Drop)]
 pub struct MemSink {
     bytes: Vec<u8>,
-    room: usize,
+    at: usize,
     failing: Vec<u32>,
     calls: u32,
     faults: u64,
-    ghost within: { vec_len bytes ≤ room },
-    ghost roomy: { room ≤ vec_capacity bytes },
+    ghost within: { at ≤ vec_len bytes },
 }
 
 impl MemSink {
@@ -96,10 +95,10 @@ impl MemSink {
         ensures fails { IfOk result (λ sink. sink_fails sink ≡ failing.items) }
         ensures calls { IfOk result (λ sink. sink_calls sink ≡ 0) }
     {
-        let bytes = Vec::with_capacity(alloc, room).map_err(|_| NoMemory)?;
+        let bytes = vec![in alloc; 0u8; room].map_err(|_| NoMemory)?;
         Ok(MemSink {
             bytes,
-            room,
+            at: 0,
             failing,
             calls: 0,
             faults: 0,
@@ -110,7 +109,7 @@ impl MemSink {
     pub fn written(&self) -> &[u8]
         ensures { bytes_written self.now ≡ Some result.now }
     {
-        self.bytes.as_slice()
+        &self.bytes[..self.at]
     }
 }
 
@@ -143,14 +142,13 @@ impl Sink for MemSink {
             self.faults = self.faults.saturating_add(1);
             return Err(Failed);
         }
-        let count = bytes.len().min(self.room - self.bytes.len());
+        let count = bytes.len().min(self.bytes.len() - self.at);
         if count == 0 {
             self.faults = self.faults.saturating_add(1);
             return Ok(0);
         }
-        match self.bytes.extend_from_slice(&bytes[..count]) {
-            Ok(()) => Ok(count),
-            Err(_) => unreachable!(),
-        }
+        self.bytes[self.at..self.at + count].copy_from_slice(&bytes[..count]);
+        self.at += count;
+        Ok(count)
     }
 }

@@ -29,8 +29,8 @@ pub struct Cond {
 #[derive(Drop)]
 pub enum CondNode {
     Cmp { column: Text, op: Op, value: Value },
-    And(Box<Cond>, Box<Cond>),
-    Or(Box<Cond>, Box<Cond>),
+    And(Box<(Cond, Cond)>),
+    Or(Box<(Cond, Cond)>),
     Not(Box<Cond>),
 }
 
@@ -66,10 +66,7 @@ impl Cond {
         ensures { IfOk result (λ c. c ≡ tree.And left right) }
     {
         Ok(Cond {
-            node: CondNode::And(
-                Box::new(alloc, left).map_err(|_| NoMemory)?,
-                Box::new(alloc, right).map_err(|_| NoMemory)?,
-            ),
+            node: CondNode::And(Box::new(alloc, (left, right)).map_err(|_| NoMemory)?),
         })
     }
 
@@ -78,10 +75,7 @@ impl Cond {
         ensures { IfOk result (λ c. c ≡ tree.Or left right) }
     {
         Ok(Cond {
-            node: CondNode::Or(
-                Box::new(alloc, left).map_err(|_| NoMemory)?,
-                Box::new(alloc, right).map_err(|_| NoMemory)?,
-            ),
+            node: CondNode::Or(Box::new(alloc, (left, right)).map_err(|_| NoMemory)?),
         })
     }
 
@@ -101,8 +95,8 @@ impl Duplicate for Cond {
             CondNode::Cmp { column, op, value } => {
                 Ok(Cond::cmp(column.copy(alloc)?, *op, value.copy(alloc)?))
             }
-            CondNode::And(left, right) => Cond::and(alloc, left.copy(alloc)?, right.copy(alloc)?),
-            CondNode::Or(left, right) => Cond::or(alloc, left.copy(alloc)?, right.copy(alloc)?),
+            CondNode::And(parts) => Cond::and(alloc, parts.0.copy(alloc)?, parts.1.copy(alloc)?),
+            CondNode::Or(parts) => Cond::or(alloc, parts.0.copy(alloc)?, parts.1.copy(alloc)?),
             CondNode::Not(inner) => Cond::not(alloc, inner.copy(alloc)?),
         }
     }

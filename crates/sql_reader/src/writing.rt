@@ -124,12 +124,14 @@ fn begin<'a>(writer: &mut Writer, tasks: &mut Vec<Task<'a>>, cond: &'a Cond) -> 
             op,
             value: compared,
         } => comparison(writer, column, *op, compared)?,
-        CondNode::And(left, right) => {
+        CondNode::And(parts) => {
+            let (left, right) = &**parts;
             later_part(tasks, right, is_joined(right))?;
             later(tasks, Task::Symbol(Symbol::And))?;
             later_part(tasks, left, is_or(left))?;
         }
-        CondNode::Or(left, right) => {
+        CondNode::Or(parts) => {
+            let (left, right) = &**parts;
             later_part(tasks, right, is_or(right))?;
             later(tasks, Task::Symbol(Symbol::Or))?;
             later(tasks, Task::Part(left))?;
