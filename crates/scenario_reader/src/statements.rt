@@ -58,22 +58,23 @@ fn table_named<'a>(tables: &'a [TableDef], name: &str) -> Option<&'a TableDef>
     tables.iter().find(|def| name == def.name.as_str())
 }
 
-/// The statement, where its table is there and of the kind of its call.
+/// Whether the table of a statement is there and of the kind of its call. The statement is lent, so that
+/// a fault lets it go at one place.
 #[tactic(auto, unfolding(crate::specs::Calls::standing))]
-fn standing(
+fn stands(
     alloc: Global,
     schema: &Schema,
     wanted: BranchKind,
-    found: Stmt,
-) -> Result<Stmt, ScenarioError>
-    ensures { Answers (form.standing schema.now wanted found) result }
+    found: &Stmt,
+) -> Result<(), ScenarioError>
+    ensures { AnswersAs (λ _. found.now) (form.standing schema.now wanted found.now) result }
 {
-    match table_named(schema.tables.as_slice(), table_of(&found)) {
+    match table_named(schema.tables.as_slice(), table_of(found)) {
         Some(def) => {
-            if !suits(wanted, def.mode, &found) {
+            if !suits(wanted, def.mode, found) {
                 return Err(ScenarioError::mode(alloc));
             }
-            Ok(found)
+            Ok(())
         }
         None => Err(ScenarioError::name(alloc)),
     }
@@ -90,7 +91,13 @@ fn statement(
 {
     let text = text_in(alloc, value)?;
     let found = parsed(alloc, text)?;
-    standing(alloc, schema, wanted, found)
+    match stands(alloc, schema, wanted, &found) {
+        Ok(()) => Ok(found),
+        Err(fault) => {
+            drop(found);
+            Err(fault)
+        }
+    }
 }
 
 fn each_statement(
@@ -101,7 +108,7 @@ fn each_statement(
 ) -> Result<Vec<Stmt>, ScenarioError>
     ensures { AnswersAs vec_of (each (form.next_statement schema.now wanted) [] (items_view values.now)) result }
 {
-    let mut statements = Vec::new(alloc);
+    let mut statements = Vec::with_capacity(alloc, values.len())?;
     for value in values {
         let found = statement(alloc, schema, wanted, value).map_err(|fault| fault.in_item(
             alloc,

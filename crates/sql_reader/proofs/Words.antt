@@ -1,14 +1,14 @@
--- Names are ASCII.
-use Rattle.std.proofs.Common.{◌≡◌, ℕ, ◌<◌, Bool, true, false, List, [], ◌∷◌, refl, arith}
-use Rattle.std.specs.Prelude.{◌&&◌, nat_le, length, slice_index}
-use Rattle.std.specs.Char.{is_ascii_lowercase}
+-- Words are ASCII.
+use Rattle.std.proofs.Common.{◌≡◌, ℕ, suc, ◌+◌, ◌-◌, ◌<◌, ◌≤◌, Bool, true, false, List, ◌∷◌, length, drop, get_or, drop-cons, length-drop, refl, subst, arith}
+use Rattle.std.specs.Prelude.{◌&&◌}
+use Rattle.std.specs.Char.{is_ascii_alphabetic}
+use Rattle.std.specs.List.{prefix_len}
+use Rattle.std.specs.Str.{IsUtf8, IsCharBoundary}
 use Rattle.std.proofs.lemmas.Bool.Decides.{nat_tests}
-use Rattle.std.proofs.lemmas.Str.{IsUtf8-from_ascii}
-use Rattle.std.proofs.lemmas.Str.Ascii.{IsAscii-cons, IsAscii-nil}
-use Rattle.std.specs.List.{list_all}
-use Rattle.std.specs.Str.{IsUtf8, IsAscii}
-use Rattle.seata_types.specs.declared.limits.TheConstants.{NAME_BYTES}
-use Rattle.sql_reader.specs.Lexing.{is_name_byte, has_name_form}
+use Rattle.std.proofs.lemmas.List.{get_or-drop}
+use Rattle.std.proofs.lemmas.List.Sums.{prefix_len-le-length, prefix_len_passes}
+use Rattle.std.proofs.lemmas.Str.{IsCharBoundary-after_ascii}
+use Rattle.sql_reader.specs.Lexing.{is_word_byte}
 
 pub both_left : (a b : Bool) → (a && b) ≡ true → a ≡ true
 both_left true b is = refl
@@ -18,15 +18,24 @@ pub both_right : (a b : Bool) → (a && b) ≡ true → b ≡ true
 both_right true b is = is
 both_right false b is = cc
 
-name_byte-ascii : (b : ℕ) → is_name_byte b ≡ true → b < 128
-name_byte-ascii b is = grind (arith, nat_tests)
+letter-word_byte : (b : ℕ) → is_ascii_alphabetic b ≡ true → is_word_byte b ≡ true
+letter-word_byte b is = grind (arith, nat_tests)
 
-name_bytes-ascii : (w : List ℕ) → list_all is_name_byte w ≡ true → IsAscii w
-name_bytes-ascii [] all = IsAscii-nil
-name_bytes-ascii (b ∷ w) all =
-    IsAscii-cons b w (name_byte-ascii b (both_left (is_name_byte b) (list_all is_name_byte w) all)) (name_bytes-ascii w (both_right (is_name_byte b) (list_all is_name_byte w) all))
+word_byte-ascii : (b : ℕ) → is_word_byte b ≡ true → b < 128
+word_byte-ascii b is = grind (arith, nat_tests)
 
-pub name_utf8 : (w : List ℕ) → has_name_form w ≡ true → IsUtf8 w
-unfolding has_name_form
-name_utf8 w is =
-    IsUtf8-from_ascii w (name_bytes-ascii w (both_right (is_ascii_lowercase (slice_index w 0) && nat_le (length w) NAME_BYTES) (list_all is_name_byte w) is))
+-- ---- a word that begins with a letter at a place of a text
+
+word_some : (z : List ℕ) (at : ℕ) → at < length z → is_ascii_alphabetic (get_or z at 0) ≡ true → 1 ≤ prefix_len is_word_byte (drop at z)
+word_some z at inside is =
+    let first : drop at z ≡ get_or z at 0 ∷ drop (suc at) z = drop-cons z at 0 inside in
+    rw (first, letter-word_byte (get_or z at 0) is) (omega arith)
+
+pub word_end : (z : List ℕ) (at len : ℕ) → IsUtf8 z → at < length z → is_ascii_alphabetic (get_or z at 0) ≡ true → len ≡ prefix_len is_word_byte (drop at z) → IsCharBoundary z (at + len)
+word_end z at len utf8 inside letter is =
+    let some : 1 ≤ len = omega (arith, is, word_some z at inside letter) in
+    let within : at + len ≤ length z = omega (arith, is, prefix_len-le-length is_word_byte (drop at z), length-drop at z) in
+    let passes = prefix_len_passes is_word_byte (drop at z) (len - 1) 0 (omega (arith, is)) in
+    let last : is_word_byte (get_or z (at + (len - 1)) 0) ≡ true = rw (get_or-drop at z (len - 1) 0) at passes in
+    let behind : at + (len - 1) + 1 ≡ at + len = omega arith in
+    subst (λ n. IsCharBoundary z n) behind (IsCharBoundary-after_ascii z (at + (len - 1)) utf8 (omega arith) (word_byte-ascii (get_or z (at + (len - 1)) 0) last))

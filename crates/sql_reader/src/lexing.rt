@@ -1,11 +1,11 @@
 //! Cuts a text into tokens.
-ghost use Rattle.std.specs.Prelude.{◌≡◌, ◌<◌, ◌≤◌, ◌+◌, ◌^◌, ◌-◌, map, length, min, slice_index, IfOk, Some, None, option_map, IfSome, drop};
+ghost use Rattle.std.specs.Prelude.{◌≡◌, ◌<◌, ◌≤◌, ◌+◌, ◌^◌, ◌-◌, map, length, min, slice_index, IfOk, Some, None, option_map, IfSome, drop, true};
 ghost use Rattle.std.specs.Str.{IsUtf8, str_eq_ignore_ascii_case};
-ghost use Rattle.std.specs.List.{prefix_len, list_all};
+ghost use Rattle.std.specs.List.{prefix_len, take_while, list_all};
 ghost use Rattle.sql_reader.specs.Lexing as spec;
 
 use crate::symbols::{OF_FIVE, OF_FOUR, OF_SIX, OF_THREE, OF_TWO, Symbol};
-use crate::tokens::{Lexed, Token};
+use crate::tokens::Token;
 use crate::word::Word;
 use seata_types::limits::{NAME_BYTES, TEXT_BYTES};
 use seata_types::{NoMemory, Text};
@@ -71,6 +71,8 @@ fn same_word(a: &[u8], b: &[u8]) -> bool
     a.eq_ignore_ascii_case(b)
 }
 
+// Inlined, so that each table's words are constants where they are compared.
+#[inline(always)]
 fn listed_as(mut table: &[(&[u8], Symbol)], word: &[u8]) -> Option<Symbol>
     ensures { result ≡ spec.listed_as (map (λ k. (k.0.now, k.1)) table.entry.now) word.now }
 {
@@ -168,25 +170,29 @@ fn utf8_text(bytes: Vec<u8>) -> Text
     Text::of(String::from_utf8(bytes).unwrap())
 }
 
-/// The word that UTF-8 bytes spell.
-fn utf8_word(bytes: &[u8]) -> Word<'_>
-    requires { IsUtf8 bytes.now }
-    ensures { result ≡ bytes.now }
-{
-    Word::of(str::from_utf8(bytes).unwrap())
-}
-
-#[tactic(auto, using(crate::proofs::Words::name_utf8), unfolding(crate::specs::Lexing::word_token))]
-fn word_token(word: &[u8]) -> Token<'_>
+#[tactic(auto, unfolding(crate::specs::Lexing::word_token))]
+fn word_token(word: &str) -> Token<'_>
     ensures { result ≡ spec.word_token word.now }
 {
-    if let Some(symbol) = keyword(word) {
+    if let Some(symbol) = keyword(word.as_bytes()) {
         return Token::Symbol(symbol);
     }
-    if !has_name_form(word) {
+    if !has_name_form(word.as_bytes()) {
         return Token::Unknown;
     }
-    Token::Name(utf8_word(word))
+    Token::Name(Word::of(word))
+}
+
+/// The word that begins at a place with a letter.
+fn word_at(text: &str, at: usize) -> &str
+    requires inside { at < length text.now }
+    requires letter { spec.is_ascii_alphabetic (slice_index text.now at) ≡ true }
+    ensures value { result.now ≡ take_while spec.is_word_byte (drop at text.now) }
+    ensures some { 1 ≤ length result.now }
+    ensures within { at + length result.now ≤ length text.now }
+{
+    let len = word_len(&text.as_bytes()[at..]);
+    &text[at..at + len]
 }
 
 /// The value of a text, by what follows its opening quote, and how many bytes it takes from there
@@ -233,8 +239,8 @@ fn token_at<'a>(alloc: Global, text: &'a str, at: usize) -> Result<(Token<'a>, u
     let z = &text.as_bytes()[at..];
     let first = byte(z, 0);
     if first.is_ascii_alphabetic() {
-        let len = word_len(z);
-        return Ok((word_token(&z[..len]), len));
+        let word = word_at(text, at);
+        return Ok((word_token(word), word.len()));
     }
     if first.is_ascii_digit() {
         let len = digits_len(z);
@@ -250,17 +256,15 @@ fn token_at<'a>(alloc: Global, text: &'a str, at: usize) -> Result<(Token<'a>, u
     }
 }
 
-/// The tokens of a text, and where each begins.
-pub fn lex<'a>(alloc: Global, text: &'a str) -> Result<Lexed<'a>, NoMemory>
-    ensures tokens { IfOk result (λ l. l.tokens.items ≡ spec.tokens text.now) }
-    ensures places { IfOk result (λ l. l.places.items ≡ spec.places text.now) }
+/// The tokens of a text.
+pub fn lex<'a>(alloc: Global, text: &'a str) -> Result<Vec<Token<'a>>, NoMemory>
+    ensures { IfOk result (λ found. found.items ≡ spec.tokens text.now) }
 {
     let bytes = text.as_bytes();
     // Most texts have at most one token for each two bytes; in steps of 64, so that the next text finds
     // room of the same size.
     let room = bytes.len() / 128 * 64 + 64;
     let mut tokens = Vec::with_capacity(alloc, room).map_err(|_| NoMemory)?;
-    let mut places = Vec::with_capacity(alloc, room).map_err(|_| NoMemory)?;
     let mut at = 0;
     while at < bytes.len() {
         if is_blank(bytes[at]) {
@@ -270,9 +274,27 @@ pub fn lex<'a>(alloc: Global, text: &'a str) -> Result<Lexed<'a>, NoMemory>
             if tokens.push(token).is_err() {
                 return Err(NoMemory);
             }
+            at += len;
+        }
+    }
+    Ok(tokens)
+}
+
+/// The bytes at which the tokens of a text begin.
+pub fn places(alloc: Global, text: &str) -> Result<Vec<usize>, NoMemory>
+    ensures { IfOk result (λ found. found.items ≡ spec.places text.now) }
+{
+    let bytes = text.as_bytes();
+    let mut places = Vec::new(alloc);
+    let mut at = 0;
+    while at < bytes.len() {
+        if is_blank(bytes[at]) {
+            at += 1;
+        } else {
+            let (_, len) = token_at(alloc, text, at)?;
             places.push(at).map_err(|_| NoMemory)?;
             at += len;
         }
     }
-    Ok(Lexed { tokens, places })
+    Ok(places)
 }

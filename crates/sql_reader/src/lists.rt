@@ -24,7 +24,8 @@ pub trait Item: Sized + Drop {
 pub fn listed<T: Item>(alloc: Global, tokens: &mut Cursor<'_>) -> Result<List<T>, Stop>
     ensures { Reads (spec.listed T.item tokens.old) result tokens.new }
 {
-    let mut items: Vec<T> = Vec::new(alloc);
+    // Room for one: a SET has seldom more.
+    let mut items: Vec<T> = Vec::with_capacity(alloc, 1)?;
     items.push(T::read(alloc, tokens)?)?;
     for _turn in 0..tokens.left() {
         if !tokens.eat(Symbol::Comma) {

@@ -7,7 +7,7 @@ ghost use Rattle.sql_reader.specs.Lexing as lexing;
 
 use crate::cursor::Cursor;
 use crate::errors::{Refusal, SqlError, Stop};
-use crate::lexing::lex;
+use crate::lexing::{lex, places};
 use crate::statements::statement;
 use seata_types::{NoMemory, Stmt};
 use std::alloc::Global;
@@ -23,6 +23,20 @@ fn place_of(text: &str, places: &[usize], refusal: Refusal) -> usize
         .unwrap_or(text.len())
 }
 
+/// What is told of a refusal. The text is cut a second time, so that a text that is read asks for no
+/// places.
+fn refused(alloc: Global, text: &str, refusal: Refusal) -> SqlError
+    ensures { result ≢ SqlError.NoMemory → result ≡ SqlError.Refused (spec.place_of text.now refusal) refusal.kind }
+{
+    match places(alloc, text) {
+        Ok(places) => SqlError::Refused {
+            at: place_of(text, &places, refusal),
+            kind: refusal.kind,
+        },
+        Err(NoMemory) => SqlError::NoMemory,
+    }
+}
+
 /// The statement that a text is. Its length has no limit here.
 #[tactic(auto, unfolding(crate::specs::Answer::reading))]
 pub fn read_stmt(alloc: Global, text: &str) -> Result<Stmt, SqlError>
@@ -33,16 +47,13 @@ pub fn read_stmt(alloc: Global, text: &str) -> Result<Stmt, SqlError>
     // A statement that can be written again.
     ensures readable { IfOk result IsReadable }
 {
-    let lexed = match lex(alloc, text) {
-        Ok(lexed) => lexed,
+    let tokens = match lex(alloc, text) {
+        Ok(tokens) => tokens,
         Err(NoMemory) => return Err(SqlError::NoMemory),
     };
-    match statement(alloc, &mut Cursor::new(&lexed.tokens)) {
+    match statement(alloc, &mut Cursor::new(&tokens)) {
         Ok(statement) => Ok(statement),
         Err(Stop::NoMemory) => Err(SqlError::NoMemory),
-        Err(Stop::Refused(refusal)) => Err(SqlError::Refused {
-            at: place_of(text, &lexed.places, refusal),
-            kind: refusal.kind,
-        }),
+        Err(Stop::Refused(refusal)) => Err(refused(alloc, text, refusal)),
     }
 }

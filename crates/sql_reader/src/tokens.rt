@@ -16,11 +16,3 @@ pub enum Token<'a> {
     /// A word or a character that no statement has.
     Unknown,
 }
-
-/// A text cut into tokens.
-#[derive(Drop)]
-pub struct Lexed<'a> {
-    pub tokens: Vec<Token<'a>>,
-    /// The byte at which each of them begins.
-    pub places: Vec<usize>,
-}

@@ -1,13 +1,13 @@
-use Rattle.std.proofs.Common.{◌≡◌, ◌++◌, ◌∷◌, [], length, ◌-◌, drop, get_or, false, sym, ap, length-drop, arith}
+use Rattle.std.proofs.Common.{◌≡◌, ◌++◌, ◌∷◌, [], drop, get_or, false, sym, ap, arith}
 use Rattle.std.proofs.lemmas.Grind.{common_steps}
-use Rattle.sql_reader.specs.Lexing.{tokens, places, token_at, is_blank}
+use Rattle.sql_reader.specs.Lexing.{tokens, token_at, is_blank}
 use Rattle.sql_reader.proofs.Starts.{starts_blank, map_starts_token, map_starts_end}
 use Rattle.sql_reader.proofs.lexing.lex.Goals as goal
 
 pub loop-at-preserved-then-is_blank : goal.loop-at-preserved-then-is_blank
 loop-at-preserved-then-is_blank c =
     let same = starts_blank c.args.text.now c.loop-at.at (omega arith) (grind (arith, common_steps)) in
-    record { tokens = rw same c.loop-at.invariant.tokens; places = rw same c.loop-at.invariant.places; within = omega arith }
+    record { tokens = rw same c.loop-at.invariant.tokens; within = omega arith }
 
 pub loop-at-preserved : goal.loop-at-preserved
 loop-at-preserved c =
@@ -15,22 +15,14 @@ loop-at-preserved c =
     let at = c.loop-at.at in
     let found = c.in_ok-token.ensures.value in
     let bytes : (token_at (drop at text)).1 ≡ c.in_ok-token.len = ap (λ p. p.1) (sym found) in
-    let place : at ≡ length text - length (drop at text) = omega (arith, length-drop at text) in
-    let token_pushed : c.push.new.self.items ≡ c.loop-at.tokens.items ++ c.in_ok-token.token ∷ [] = grind (arith, common_steps) in
-    let place_pushed : c.push-else-is_blank.new.self.items ≡ c.loop-at.places.items ++ at ∷ [] = grind (arith, common_steps) in
+    let pushed : c.push.new.self.items ≡ c.loop-at.tokens.items ++ c.in_ok-token.token ∷ [] = grind (arith, common_steps) in
     let plain : is_blank (get_or text at 0) ≡ false = grind (arith, common_steps) in
     record {
       tokens = map_starts_token (λ z. (token_at z).0) text at c.in_ok-token.len c.loop-at.tokens.items c.push.new.self.items _ c.in_ok-token.token (omega arith) plain
-          bytes c.in_ok-token.ensures.within.0 (ap (λ p. p.0) found) token_pushed c.loop-at.invariant.tokens;
-      places = map_starts_token (λ z. length text - length z) text at c.in_ok-token.len c.loop-at.places.items c.push-else-is_blank.new.self.items _ at (omega arith) plain
-          bytes c.in_ok-token.ensures.within.0 place place_pushed c.loop-at.invariant.places;
+          bytes c.in_ok-token.ensures.within.0 (ap (λ p. p.0) found) pushed c.loop-at.invariant.tokens;
       within = c.in_ok-token.ensures.within.1;
     }
 
-pub returns-clause-tokens : goal.returns-clause-tokens
+pub returns : goal.returns
 unfolding tokens
-returns-clause-tokens c = map_starts_end (λ z. (token_at z).0) c.args.text.now c.loop-at.at _ _ (omega arith) c.loop-at.invariant.tokens
-
-pub returns-clause-places : goal.returns-clause-places
-unfolding places
-returns-clause-places c = map_starts_end (λ z. length c.args.text.now - length z) c.args.text.now c.loop-at.at _ _ (omega arith) c.loop-at.invariant.places
+returns c = map_starts_end (λ z. (token_at z).0) c.args.text.now c.loop-at.at _ _ (omega arith) c.loop-at.invariant.tokens

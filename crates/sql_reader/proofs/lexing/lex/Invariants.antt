@@ -5,7 +5,6 @@ use Rattle.sql_reader.proofs.lexing.lex.Given as goal
 abbrev pub invariant-loop-at : goal.invariant-loop-at
 invariant-loop-at l = record {
   tokens : l.tokens.items ++ map (λ z. (token_at z).0) (starts (drop l.at l.text)) ≡ map (λ z. (token_at z).0) (starts l.text);
-  places : l.places.items ++ map (λ z. length l.text - length z) (starts (drop l.at l.text)) ≡ map (λ z. length l.text - length z) (starts l.text);
   within : l.at ≤ length l.text;
 }
 
