@@ -1,6 +1,5 @@
 -- What always holds of the coordinator as a node.
 use Rattle.std.proofs.Common.{◌≡◌, inl, inr, ◌-◌, ◌≤◌, ◌^◌, ℕ, min, true, false, if◌then◌else◌, List, [], ◌∷◌, length, Option, Some, None, refl, sym, ap, subst, ◌∙◌, arith}
-use Rattle.std.specs.Option.{option_and_then}
 use Rattle.disk_model.specs.Disk.{DiskState}
 use Rattle.seata_types.specs.declared.acts.Act.TheVariants as act
 use Rattle.seata_types.specs.declared.ids.Place.TheVariants as place
@@ -9,7 +8,6 @@ use Rattle.durable_records.specs.declared.coordinators.SessionRecord.{SessionRec
 use Rattle.disk_model.specs.Stop.{state_of}
 use Rattle.disk_model.specs.declared.stoppable.Stoppable.{Stoppable}
 use Rattle.session_store.specs.declared.sessions.Sessions.{Sessions}
-use Rattle.session_store.specs.Readings as store
 use Rattle.session_store.specs.Keeping.{KeepsRecords}
 use Rattle.session_store.specs.Standing.{StandsForSessions}
 use Rattle.history_rules.specs.Own.{Own, Left, Given, Stopped, Crashed, Restarted, still}
@@ -17,7 +15,7 @@ use Rattle.history_rules.specs.Devices.{calls_left, fault_entries, in_flight, ma
 use Rattle.history_rules.specs.CoordinatorMemory.{sessions_left}
 use Rattle.history_rules.specs.Nodes.{Role, Resource, Manager}
 use Rattle.history_rules.specs.Nodes.{Coordinator as CoordinatorRole}
-use Rattle.history_text.specs.Durable.{records_on, AreRecords, StandsForRecords, StandsForLeft, of_coordinator, keepable, own_faults, AreNodeDisks}
+use Rattle.history_text.specs.Durable.{StandsForRecords, StandsForLeft, of_coordinator, keepable, own_faults, AreNodeDisks}
 use Rattle.history_text.specs.Promises.{place_of, has_disks, own_entry}
 use Rattle.coordinator_core.specs.declared.nodes.Coordinator.{Coordinator}
 use Rattle.coordinator_core.specs.Knowledge.{knowledge}
@@ -26,23 +24,9 @@ use Rattle.coordinator_core.specs.Standing.{StandsAs, StandsOver, OnDisks, Stand
 
 -- ---- what disks stand for, in the words of histories
 
-records_by : (f : List ℕ → Option SessionRecord) (before : List SessionRecord) (bodies : List (List ℕ)) (o : Option SessionRecord)
-    → ((r : SessionRecord) → records_on f (r ∷ before) bodies ≡ store.records_on f (r ∷ before) bodies)
-    → option_and_then (λ r. records_on f (r ∷ before) bodies) o ≡ option_and_then (λ r. store.records_on f (r ∷ before) bodies) o
-records_by f before bodies None below = refl
-records_by f before bodies (Some r) below = below r
-
-same_records : (f : List ℕ → Option SessionRecord) (before : List SessionRecord) (bodies : List (List ℕ)) → records_on f before bodies ≡ store.records_on f before bodies
-same_records f before [] = refl
-same_records f before (body ∷ bodies) = records_by f before bodies (f body) (λ r. same_records f (r ∷ before) bodies)
-
-are_records : (snapshot : Option (List ℕ)) (bodies : List (List ℕ)) (rs : List SessionRecord) → store.AreRecords store.of_coordinator snapshot bodies rs → AreRecords of_coordinator snapshot bodies rs
-are_records None bodies rs e = same_records of_coordinator.record_of [] bodies ∙ e
-are_records (Some bytes) bodies rs (first, is, e) = (first, is, same_records of_coordinator.record_of first bodies ∙ e)
-
 pub stands_for_records : (managers resources : ℕ) (rs : List SessionRecord) (a b : List ℕ) → StandsForSessions managers resources rs a b → StandsForRecords of_coordinator rs a b
 stands_for_records managers resources rs a b s =
-    record { found = s.found; pair = s.pair; records = are_records s.found.snapshot s.found.records rs s.list.records }
+    record { found = s.found; pair = s.pair; records = s.list.records }
 
 -- ---- laws
 

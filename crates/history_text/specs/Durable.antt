@@ -4,6 +4,7 @@ use Rattle.std.specs.Prelude.{◌≡◌, ◌⊎◌, ◌≤◌, ◌+◌, ◌-◌,
 use Rattle.disk_model.specs.Disk.{DiskState, last_pick}
 use Rattle.journal_checkpoint.specs.declared.types.Found.{Found}
 use Rattle.journal_checkpoint.specs.Images.{Pair, PairStandsFor}
+pub use Rattle.memory_store.specs.Readings.{Reading, records_on, AreRecords, StandsForRecords}
 use Rattle.local_tables.specs.Rows.{Database}
 use Rattle.durable_records.specs.declared.coordinators.SessionRecord.{SessionRecord}
 use Rattle.durable_records.specs.declared.resources.ResourceRecord.{ResourceRecord}
@@ -23,36 +24,12 @@ use Rattle.history_rules.specs.Nodes.{Role, Coordinator, Resource, Manager}
 
 -- ---- what bytes are read as
 
--- how the disks of a node are read: the record that bytes are, the snapshot that bytes are, in any of their layouts, and the
--- snapshot that a list of records has
-pub record Reading (R S : Type 0) : Type 0 where
-  pub record_of : List ℕ → Option R
-  pub snapshot_in : List ℕ → Option S
-  pub snapshot_of : List R → S
-
 abbrev pub of_coordinator : Reading SessionRecord Snapshot
 of_coordinator = record { record_of = session_bytes.record_of; snapshot_in = session_snapshots.snapshot_in_bytes; snapshot_of = sessions_now.snapshot_of }
 
 -- over its tables at the opening
 abbrev pub of_resource : Database → Reading ResourceRecord ResourceSnapshot
 of_resource opening = record { record_of = resource_bytes.record_of; snapshot_in = resource_snapshots.snapshot_in_bytes; snapshot_of = resource_now.snapshot_of opening }
-
--- the records that these bodies are, on top of others
-abbrev pub records_on : {R : Type 0} → (List ℕ → Option R) → List R → List (List ℕ) → Option (List R)
-records_on record_of before [] = Some before
-records_on record_of before (body ∷ bodies) = option_and_then (λ r. records_on record_of (r ∷ before) bodies) (record_of body)
-
--- the bodies are these records, over none; or behind a snapshot, over those that have it
-abbrev pub AreRecords : {R S : Type 0} → Reading R S → Option (List ℕ) → List (List ℕ) → List R → Type 0
-AreRecords reading None bodies rs = records_on reading.record_of [] bodies ≡ Some rs
-AreRecords {R} reading (Some bytes) bodies rs =
-    (first : List R) × (reading.snapshot_in bytes ≡ Some (reading.snapshot_of first)) × (records_on reading.record_of first bodies ≡ Some rs)
-
--- the bytes of two disks stand for these records
-pub record StandsForRecords {R S : Type 0} (reading : Reading R S) (rs : List R) (a b : List ℕ) : Type 0 where
-  pub found : Found
-  pub pair : PairStandsFor found a b
-  pub records : AreRecords reading found.snapshot found.records rs
 
 -- ---- what a node's entries leave on its disks
 
