@@ -1,6 +1,5 @@
 -- Turns, and messages that a resource ignores: each answer is the rule's.
-use Rattle.std.proofs.Common.{◌≡◌, ◌∙◌, ◌+◌, ◌≤◌, ℕ, Bool, true, false, List, [], ◌∷◌, Option, Some, None, option_map, Ok, refl, sym, ap, subst, arith}
-use Rattle.std.proofs.lemmas.Option.{none-some}
+use Rattle.std.proofs.Common.{◌≡◌, ◌∙◌, ◌+◌, ◌≤◌, ℕ, false, List, Option, Some, None, option_map, Ok, refl, sym, ap, subst, arith}
 use Rattle.disk_model.specs.Disk.{DiskState}
 use Rattle.seata_types.specs.declared.acts.Act.TheVariants as act
 use Rattle.seata_types.specs.declared.ids.Place.TheVariants as place
@@ -9,10 +8,8 @@ use Rattle.seata_types.specs.declared.messages.Input.TheVariants as input
 use Rattle.seata_types.specs.declared.messages.Message.{Message}
 use Rattle.seata_types.specs.declared.messages.Message.TheVariants as message
 use Rattle.seata_types.specs.declared.messages.Step.{Step}
-use Rattle.durable_records.specs.Branches.{same_ticket}
-use Rattle.local_txn.specs.OpenTickets.{AreDistinct, Open, open_at, last_of, sent_again}
+use Rattle.local_txn.specs.OpenTickets.{Open, open_at, last_of, sent_again}
 use Rattle.local_txn.specs.Answers.{Tickets, ticket_of, with_opens}
-use Rattle.local_txn.proofs.Tests.{cond_false, cond_true, one_ticket, ticket_itself}
 use Rattle.history_rules.specs.Own.{still, sends}
 use Rattle.history_rules.specs.ResourceMemory.{Memory, next_ticket}
 use Rattle.history_rules.specs.ResourceRules as rules
@@ -43,20 +40,6 @@ none_last opens e = by (last_of opens) e
     by : (p : Option Open) → option_map ticket_of p ≡ None → p ≡ None
     by None e = refl
     by (Some o) e = absurd cc
-
-some_open : (a b : Open) → Some a ≡ Some b → a ≡ b
-some_open a b e = cc
-
--- where each ticket is open once, the one that was sent longest ago is found
-pub last_found : (opens : List Open) (o : Open) → AreDistinct opens → last_of opens ≡ Some o → open_at opens o.ticket ≡ Some o
-last_found [] o d e = absurd (none-some o e)
-last_found (x ∷ []) o d e =
-    cond_true (same_ticket x.ticket o.ticket) (Some x) None (ap (λ (y : Open). same_ticket x.ticket y.ticket) (sym (some_open x o e)) ∙ ticket_itself x.ticket) ∙ e
-last_found (x ∷ y ∷ ys) o d e = by (same_ticket x.ticket o.ticket) refl (last_found (y ∷ ys) o d.0 e)
-  where
-    by : (b : Bool) → same_ticket x.ticket o.ticket ≡ b → open_at (y ∷ ys) o.ticket ≡ Some o → open_at (x ∷ y ∷ ys) o.ticket ≡ Some o
-    by true same found = absurd (none-some o (sym d.1 ∙ ap (open_at (y ∷ ys)) (one_ticket x.ticket o.ticket same) ∙ found))
-    by false same found = cond_false (same_ticket x.ticket o.ticket) (Some x) (open_at (y ∷ ys) o.ticket) same ∙ found
 
 some_same : {A : Type 0} (a b : A) → Some a ≡ Some b → a ≡ b
 some_same a b e = cc

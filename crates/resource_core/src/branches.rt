@@ -122,7 +122,6 @@ impl<D: Disk> Branches<D> {
         ensures named { result ≡ option_map ticket_of (last_of self.now.txns.opens) }
         ensures found { (o : Open) → last_of self.now.txns.opens ≡ Some o → open_at self.now.txns.opens o.ticket ≡ Some o }
     {
-        let _opened = self.txns.opened();
         self.txns.next_to_send()
     }
 
