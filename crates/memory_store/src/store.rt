@@ -112,6 +112,7 @@ impl<K: Drop, M: StateMachine<Memory = K> + Drop, D: Disk> Store<M, K, D> {
         ensures second_disk { RunsOn (D.state second) (D.state (second_after result)) }
 
         ensures machine { IfOk result (λ store. machine_of store ≡ machine) }
+        ensures sound { IfOk result (λ store. (M.meaning machine).IsSound (memory_of store)) }
         ensures up { IfOk result (λ store. is_down store ≡ false) }
     {
         let mut store = match Store::read(alloc, machine, first, second) {
@@ -253,6 +254,7 @@ impl<K: Drop, M: StateMachine<Memory = K> + Drop, D: Disk> Store<M, K, D> {
         ensures first { ComesUp (is_ok result) pick (D.state (first_disk (twin_of self.old))) (D.state (first_disk (twin_of self.new))) }
         ensures second { ComesUp (is_ok result) pick (D.state (second_disk (twin_of self.old))) (D.state (second_disk (twin_of self.new))) }
 
+        ensures sound { OnOk result ((M.meaning (machine_of self.old)).IsSound (memory_of self.new)) }
         ensures memory { OnErr result (memory_of self.new ≡ memory_of self.old) }
         ensures up { is_down self.new ≡ is_err result }
         ensures machine { machine_of self.new ≡ machine_of self.old }
@@ -288,6 +290,7 @@ impl<K: Drop, M: StateMachine<Memory = K> + Drop, D: Disk> Store<M, K, D> {
         ensures first { RunsOn (D.state (first_disk (twin_of self.old))) (D.state (first_disk (twin_of self.new))) }
         ensures second { RunsOn (D.state (second_disk (twin_of self.old))) (D.state (second_disk (twin_of self.new))) }
         ensures not_full { IfErr result IsNotFull }
+        ensures sound { OnOk result ((M.meaning (machine_of self.old)).IsSound (memory_of self.new)) }
         ensures memory { OnErr result (memory_of self.new ≡ memory_of self.old) }
         ensures up { OnOk result (is_down self.new ≡ false) }
         ensures machine { machine_of self.new ≡ machine_of self.old }

@@ -21,6 +21,7 @@ use Rattle.durable_records.specs.declared.resources.ResourceRecord.{ResourceReco
 use Rattle.durable_records.specs.declared.resources.ResourceRecord.TheVariants as log
 use Rattle.durable_records.specs.UndoRecords.{boots}
 use Rattle.resource_log.specs.Records.{fields_bytes, record_bytes}
+use Rattle.resource_memory.specs.Changes.{after}
 use Rattle.resource_memory.specs.Known.{Known}
 use Rattle.resource_store.specs.declared.store.Store.{Store}
 use Rattle.resource_store.specs.Meaning.{Setting, meaning_of}
@@ -182,6 +183,18 @@ unfolding fields_bytes
 boot_taken s number next few =
     let n : length (record_bytes (log.Boot number)) ≡ 5 = refl in
     record { allowed = eq-eqb number ((known s).boots + 1) next; fits = few; small = omega (arith, n) }
+
+-- what is known after a boot is of the same tables, and has places where it had
+pub boot_sound : (t : Setting) (k : Known) → (meaning_of t).IsSound k → (meaning_of t).IsSound (after (boot_record k) k)
+boot_sound t k before opens =
+    let is = before opens in
+    let counted = is.kept.counted in
+    record {
+      kept = record { counted = omega (arith, counted); rows = is.kept.rows; undos = is.kept.undos; fences = is.kept.fences; calls = is.kept.calls };
+      fits = record { rows = is.fits.rows; undos = is.fits.undos; fences = is.fits.fences; calls = is.fits.calls };
+      resource = is.resource;
+      schema = is.schema;
+    }
 
 -- an error of a boot is no damage
 pub boot_damage : {K I : Type 0} (m : Meaning K I) (a b : List ℕ) (error : StoreError) → IsBootDamage m a b (opening_error error)

@@ -126,6 +126,7 @@ impl<D: Disk> Store<D> {
         ensures first_disk { RunsOn (D.state first) (D.state (first_after result)) }
         ensures second_disk { RunsOn (D.state second) (D.state (second_after result)) }
 
+        ensures sound { IfOk result (λ s. (meaning_of (setting resource schema opening)).IsSound (known s)) }
         ensures setting { IfOk result (λ s. setting_of s ≡ setting resource schema opening) }
         ensures up { IfOk result (λ s. is_down s ≡ false) }
     {
@@ -165,6 +166,7 @@ impl<D: Disk> Store<D> {
         ensures first_disk { RunsOn (D.state first) (D.state (first_after result)) }
         ensures second_disk { RunsOn (D.state second) (D.state (second_after result)) }
 
+        ensures sound { IfOk result (λ s. (meaning_of (setting resource schema opening)).IsSound (known s)) }
         ensures setting { IfOk result (λ s. setting_of s ≡ setting resource schema opening) }
         ensures up { IfOk result (λ s. is_down s ≡ false) }
     {
@@ -464,6 +466,7 @@ impl<D: Disk> Store<D> {
         ensures first { ComesUp (is_ok result) pick (D.state (first_disk (twin self.old))) (D.state (first_disk (twin self.new))) }
         ensures second { ComesUp (is_ok result) pick (D.state (second_disk (twin self.old))) (D.state (second_disk (twin self.new))) }
 
+        ensures sound { OnOk result ((meaning_of (setting_of self.old)).IsSound (known self.new)) }
         ensures known { OnErr result (known self.new ≡ known self.old) }
         ensures up { is_down self.new ≡ is_err result }
         ensures setting { setting_of self.new ≡ setting_of self.old }

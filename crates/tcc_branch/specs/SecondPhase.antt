@@ -49,7 +49,7 @@ tcc_rollback leg meaning Runs = cancel_runs leg meaning
 abbrev pub cancelled : Leg → Action → Database → List ResourceRecord → Answer TccAnswer
 cancelled leg action db rs = tcc_rollback leg (effect db action.cancels) (on_cancel (fence rs leg.xid.0 leg.branch.0))
 
--- ---- for the proofs alone: the same by what is known
+-- ---- the same by what is known
 
 abbrev pub confirmed_on : Known → Leg → (confirms : List Stmt) → Answer TccAnswer
 confirmed_on k leg confirms = tcc_commit leg (effect k.tables confirms) (on_confirm (fence_at k.fences leg))

@@ -68,10 +68,15 @@ StaysUnlessTried (Ok (tries.Refused cause)) old new = new ≡ old
 StaysUnlessTried (Ok tries.NotOpen) old new = new ≡ old
 StaysUnlessTried (Err e) old new = Unit {0}
 
--- ---- for the proofs alone: the same by what is known
+-- ---- the same by what is known
 
 abbrev pub granted_on : Known → Leg → Open → Answer TryAnswer
 granted_on k leg o = tcc_granted leg (call_of o.owner) (effect k.tables (tries_of o.owner)) (on_try (fence_at k.fences leg))
 
+abbrev pub told_on : Known → Leg → Option Open → TryAnswer
+told_on k leg None = tries.NotOpen
+told_on k leg (Some o) = (granted_on k leg o).told
+
+-- for the proofs alone
 abbrev pub refused_by : ℕ → StmtError → TryAnswer
 refused_by index error = tries.Refused (why.Stmt index error)

@@ -1,5 +1,5 @@
 //! The first phase of TCC branches.
-ghost use Rattle.std.specs.Prelude.{◌≡◌, ◌<◌, ◌≤◌, ◌^◌, ◌-◌, false, length, Ok, IfSome};
+ghost use Rattle.std.specs.Prelude.{◌≡◌, ◌<◌, ◌≤◌, ◌^◌, ◌-◌, false, length, Ok, IfSome, IfOk};
 ghost use Rattle.seata_types.specs.declared.statements.Work.TheVariants as work;
 ghost use Rattle.local_tables.specs.Calls.{effect};
 ghost use Rattle.durable_records.specs.declared.resources.ResourceRecord.TheVariants as log;
@@ -9,7 +9,7 @@ ghost use Rattle.local_txn.specs.OpenTickets.{open_at};
 ghost use Rattle.local_txn.specs.Answers.{open_of, owner_by, Prepares};
 ghost use Rattle.resource_store.specs.Keeping.{known, is_down};
 ghost use Rattle.resource_store.specs.Answers.{Gives, GivesBy, Leaves, HasPlaces};
-ghost use Rattle.tcc_branch.specs.Tries.{StaysUnlessTried, try_meant, tcc_granted, granted, tickets_after, MayTry, granted_on, refused_by};
+ghost use Rattle.tcc_branch.specs.Tries.{StaysUnlessTried, try_meant, tcc_granted, granted, tickets_after, MayTry, granted_on, told_on, refused_by};
 ghost use Rattle.tcc_branch.specs.Failures.{Tells};
 
 use crate::answers::TryAnswer;
@@ -51,6 +51,7 @@ pub fn on_grant<D: Disk>(
     requires up { is_down store.old ≡ false }
     requires may { IfSome (open_at txns.old.opens ticket) (MayTry (known store.old).tables leg) }
     ensures answer { GivesBy D.state (granted leg (open_at txns.old.opens ticket)) result store.old store.new }
+    ensures told { IfOk result (λ a. a ≡ told_on (known store.old) leg (open_at txns.old.opens ticket)) }
     ensures leaves { Leaves D.state result store.old store.new }
     ensures stays { StaysUnlessTried result store.old store.new }
     ensures tickets { txns.new ≡ tickets_after ticket result txns.old }

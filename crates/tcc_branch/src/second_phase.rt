@@ -1,12 +1,12 @@
 //! The second phase of TCC branches.
-ghost use Rattle.std.specs.Prelude.{◌≡◌, ◌≤◌, false, length};
+ghost use Rattle.std.specs.Prelude.{◌≡◌, ◌≤◌, false, length, IfOk};
 ghost use Rattle.local_tables.specs.Calls.{effect};
 ghost use Rattle.durable_records.specs.declared.resources.ResourceRecord.TheVariants as log;
 ghost use Rattle.durable_records.specs.Fences.{Runs, Suspends, on_confirm, on_cancel};
 ghost use Rattle.tcc_fence.specs.Meanings.{fence_at};
 ghost use Rattle.resource_store.specs.Keeping.{known, is_down};
 ghost use Rattle.resource_store.specs.Answers.{Gives, GivesBy, Leaves, making, HasPlaces};
-ghost use Rattle.tcc_branch.specs.SecondPhase.{confirm_runs, cancel_runs, confirmed, cancelled};
+ghost use Rattle.tcc_branch.specs.SecondPhase.{confirm_runs, cancel_runs, confirmed, cancelled, confirmed_on, cancelled_on};
 ghost use Rattle.tcc_branch.specs.Failures.{Tells};
 ghost use Rattle.tcc_branch.specs.declared.answers.TccAnswer.TheVariants as tcc;
 
@@ -31,6 +31,7 @@ pub fn confirm<D: Disk>(
     requires statements { length action.now.confirms ≤ 65535 }
     requires places { HasPlaces (known store.old).tables action.now.confirms (log.Confirmed leg.xid leg.branch) }
     ensures answer { GivesBy D.state (confirmed leg action.now) result store.old store.new }
+    ensures told { IfOk result (λ a. a ≡ (confirmed_on (known store.old) leg action.now.confirms).told) }
     ensures leaves { Leaves D.state result store.old store.new }
 {
     match store.fence().on_confirm(leg) {
@@ -53,6 +54,7 @@ pub fn cancel<D: Disk>(
     requires statements { length action.now.cancels ≤ 65535 }
     requires places { HasPlaces (known store.old).tables action.now.cancels (log.Cancelled leg.xid leg.branch) }
     ensures answer { GivesBy D.state (cancelled leg action.now) result store.old store.new }
+    ensures told { IfOk result (λ a. a ≡ (cancelled_on (known store.old) leg action.now.cancels).told) }
     ensures leaves { Leaves D.state result store.old store.new }
 {
     match store.fence().on_cancel(leg) {

@@ -51,3 +51,20 @@ pub returns-in-Suspend-clause-answer : goal.returns-in-Suspend-clause-answer
 returns-in-Suspend-clause-answer g c =
     cancels g.D.Disk.state c.args.store.now c.suspend.new.store c.args.leg c.args.action.now _
     (fenced g.D.Disk.state c.args.store.now c.suspend.new.store c.args.leg (tcc_rollback c.args.leg (effect (known c.args.store.now).tables c.args.action.now.cancels)) _ _ _ (ap answer_of (sym c.in-Suspend.is) ∙ c.on_cancel.ensures ∙ ap (λ (f : Fences). on_cancel (fence_at f c.args.leg)) c.fence.ensures) c.suspend.ensures.gives)
+
+pub returns-in-Run-clause-told : goal.returns-in-Run-clause-told
+returns-in-Run-clause-told g c =
+    (fenced g.D.Disk.state c.args.store.now c.run_cancel.new.store c.args.leg (tcc_rollback c.args.leg (effect (known c.args.store.now).tables c.args.action.now.cancels)) _ _ _ (ap answer_of (sym c.in-Run.is) ∙ c.on_cancel.ensures ∙ ap (λ (f : Fences). on_cancel (fence_at f c.args.leg)) c.fence.ensures)
+    (subst (λ (ss : List Stmt). Gives g.D.Disk.state (cancel_runs c.args.leg (effect (known c.args.store.now).tables ss)) c.run_cancel.result c.args.store.now c.run_cancel.new.store) c.as_slice.ensures c.run_cancel.ensures.gives)).told
+
+pub returns-in-Already-clause-told : goal.returns-in-Already-clause-told
+returns-in-Already-clause-told g c =
+    (fenced g.D.Disk.state c.args.store.now c.args.store.now c.args.leg (tcc_rollback c.args.leg (effect (known c.args.store.now).tables c.args.action.now.cancels)) _ _ _ (ap answer_of (sym c.in-Already.is) ∙ c.on_cancel.ensures ∙ ap (λ (f : Fences). on_cancel (fence_at f c.args.leg)) c.fence.ensures) (gives_only g.D.Disk.state c.args.store.now tcc.Already)).told
+
+pub returns-in-Refuse-clause-told : goal.returns-in-Refuse-clause-told
+returns-in-Refuse-clause-told g c =
+    (fenced g.D.Disk.state c.args.store.now c.args.store.now c.args.leg (tcc_rollback c.args.leg (effect (known c.args.store.now).tables c.args.action.now.cancels)) _ _ _ (ap answer_of (sym c.in-Refuse.is) ∙ c.on_cancel.ensures ∙ ap (λ (f : Fences). on_cancel (fence_at f c.args.leg)) c.fence.ensures) (gives_only g.D.Disk.state c.args.store.now tcc.Refused)).told
+
+pub returns-in-Suspend-clause-told : goal.returns-in-Suspend-clause-told
+returns-in-Suspend-clause-told g c =
+    (fenced g.D.Disk.state c.args.store.now c.suspend.new.store c.args.leg (tcc_rollback c.args.leg (effect (known c.args.store.now).tables c.args.action.now.cancels)) _ _ _ (ap answer_of (sym c.in-Suspend.is) ∙ c.on_cancel.ensures ∙ ap (λ (f : Fences). on_cancel (fence_at f c.args.leg)) c.fence.ensures) c.suspend.ensures.gives).told

@@ -51,3 +51,20 @@ returns-in-Refuse-clause-answer g c =
 
 pub returns-in-Refuse-clause-leaves : goal.returns-in-Refuse-clause-leaves
 returns-in-Refuse-clause-leaves g c = leaves_all g.D.Disk.state c.args.store.now _ c.requires.up refl
+
+pub returns-in-Run-clause-told : goal.returns-in-Run-clause-told
+returns-in-Run-clause-told g c =
+    (fenced g.D.Disk.state c.args.store.now c.run_confirm.new.store c.args.leg (tcc_commit c.args.leg (effect (known c.args.store.now).tables c.args.action.now.confirms)) _ _ _ (ap answer_of (sym c.in-Run.is) ∙ c.on_confirm.ensures ∙ ap (λ (f : Fences). on_confirm (fence_at f c.args.leg)) c.fence.ensures)
+    (subst (λ (ss : List Stmt). Gives g.D.Disk.state (confirm_runs c.args.leg (effect (known c.args.store.now).tables ss)) c.run_confirm.result c.args.store.now c.run_confirm.new.store) c.as_slice.ensures c.run_confirm.ensures.gives)).told
+
+pub returns-in-Already-clause-told : goal.returns-in-Already-clause-told
+returns-in-Already-clause-told g c =
+    (fenced g.D.Disk.state c.args.store.now c.args.store.now c.args.leg (tcc_commit c.args.leg (effect (known c.args.store.now).tables c.args.action.now.confirms)) _ _ _ (ap answer_of (sym c.in-Already.is) ∙ c.on_confirm.ensures ∙ ap (λ (f : Fences). on_confirm (fence_at f c.args.leg)) c.fence.ensures) (gives_only g.D.Disk.state c.args.store.now tcc.Already)).told
+
+pub returns-in-Suspend-clause-told : goal.returns-in-Suspend-clause-told
+returns-in-Suspend-clause-told g c =
+    (fenced g.D.Disk.state c.args.store.now c.args.store.now c.args.leg (tcc_commit c.args.leg (effect (known c.args.store.now).tables c.args.action.now.confirms)) _ _ _ (ap answer_of (sym c.in-Suspend.is) ∙ c.on_confirm.ensures ∙ ap (λ (f : Fences). on_confirm (fence_at f c.args.leg)) c.fence.ensures) (gives_only g.D.Disk.state c.args.store.now tcc.Refused)).told
+
+pub returns-in-Refuse-clause-told : goal.returns-in-Refuse-clause-told
+returns-in-Refuse-clause-told g c =
+    (fenced g.D.Disk.state c.args.store.now c.args.store.now c.args.leg (tcc_commit c.args.leg (effect (known c.args.store.now).tables c.args.action.now.confirms)) _ _ _ (ap answer_of (sym c.in-Refuse.is) ∙ c.on_confirm.ensures ∙ ap (λ (f : Fences). on_confirm (fence_at f c.args.leg)) c.fence.ensures) (gives_only g.D.Disk.state c.args.store.now tcc.Refused)).told

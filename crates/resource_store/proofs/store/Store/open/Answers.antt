@@ -4,10 +4,11 @@ use Rattle.disk_model.specs.Disk.{HasCause}
 use Rattle.journal_checkpoint.specs.Keeping.{first_disk, second_disk}
 use Rattle.memory_store.specs.Settling.{RunsOn}
 use Rattle.memory_store.proofs.DiskFacts.{runs_then, cause_after}
-use Rattle.resource_store.specs.Keeping.{twin}
+use Rattle.resource_memory.specs.Known.{Known}
+use Rattle.resource_store.specs.Keeping.{known, twin}
 use Rattle.resource_store.specs.Meaning.{setting, meaning_of}
 use Rattle.resource_store.specs.Openings.{IsUndamaged, IsBootDamage}
-use Rattle.resource_store.proofs.OpeningLaws.{boots_as, boot_refused, boot_images, boot_damage, failed_disk, moved_first, moved_second, read_damage, read_undamaged}
+use Rattle.resource_store.proofs.OpeningLaws.{boots_as, boot_refused, boot_images, boot_damage, boot_sound, failed_disk, moved_first, moved_second, read_damage, read_undamaged}
 use Rattle.resource_store.proofs.store.Store.open.Goals as goal
 
 pub returns-in-Err-clause-recovers : goal.returns-in-Err-clause-recovers
@@ -26,6 +27,11 @@ returns-in-Ok-start-clause-keeps g c = λ rs a b is too stands.
 
 pub returns-in-Ok-start-clause-place : goal.returns-in-Ok-start-clause-place
 returns-in-Ok-start-clause-place g c = λ a b is too found stands. c.in-Ok-start.ensures.found ∙ c.in-Ok.ensures.place a b is too found stands
+
+pub returns-in-Ok-start-clause-sound : goal.returns-in-Ok-start-clause-sound
+returns-in-Ok-start-clause-sound g c =
+    subst (λ (k : Known). (meaning_of (setting c.args.resource c.args.schema c.args.opening)).IsSound k) (sym c.in-Ok-start.ensures.knows)
+    (boot_sound (setting c.args.resource c.args.schema c.args.opening) (known c.in-Ok.store) c.in-Ok.ensures.sound)
 
 pub returns-in-Ok-start-clause-images : goal.returns-in-Ok-start-clause-images
 returns-in-Ok-start-clause-images g c = λ a b x y is too one two.
