@@ -1,5 +1,5 @@
 -- A step of the coordinator is what happens by the rules, as far as its disks let it.
-use Rattle.std.proofs.Common.{◌≡◌, ◌⊎◌, inl, inr, ◌+◌, ℕ, Bool, true, false, List, ◌∷◌, Option, Some, option_map, refl, sym, ap, subst, ◌∙◌, arith}
+use Rattle.std.proofs.Common.{◌≡◌, ◌⊎◌, inl, inr, ◌+◌, ◌≤◌, ℕ, Bool, true, false, List, ◌∷◌, length, Option, None, Some, option_map, refl, sym, ap, subst, ◌∙◌, arith}
 use Rattle.std.specs.Prelude.{Ok, Err}
 use Rattle.std.specs.Option.{option_and_then}
 use Rattle.disk_model.specs.Disk.{DiskState, IsLawful}
@@ -18,7 +18,7 @@ use Rattle.durable_records.specs.declared.coordinators.SessionRecord.{SessionRec
 use Rattle.session_log.specs.declared.sessions.Snapshot.{Snapshot}
 use Rattle.session_log.specs.Records.{record_bytes}
 use Rattle.session_store.specs.declared.sessions.Sessions.{Sessions}
-use Rattle.session_store.specs.Keeping.{known, is_down as sessions_down}
+use Rattle.session_store.specs.Keeping.{known, is_down as sessions_down, HasRoom as HasRecordRoom}
 use Rattle.history_rules.specs.Own.{Own, Left, Given, Event, leaves, added, asked_act}
 use Rattle.history_rules.specs.Devices.{calls_left, fails, fault_of, left_after, down_after, written, is_down as down_by}
 use Rattle.history_rules.specs.CoordinatorMemory.{Times, sessions_left, session_record, session_asked}
@@ -34,7 +34,7 @@ use Rattle.coordinator_core.specs.Serving.{ServesInput}
 use Rattle.coordinator_core.specs.Standing.{StandsAs, StandsOver, OnDisks, course, serves, disks_of, sessions_of, is_down, needs, size_of, times_of}
 use Rattle.coordinator_core.specs.Tracks.{with_own, rule_answer, Follows, IsSendable, AreSendable}
 use Rattle.coordinator_core.specs.NodeLaws.{on_same}
-use Rattle.coordinator_core.specs.Stepping.{StepsBy}
+use Rattle.coordinator_core.specs.Stepping.{HasRoom, StepsBy}
 use Rattle.coordinator_core.proofs.Stays.{remains_put, remains_lost, remains_same, stays_itself, same_picks}
 use Rattle.coordinator_core.proofs.Disks.{false_true, on_added, on_lost, long, cause, kept_now}
 
@@ -109,6 +109,18 @@ some_record r = Some r
 
 one_record : (r q : SessionRecord) → some_record r ≡ Some q → r ≡ q
 one_record r q e = cc
+
+no_record : (r : SessionRecord) → None ≡ some_record r → ⊥
+no_record r e = cc
+
+abbrev some_bytes : List ℕ → Option (List ℕ)
+some_bytes bytes = Some bytes
+
+no_bytes : (bytes : List ℕ) → None ≡ some_bytes bytes → ⊥
+no_bytes bytes e = cc
+
+same_bytes : (a b : List ℕ) → some_bytes a ≡ Some b → a ≡ b
+same_bytes a b e = cc
 
 -- what happens at a node that is up: its rule's answer, written
 happens_up : (role : Role) (owns : List Own) (now : ℕ) (fault : Bool) (given : Input) (step : Step) → down_by owns ≡ false → step ≡ answer role owns now given
@@ -241,6 +253,42 @@ module _ {D : Type 0} (state : D → DiskState) (law : (d : Stoppable D) → IsL
   overflows full i (Resource setup past) owns s = absurd s
   overflows full i (Manager settings) owns s = absurd s
 
+  -- ---- a record that was taken
+
+  -- the record that an answer's act asks for fits
+  room_by : (a : Act) → is_answer a ≡ true → Puts (state_of state) (Given given) now a (sessions_of c) (sessions_of c') → (r : SessionRecord)
+      → option_and_then (session_record now (Given given)) (asked_act a) ≡ Some r → HasRecordRoom (state_of state) r (sessions_of c)
+  room_by (act.Durable done) e (q, asked, adds) r is = subst (λ k. HasRecordRoom (state_of state) k (sessions_of c)) (one_record q r (sym asked ∙ is)) adds.fits
+  room_by (act.Down kept at) e p r is = false_true e
+  room_by _ e p r is = absurd (no_record r is)
+
+  room_of : (asked : Option SessionRecord) (bytes : List ℕ) → ((r : SessionRecord) → asked ≡ Some r → HasRecordRoom (state_of state) r (sessions_of c))
+      → option_map record_bytes asked ≡ Some bytes → needs c (length bytes) ≤ size_of state c
+  room_of None bytes room e = absurd (no_bytes bytes e)
+  room_of (Some r) bytes room e = subst (λ (b : List ℕ). needs c (length b) ≤ size_of state c) (same_bytes (record_bytes r) bytes e) (room r refl)
+
+  -- the bytes that the rule's answer asks for are those of this step
+  bytes_of : (times : Times) (past : List SessionRecord) (owns : List Own) (step : Step) (bytes : List ℕ) → step ≡ answer (CoordinatorRole times past) owns now given
+      → option_map record_bytes (session_asked (own_step given now (answer (CoordinatorRole times past) owns now given))) ≡ Some bytes
+      → option_map record_bytes (session_asked (own_step given now step)) ≡ Some bytes
+  bytes_of times past owns step bytes is e = ap (λ (k : Step). option_map record_bytes (session_asked (own_step given now k))) is ∙ e
+
+  pub room_taken : (step : Step) → AnswersWhere (state_of state) (λ owns. ComesFramable given) c.table c'.table given now (Ok step) → HasRoom state c given now
+  room_taken step a (CoordinatorRole times past) owns (same, s) bytes e =
+      let taken = a.0.takes (course past owns) (s.follows (upon past owns s)) framable in
+      room_of (session_asked (own_step given now step)) bytes (room_by step.act taken.2 a.1) (bytes_of times past owns step bytes (is_rule times past owns step same taken.0) e)
+  room_taken step a (Resource setup past) owns s bytes e = absurd s
+  room_taken step a (Manager settings) owns s bytes e = absurd s
+
+  pub room_cut : (done : Durable) → IsCut (state_of state) (λ owns. ComesFramable given) c.table c'.table given now done → HasRoom state c given now
+  room_cut done i (CoordinatorRole times past) owns (same, s) bytes e =
+      let taken = i.due.answered.takes (course past owns) (s.follows (upon past owns s)) framable in
+      let asked = asked_by i.due.step.act done i.r i.due.durable i.due.asked in
+      room_of (session_asked (own_step given now i.due.step)) bytes (λ r is. subst (λ k. HasRecordRoom (state_of state) k (sessions_of c)) (one_record i.r r (sym asked ∙ is)) i.loses.fits)
+      (bytes_of times past owns i.due.step bytes (is_rule times past owns i.due.step same taken.0) e)
+  room_cut done i (Resource setup past) owns s bytes e = absurd s
+  room_cut done i (Manager settings) owns s bytes e = absurd s
+
 -- ---- all that is promised of a step
 
 -- what is kept of a step without an answer
@@ -262,6 +310,7 @@ module _ {D : Type 0} (state : D → DiskState) (law : (d : Stoppable D) → IsL
         answers = takes_step state law c c' given now up served step a;
         framable = f;
         after = tt;
+        room = room_taken state law c c' given now up served step a;
         same = stays_itself state c c' remains;
         picks = same_picks state c c' remains;
         counted = counted;
@@ -276,6 +325,7 @@ module _ {D : Type 0} (state : D → DiskState) (law : (d : Stoppable D) → IsL
         answers = tt;
         framable = λ f. tt;
         after = fails_at state law c c' given now up served done i m.0 m.1;
+        room = room_cut state law c c' given now up served done i;
         same = stays_itself state c c' remains;
         picks = same_picks state c c' remains;
         counted = m.2;
@@ -286,6 +336,7 @@ module _ {D : Type 0} (state : D → DiskState) (law : (d : Stoppable D) → IsL
         answers = tt;
         framable = λ f. tt;
         after = (stands_before state law c c' given now up served i.unanswered i.sessions, overflows state law c c' given now up served full i);
+        room = tt;
         same = stays_itself state c c' remains;
         picks = same_picks state c c' remains;
         counted = omega (arith, m);
@@ -296,6 +347,7 @@ module _ {D : Type 0} (state : D → DiskState) (law : (d : Stoppable D) → IsL
         answers = tt;
         framable = λ f. tt;
         after = stands_before state law c c' given now up served i.0 i.1;
+        room = tt;
         same = stays_itself state c c' remains;
         picks = same_picks state c c' remains;
         counted = omega (arith, m);

@@ -1,8 +1,9 @@
 -- What a step and a restart of the coordinator promise: all that `Node` promises of them.
-use Rattle.std.specs.Prelude.{◌≡◌, ◌+◌, ℕ, List, Option, Result, Err, IfOk, IfErr, OnOk, OnErr}
+use Rattle.std.specs.Prelude.{◌≡◌, ◌+◌, ◌≤◌, ℕ, List, length, Option, Some, Result, Ok, Err, IfOk, IfErr, OnOk, OnErr}
 use Rattle.disk_model.specs.Disk.{DiskState}
 use Rattle.seata_types.specs.declared.acts.Act.{Act}
 use Rattle.seata_types.specs.declared.errors.NodeError.{NodeError}
+use Rattle.seata_types.specs.declared.errors.NodeError.TheVariants as error
 use Rattle.seata_types.specs.declared.errors.OpenError.{OpenError}
 use Rattle.seata_types.specs.declared.errors.OpenError.TheVariants as open_error
 use Rattle.seata_types.specs.declared.ids.Place.{Place}
@@ -13,7 +14,7 @@ use Rattle.history_rules.specs.Own.{Own}
 use Rattle.history_rules.specs.Nodes.{Role}
 use Rattle.history_text.specs.Durable.{SamePicks, HavePick}
 use Rattle.history_text.specs.Framing.{ComesFramable, SendsFramable}
-use Rattle.history_text.specs.Promises.{TakesStep, AfterError, DisksFail, StaysItself, goes_down, steps_of, AreTold, StandsAsBefore, Restarts, IsRestartError, stays_down}
+use Rattle.history_text.specs.Promises.{TakesStep, AfterError, DisksFail, StaysItself, goes_down, steps_of, AreTold, StandsAsBefore, asked_bytes, Restarts, IsRestartError, stays_down}
 use Rattle.coordinator_core.specs.declared.nodes.Coordinator.{Coordinator}
 use Rattle.coordinator_core.specs.Standing.{StandsAs, serves, disks_of, needs, size_of, steps_left, is_down}
 
@@ -21,10 +22,23 @@ use Rattle.coordinator_core.specs.Standing.{StandsAs, serves, disks_of, needs, s
 abbrev pub stands_at : {D : Type 0} → Coordinator D → Place
 stands_at c = place.Tc
 
+-- the record that the rule's answer asks for, if it asks for one, ends within the active disk
+abbrev pub HasRoom : {D : Type 0} → (D → DiskState) → Coordinator D → Input → ℕ → Type 0
+HasRoom state c given now =
+    (role : Role) (owns : List Own) → StandsAs state c role owns → (bytes : List ℕ) → asked_bytes role owns now given ≡ Some bytes → needs c (length bytes) ≤ size_of state c
+
+-- it had room for the record of a step that was answered, or at which the disks failed
+abbrev pub HadRoom : {D : Type 0} → (D → DiskState) → Coordinator D → Input → ℕ → Result Step NodeError → Type 0
+HadRoom state c given now (Ok step) = HasRoom state c given now
+HadRoom state c given now (Err (error.Failed flight)) = HasRoom state c given now
+HadRoom state c given now (Err (error.Full full)) = Unit {0}
+HadRoom state c given now (Err error.NoMemory) = Unit {0}
+
 pub record StepsBy {D : Type 0} (state : D → DiskState) (old new : Coordinator D) (given : Input) (now : ℕ) (result : Result Step NodeError) : Type 0 where
   pub answers : IfOk result (TakesStep (StandsAs state) old new given now)
   pub framable : ComesFramable given → IfOk result SendsFramable
   pub after : IfErr result (AfterError (StandsAs state) (DisksFail (disks_of state old) (disks_of state new)) (needs old) (size_of state old) old new given now)
+  pub room : HadRoom state old given now result
   pub same : StaysItself stands_at serves (disks_of state) old new
   pub picks : SamePicks (disks_of state old) (disks_of state new)
   pub counted : steps_left new + steps_of result ≡ steps_left old

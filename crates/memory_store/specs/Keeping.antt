@@ -72,6 +72,17 @@ IsAtEnd m s = m.acts (memory_of s) + 1 ≡ 2 ^ 32
 abbrev pub IsFullFor : {M K D : Type 0} → (D → DiskState) → ℕ → Store M K D → Full → Type 0
 IsFullFor state body s full = IsFull (needed_for (twin_of s) body) (state (active_disk (twin_of s))).size full
 
+-- a record with a body of so many bytes ends within the active disk
+abbrev pub HasRoomFor : {M K D : Type 0} → (D → DiskState) → ℕ → Store M K D → Type 0
+HasRoomFor state body s = needed_for (twin_of s) body ≤ (state (active_disk (twin_of s))).size
+
+-- it has room for a record that was put on the disks, or at which they failed
+abbrev pub HasRoomIfTaken : {M K D : Type 0} → (D → DiskState) → ℕ → Result (Unit {0}) StoreError → Store M K D → Type 0
+HasRoomIfTaken state body (Ok done) s = HasRoomFor state body s
+HasRoomIfTaken state body (Err store_error.Failed) s = HasRoomFor state body s
+HasRoomIfTaken state body (Err (store_error.Full full)) s = Unit {0}
+HasRoomIfTaken state body (Err store_error.NoMemory) s = Unit {0}
+
 -- what the memory is after a record, where it was put on the disks, or that failed
 abbrev pub ChangesMemory : {M K D I : Type 0} → Meaning K I → I → Result (Unit {0}) StoreError → Store M K D → Store M K D → Type 0
 ChangesMemory m item (Ok x) old new = memory_of new ≡ m.after item (memory_of old)

@@ -28,9 +28,9 @@ impl<K: Drop, M: StateMachine<Memory = K> + Drop, D: Disk> Store<M, K, D> {
     ghost use Rattle.disk_journal.specs.Reading.{row_length};
     ghost use Rattle.seata_types.specs.declared.limits.TheConstants.{BODY_BYTES};
     ghost use Rattle.journal_checkpoint.specs.Images.{FailsItself, PairStandsFor, LeavesPairs, Either, with_record};
-    ghost use Rattle.journal_checkpoint.specs.Keeping.{KeepsPair, active_disk, first_disk, second_disk, disks, needed_for};
+    ghost use Rattle.journal_checkpoint.specs.Keeping.{KeepsPair, active_disk, first_disk, second_disk, disks};
     ghost use Rattle.memory_store.specs.Settling.{GoesOn, RunsOn, IsNoDamage};
-    ghost use Rattle.memory_store.specs.Keeping.{machine_of, memory_of, twin_of, found_of, is_down, Keeps, Takes, Falls, IsAtEnd, IsFullFor, ChangesMemory, IsDamage, IsOf, IsNotFull, IsRead, FindsFirst, ComesUp, IsBack, IsTold, first_after, second_after, LendsMemory, LendsActive};
+    ghost use Rattle.memory_store.specs.Keeping.{machine_of, memory_of, twin_of, found_of, is_down, Keeps, Takes, Falls, IsAtEnd, IsFullFor, HasRoomFor, HasRoomIfTaken, ChangesMemory, IsDamage, IsOf, IsNotFull, IsRead, FindsFirst, ComesUp, IsBack, IsTold, first_after, second_after, LendsMemory, LendsActive};
 
     /// Reads two disks, and changes no byte. The disks come back where it fails: `Damaged` where their bytes hold nothing,
     /// `NoMemory` where there is none for what they hold or for appends.
@@ -131,7 +131,7 @@ impl<K: Drop, M: StateMachine<Memory = K> + Drop, D: Disk> Store<M, K, D> {
     /// Whether a record with a body of so many bytes fits on the active disk. At `Ok` one more act can be counted too.
     pub fn fits(&self, body: usize) -> Result<(), Full>
         requires { body ≤ BODY_BYTES }
-        ensures ok { OnOk result (needed_for (twin_of self.now) body ≤ (D.state (active_disk (twin_of self.now))).size) }
+        ensures ok { OnOk result (HasRoomFor D.state body self.now) }
         ensures room { OnOk result ((M.meaning (machine_of self.now)).acts (memory_of self.now) + 1 < 2 ^ 32) }
         // It is exact, since no disk has room for as many records as can be counted.
         ensures full { IfErr result (λ full. IsFullFor D.state body self.now full ⊎ IsAtEnd (M.meaning (machine_of self.now)) self.now) }
@@ -177,6 +177,7 @@ impl<K: Drop, M: StateMachine<Memory = K> + Drop, D: Disk> Store<M, K, D> {
             IsFullFor D.state (length body.now) self.old full ⊎ IsAtEnd (M.meaning (machine_of self.old)) self.old }
         ensures exact { (found : Found) (full : Full) → Keeps D.state (M.meaning (machine_of self.old)) found self.old →
             result ≡ Err (StoreError.Full full) → IsFullFor D.state (length body.now) self.old full }
+        ensures room { HasRoomIfTaken D.state (length body.now) result self.old }
         ensures down { IsTrue (is_down self.new) ↔ (result ≡ Err StoreError.Failed) }
         ensures machine { machine_of self.new ≡ machine_of self.old }
         ensures found { found_of self.new ≡ found_of self.old }
@@ -198,7 +199,7 @@ impl<K: Drop, M: StateMachine<Memory = K> + Drop, D: Disk> Store<M, K, D> {
     pub fn append(&mut self, body: &[u8]) -> Result<(), Failed>
         requires up { is_down self.old ≡ false }
         requires small { length body.now ≤ BODY_BYTES }
-        requires fits { needed_for (twin_of self.old) (length body.now) ≤ (D.state (active_disk (twin_of self.old))).size }
+        requires fits { HasRoomFor D.state (length body.now) self.old }
 
         ensures acknowledged { OnOk result ((found : Found) → KeepsPair D.state found (twin_of self.old) →
             KeepsPair D.state (with_record found body.now) (twin_of self.new)) }

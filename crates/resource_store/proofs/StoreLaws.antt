@@ -14,7 +14,7 @@ use Rattle.journal_checkpoint.specs.Keeping.{KeepsPair, active_disk, disks}
 use Rattle.memory_store.specs.Meanings.{Meaning}
 use Rattle.memory_store.specs.Holdings.{held_in as held_by_found, memory_on, second_in, on_disk, of_pair}
 use Rattle.memory_store.specs.Settling.{IsWritable, settled, GoesOn, StandsOrSettled}
-use Rattle.memory_store.specs.Keeping.{Keeps, Takes, Falls, IsFullFor, ChangesMemory, IsDamage, IsRead, IsOf, machine_of}
+use Rattle.memory_store.specs.Keeping.{Keeps, Takes, Falls, HasRoomFor, HasRoomIfTaken, IsFullFor, ChangesMemory, IsDamage, IsRead, IsOf, machine_of}
 use Rattle.memory_store.proofs.Replaying.{few_acts, rows_are_long}
 use Rattle.memory_store.proofs.TwinFacts.{end_is_small}
 use Rattle.durable_records.specs.declared.resources.ResourceRecord.{ResourceRecord}
@@ -34,7 +34,7 @@ use Rattle.resource_store.specs.declared.store.Store.{Store}
 use Rattle.resource_store.specs.Meaning.{Setting, opening_of, meaning_of}
 use Rattle.resource_store.specs.Lawful.{lawful}
 use Rattle.resource_store.specs.Standing.{IsListOf, StandsForRecords}
-use Rattle.resource_store.specs.Keeping.{setting_of, known, twin, found_of, is_down, KeepsRecords, WithOrWithout, LeavesEither, Adds, Loses, Makes, Moves, has_failed, Changes, IsNoDamage, GoesOnAs}
+use Rattle.resource_store.specs.Keeping.{setting_of, known, twin, found_of, is_down, KeepsRecords, WithOrWithout, LeavesEither, HasRoom, Adds, Loses, Makes, Moves, has_failed, Changes, IsNoDamage, GoesOnAs}
 use Rattle.resource_store.proofs.ListLaws.{held_of_list, list_more, kept_of, written_back}
 
 -- ---- images
@@ -100,9 +100,14 @@ module _ {D : Type 0} (state : D → DiskState) (old new : Store D) (r : Resourc
     knows_more : known new ≡ after r (known old) → known new ≡ known_of (opening_of (setting_of old)) (r ∷ rs)
     knows_more now = now ∙ ap (after r) k.knows ∙ sym (applies (opening_of (setting_of old)) rs more.made.allowed.0 r more.made.allowed.1)
 
+    -- the room that its bytes have is the record's
+    has_record_room : HasRoomFor state (length body) old.kept → HasRoom state r old
+    has_record_room = subst (λ (bytes : List ℕ). HasRoomFor state (length bytes) old.kept) is
+
     -- the disks have it, and it is known
-    pub adds : KeepsPair state (with_record k.found body) (twin new) → known new ≡ after r (known old) → Adds state r rs old new
-    adds pair now = record {
+    pub adds : HasRoomFor state (length body) old.kept → KeepsPair state (with_record k.found body) (twin new) → known new ≡ after r (known old) → Adds state r rs old new
+    adds room pair now = record {
+      fits = has_record_room room;
       keeps = record {
         found = with_record k.found body;
         kept = record { pair = pair; held = held_of_list (setting_of old) (r ∷ rs) (with_record k.found body) more ∙ ap (λ (s : Known). Ok s) (sym (knows_more now)) };
@@ -113,9 +118,10 @@ module _ {D : Type 0} (state : D → DiskState) (old new : Store D) (r : Resourc
     }
 
     -- the disks failed
-    pub loses : ((found : Found) → KeepsPair state found (twin old) → (calls : ℕ) → (state (active_disk (twin old))).counts.left ≡ Some calls → calls < 2 → LeavesPairs (disks state (twin old)) (disks state (twin new)) (PairStandsFor found)) →
+    pub loses : HasRoomFor state (length body) old.kept → ((found : Found) → KeepsPair state found (twin old) → (calls : ℕ) → (state (active_disk (twin old))).counts.left ≡ Some calls → calls < 2 → LeavesPairs (disks state (twin old)) (disks state (twin new)) (PairStandsFor found)) →
         Loses state r rs old new
-    loses not_begun = record {
+    loses room not_begun = record {
+      fits = has_record_room room;
       any_moment = leaves_either;
       not_begun = λ calls left few.
           leaves_as (disks state (twin old)) (disks state (twin new)) (PairStandsFor k.found) (StandsForRecords (setting_of old) rs)
@@ -158,15 +164,15 @@ module _ {D : Type 0} (state : D → DiskState) (old new : Store D) (r : Resourc
     abbrev ChangesKnown : Result (Unit {0}) StoreError → Type 0
     ChangesKnown result = ChangesMemory (meaning_of (setting_of old)) r result old.kept new.kept
 
-    makes_by : (result : Result (Unit {0}) StoreError) → OnOk result Kept → ChangesKnown result → AtAnyMoment → NotBegun → IsExact result →
+    makes_by : (result : Result (Unit {0}) StoreError) → OnOk result Kept → ChangesKnown result → AtAnyMoment → NotBegun → IsExact result → HasRoomIfTaken state (length body) result old.kept →
         (rs : List ResourceRecord) → KeepsRecords state (setting_of old) rs old → Makes state r rs result old new
-    makes_by (Ok done) keeps memory any_moment not_begun exact rs k =
-        adds state old new r body fits is allowed any_moment rs k (keeps k.found k.kept).pair memory
-    makes_by (Err store_error.Failed) keeps memory any_moment not_begun exact rs k =
-        loses state old new r body fits is allowed any_moment rs k not_begun
-    makes_by (Err (store_error.Full full)) keeps memory any_moment not_begun exact rs k =
+    makes_by (Ok done) keeps memory any_moment not_begun exact room rs k =
+        adds state old new r body fits is allowed any_moment rs k room (keeps k.found k.kept).pair memory
+    makes_by (Err store_error.Failed) keeps memory any_moment not_begun exact room rs k =
+        loses state old new r body fits is allowed any_moment rs k room not_begun
+    makes_by (Err (store_error.Full full)) keeps memory any_moment not_begun exact room rs k =
         subst (λ (bytes : List ℕ). IsFullFor state (length bytes) old.kept full) is (exact k.found full k.kept refl)
-    makes_by (Err store_error.NoMemory) keeps memory any_moment not_begun exact rs k = tt
+    makes_by (Err store_error.NoMemory) keeps memory any_moment not_begun exact room rs k = tt
 
     moves_by : (result : Result (Unit {0}) StoreError) → ChangesKnown result → OnOk result (Takes state (twin old) (twin new)) → (result ≡ Err store_error.Failed → Falls state (twin old) (twin new)) → Moves state result old new
     moves_by (Ok done) memory took falls = took
@@ -179,11 +185,11 @@ module _ {D : Type 0} (state : D → DiskState) (old new : Store D) (r : Resourc
     knows_by (Err e) memory = tt
 
     pub changes : (result : Result (Unit {0}) StoreError) → OnOk result Kept → ChangesKnown result → AtAnyMoment → NotBegun →
-        OnOk result (Takes state (twin old) (twin new)) → (result ≡ Err store_error.Failed → Falls state (twin old) (twin new)) → IsExact result →
+        OnOk result (Takes state (twin old) (twin new)) → (result ≡ Err store_error.Failed → Falls state (twin old) (twin new)) → IsExact result → HasRoomIfTaken state (length body) result old.kept →
         IsTrue (is_down new) ↔ (result ≡ Err store_error.Failed) → machine_of new.kept ≡ machine_of old.kept → found_of new ≡ found_of old →
         Changes state r result old new
-    changes result keeps memory any_moment not_begun took falls exact down machine found = record {
-      makes = makes_by result keeps memory any_moment not_begun exact;
+    changes result keeps memory any_moment not_begun took falls exact room down machine found = record {
+      makes = makes_by result keeps memory any_moment not_begun exact room;
       disks = moves_by result memory took falls;
       knows = knows_by result memory;
       down = failed_down new result down;

@@ -13,7 +13,7 @@ use Rattle.journal_checkpoint.specs.Keeping.{active_disk, first_disk, second_dis
 use Rattle.durable_records.specs.declared.resources.ResourceRecord.{ResourceRecord}
 use Rattle.durable_records.specs.declared.resources.ResourceRecord.TheVariants as log
 use Rattle.durable_records.specs.UndoRecords.{boots}
-use Rattle.memory_store.specs.Keeping.{SameTwins, with_twin, first_handed_on, second_handed_on, twin_of, memory_of, machine_of, found_of as store_found, is_down as store_is_down, Keeps, Takes, Falls, IsFullFor}
+use Rattle.memory_store.specs.Keeping.{SameTwins, with_twin, first_handed_on, second_handed_on, twin_of, memory_of, machine_of, found_of as store_found, is_down as store_is_down, Keeps, Takes, Falls, HasRoomFor, IsFullFor}
 pub use Rattle.memory_store.specs.Settling.{IsNoDamage}
 use Rattle.resource_log.specs.Records.{FitsRecord, record_bytes}
 use Rattle.resource_memory.specs.Changes.{after, may_come}
@@ -64,13 +64,19 @@ WithOrWithout t r rs a b = StandsForRecords t rs a b ⊎ StandsForRecords t (r �
 abbrev pub LeavesEither : {D : Type 0} → (D → DiskState) → ResourceRecord → List ResourceRecord → Store D → Store D → Type 0
 LeavesEither state r rs old new = LeavesPairs (disks state (twin old)) (disks state (twin new)) (WithOrWithout (setting_of old) r rs)
 
--- The record is on the disks, and known.
+-- the record ends within the active disk
+abbrev pub HasRoom : {D : Type 0} → (D → DiskState) → ResourceRecord → Store D → Type 0
+HasRoom state r s = HasRoomFor state (length (record_bytes r)) s.kept
+
+-- The record fits, is on the disks, and known.
 pub record Adds {D : Type 0} (state : D → DiskState) (r : ResourceRecord) (rs : List ResourceRecord) (old new : Store D) : Type 0 where
+  pub fits : HasRoom state r old
   pub keeps : KeepsRecords state (setting_of old) (r ∷ rs) new
   pub any_moment : LeavesEither state r rs old new
 
--- The active disk failed: it may have the record or not, and hasn't where a stop let fewer than two calls pass.
+-- The active disk failed: it may have the record, which fits, or not, and hasn't where a stop let fewer than two calls pass.
 pub record Loses {D : Type 0} (state : D → DiskState) (r : ResourceRecord) (rs : List ResourceRecord) (old new : Store D) : Type 0 where
+  pub fits : HasRoom state r old
   pub any_moment : LeavesEither state r rs old new
   pub not_begun : (calls : ℕ) → (state (active_disk (twin old))).counts.left ≡ Some calls → calls < 2 →
       LeavesPairs (disks state (twin old)) (disks state (twin new)) (StandsForRecords (setting_of old) rs)

@@ -16,7 +16,7 @@ use Rattle.journal_checkpoint.specs.Keeping.{KeepsPair, active_disk, first_disk,
 use Rattle.memory_store.specs.Meanings.{Meaning}
 use Rattle.memory_store.specs.Holdings.{held_in as held_by_found, memory_on, second_in, on_disk, of_pair}
 use Rattle.memory_store.specs.Settling.{IsWritable, settled, GoesOn, StandsOrSettled}
-use Rattle.memory_store.specs.Keeping.{Keeps, Takes, Falls, IsFullFor, ChangesMemory, IsDamage, IsRead, IsOf, IsBack, IsTold, machine_of, with_memory, found_of as store_found_of}
+use Rattle.memory_store.specs.Keeping.{Keeps, Takes, Falls, HasRoomFor, HasRoomIfTaken, IsFullFor, ChangesMemory, IsDamage, IsRead, IsOf, IsBack, IsTold, machine_of, with_memory, found_of as store_found_of}
 use Rattle.memory_store.proofs.Replaying.{few_acts, rows_are_long}
 use Rattle.memory_store.proofs.TwinFacts.{end_is_small, pairs_weaker}
 use Rattle.durable_records.specs.declared.coordinators.SessionRecord.{SessionRecord}
@@ -47,7 +47,7 @@ use Rattle.session_store.specs.declared.sessions.Sessions.{Sessions}
 use Rattle.session_store.specs.Refusals.{of_hold}
 use Rattle.session_store.specs.Meaning.{acts_of, meaning_of, lawful}
 use Rattle.session_store.specs.Standing.{IsListOf, StandsForSessions}
-use Rattle.session_store.specs.Keeping.{managers_of, resources_of, known, twin, is_down, meaning, StandsFor, SameOpening, KeepsRecords, WithOrWithout, Adds, Loses, Makes, register_record, AreFree, Registers, IsRefused, IsNoDamage, GoesOnAs, BringsBack}
+use Rattle.session_store.specs.Keeping.{managers_of, resources_of, known, twin, is_down, meaning, StandsFor, SameOpening, KeepsRecords, WithOrWithout, HasRoom, Adds, Loses, Makes, register_record, AreFree, Registers, IsRefused, IsNoDamage, GoesOnAs, BringsBack}
 use Rattle.session_store.proofs.ListLaws.{held_of_list, list_more, written_back}
 
 -- ---- small
@@ -132,10 +132,15 @@ module _ {D : Type 0} (state : D → DiskState) (old new : Sessions D) (r : Sess
         keeps_by state (machine_of old.store) (r ∷ rs) new (with_record k.found body) machine pair
         (held_of_list (managers_of old) (resources_of old) (r ∷ rs) (with_record k.found body) more ∙ ap known_ok (sym (knows_more now))) more (knows_more now)
 
+  -- the room that its bytes have is the record's
+  has_record_room : HasRoomFor state (length body) old.store → HasRoom state r old
+  has_record_room = subst (λ (bytes : List ℕ). HasRoomFor state (length bytes) old.store) is
+
   -- the disks have it, and it is known
-  pub adds : ((found : Found) → Keeps state (meaning old) found old.store → KeepsPair state (with_record found body) (twin new)) → known new ≡ after r (known old) → Takes state (twin old) (twin new) →
+  pub adds : HasRoomFor state (length body) old.store → ((found : Found) → Keeps state (meaning old) found old.store → KeepsPair state (with_record found body) (twin new)) → known new ≡ after r (known old) → Takes state (twin old) (twin new) →
       is_down new ≡ false → Adds state r old new
-  adds pair now took up = record {
+  adds room pair now took up = record {
+    fits = has_record_room room;
     knows = now;
     keeps = λ rs k. keeps_more rs k (pair k.found k.store) now;
     any_moment = leaves_either;
@@ -145,8 +150,9 @@ module _ {D : Type 0} (state : D → DiskState) (old new : Sessions D) (r : Sess
   }
 
   -- the disks failed
-  pub loses : known new ≡ after r (known old) → Falls state (twin old) (twin new) → is_down new ≡ true → Loses state r old new
-  loses now falls down = record {
+  pub loses : HasRoomFor state (length body) old.store → known new ≡ after r (known old) → Falls state (twin old) (twin new) → is_down new ≡ true → Loses state r old new
+  loses room now falls down = record {
+    fits = has_record_room room;
     knows = now;
     any_moment = leaves_either;
     not_begun = leaves_old;
@@ -165,13 +171,13 @@ module _ {D : Type 0} (state : D → DiskState) (old new : Sessions D) (r : Sess
       OnOk result ((found : Found) → Keeps state (meaning old) found old.store → Keeps state (meaning old) (with_record found body) new.store) →
       ChangesMemory (meaning old) r result old.store new.store → OnOk result (Takes state (twin old) (twin new)) → (result ≡ Err store_error.Failed → Falls state (twin old) (twin new)) →
       ((found : Found) (full : Full) → Keeps state (meaning old) found old.store → result ≡ Err (store_error.Full full) → IsFullFor state (length body) old.store full) →
-      IsTrue (is_down new) ↔ (result ≡ Err store_error.Failed) → Makes state r result old new
-  makes (Ok done) keeps memory took falls exact down =
-      adds (λ found kept. (keeps found kept).pair) memory took (not_down (is_down new) down (λ e. cc))
-  makes (Err store_error.Failed) keeps memory took falls exact down = loses memory (falls refl) (down.1 refl)
-  makes (Err (store_error.Full full)) keeps memory took falls exact down =
+      HasRoomIfTaken state (length body) result old.store → IsTrue (is_down new) ↔ (result ≡ Err store_error.Failed) → Makes state r result old new
+  makes (Ok done) keeps memory took falls exact room down =
+      adds room (λ found kept. (keeps found kept).pair) memory took (not_down (is_down new) down (λ e. cc))
+  makes (Err store_error.Failed) keeps memory took falls exact room down = loses room memory (falls refl) (down.1 refl)
+  makes (Err (store_error.Full full)) keeps memory took falls exact room down =
       (same_sessions old new memory, λ found kept. subst (λ (bytes : List ℕ). IsFullFor state (length bytes) old.store full) is (exact found full kept refl))
-  makes (Err store_error.NoMemory) keeps memory took falls exact down = same_sessions old new memory
+  makes (Err store_error.NoMemory) keeps memory took falls exact room down = same_sessions old new memory
 
 -- ---- registrations
 
@@ -202,7 +208,7 @@ module _ {D : Type 0} (state : D → DiskState) (old new : Sessions D) (x : Xid)
     (begin : is_begin (status_in (known old) x.0) ≡ true) (fresh : is_new (known old) x place.resource place.call place.ticket place.kind ≡ true)
     (within : is_within (managers_of old) (resources_of old) (register_record (known old) x place hold) ≡ true)
     (grants : Grants (register_record (known old) x place hold) x hold check (known old) (Ok tt) taken) (now : known new ≡ taken)
-    (machine : machine_of new.store ≡ machine_of old.store) (opened : store_found_of new.store ≡ store_found_of old.store)
+    (room : HasRoomFor state (length body) old.store) (machine : machine_of new.store ≡ machine_of old.store) (opened : store_found_of new.store ≡ store_found_of old.store)
     (any_moment : (found : Found) → KeepsPair state found (twin old) → LeavesPairs (disks state (twin old)) (disks state (twin new)) (Either found (with_record found body)))
     (not_begun : (found : Found) → KeepsPair state found (twin old) → (calls : ℕ) → (state (active_disk (twin old))).counts.left ≡ Some calls → calls < 2 →
     LeavesPairs (disks state (twin old)) (disks state (twin new)) (PairStandsFor found)) where
@@ -221,12 +227,12 @@ module _ {D : Type 0} (state : D → DiskState) (old new : Sessions D) (x : Xid)
   pub branch_added : ((found : Found) → KeepsPair state found (twin old) → KeepsPair state (with_record found body) (twin new)) → Takes state (twin old) (twin new) → is_down new ≡ false →
       AreFree old x (hold ++ check) × Adds state (register_record (known old) x place hold) old new
   branch_added kept took up =
-      (grants.0, adds state old new (register_record (known old) x place hold) body next_fits next_is may within machine opened any_moment not_begun (λ found keeps. kept found keeps.pair) (now ∙ grants.1) took up)
+      (grants.0, adds state old new (register_record (known old) x place hold) body next_fits next_is may within machine opened any_moment not_begun room (λ found keeps. kept found keeps.pair) (now ∙ grants.1) took up)
 
   pub branch_lost : Falls state (twin old) (twin new) → is_down new ≡ true →
       (store_error.Failed ≢ store_error.NoMemory → AreFree old x (hold ++ check)) × Loses state (register_record (known old) x place hold) old new
   branch_lost falls down =
-      (λ other. grants.0, loses state old new (register_record (known old) x place hold) body next_fits next_is may within machine opened any_moment not_begun (now ∙ grants.1) falls down)
+      (λ other. grants.0, loses state old new (register_record (known old) x place hold) body next_fits next_is may within machine opened any_moment not_begun room (now ∙ grants.1) falls down)
 
 -- nothing changed
 module _ {D : Type 0} (state : D → DiskState) (s : Sessions D) (r : SessionRecord) (x : Xid) (rows : List RowKey) where

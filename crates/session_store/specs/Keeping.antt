@@ -16,7 +16,7 @@ use Rattle.journal_checkpoint.specs.Keeping.{active_disk, first_disk, second_dis
 use Rattle.memory_store.specs.declared.store.Store.{Store}
 use Rattle.memory_store.specs.Meanings.{Meaning}
 pub use Rattle.memory_store.specs.Settling.{IsNoDamage}
-use Rattle.memory_store.specs.Keeping.{SameTwins, with_twin, first_handed_on, second_handed_on, twin_of, memory_of, machine_of, found_of as store_found_of, is_down as store_is_down, Keeps, Takes, Falls, IsFullFor, IsOf}
+use Rattle.memory_store.specs.Keeping.{SameTwins, with_twin, first_handed_on, second_handed_on, twin_of, memory_of, machine_of, found_of as store_found_of, is_down as store_is_down, Keeps, Takes, Falls, HasRoomFor, IsFullFor, IsOf}
 use Rattle.durable_records.specs.declared.coordinators.SessionRecord.{SessionRecord}
 use Rattle.durable_records.specs.declared.coordinators.SessionRecord.TheVariants as log
 use Rattle.session_log.specs.declared.sessions.RegisterPlace.{RegisterPlace}
@@ -97,8 +97,13 @@ abbrev pub LeavesEither : {D : Type 0} → (D → DiskState) → SessionRecord �
 LeavesEither state r old new =
     (rs : List SessionRecord) → KeepsRecords state rs old → LeavesPairs (disks state (twin old)) (disks state (twin new)) (WithOrWithout new r rs)
 
--- The record is on the disks, and known.
+-- the record ends within the active disk
+abbrev pub HasRoom : {D : Type 0} → (D → DiskState) → SessionRecord → Sessions D → Type 0
+HasRoom state r s = HasRoomFor state (length (record_bytes r)) s.store
+
+-- The record fits, is on the disks, and known.
 pub record Adds {D : Type 0} (state : D → DiskState) (r : SessionRecord) (old new : Sessions D) : Type 0 where
+  pub fits : HasRoom state r old
   pub knows : known new ≡ after r (known old)
   pub keeps : (rs : List SessionRecord) → KeepsRecords state rs old → KeepsRecords state (r ∷ rs) new
   pub any_moment : LeavesEither state r old new
@@ -106,9 +111,10 @@ pub record Adds {D : Type 0} (state : D → DiskState) (r : SessionRecord) (old 
   pub up : is_down new ≡ false
   pub opening : SameOpening old new
 
--- The active disk failed: it may have the record or not, and hasn't where a stop let fewer than two calls pass. The record is
--- known.
+-- The active disk failed: it may have the record, which fits, or not, and hasn't where a stop let fewer than two calls pass.
+-- The record is known.
 pub record Loses {D : Type 0} (state : D → DiskState) (r : SessionRecord) (old new : Sessions D) : Type 0 where
+  pub fits : HasRoom state r old
   pub knows : known new ≡ after r (known old)
   pub any_moment : LeavesEither state r old new
   pub not_begun : (rs : List SessionRecord) → KeepsRecords state rs old → (calls : ℕ) → (state (active_disk (twin old))).counts.left ≡ Some calls → calls < 2 →
