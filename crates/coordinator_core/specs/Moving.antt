@@ -1,5 +1,6 @@
 -- What the calls of a coordinator do, apart from its steps.
 use Rattle.std.specs.Prelude.{◌≡◌, ◌+◌, ℕ, nat_lt, true, if◌then◌else◌, List, Option, Some, None, Result, Ok, Err}
+use Rattle.std.specs.Borrow.{Lends, Fml, RattleType, MutBor}
 use Rattle.disk_model.specs.Disk.{DiskState}
 use Rattle.disk_model.specs.Stop.{state_of}
 use Rattle.journal_checkpoint.specs.Images.{Pair}
@@ -10,9 +11,11 @@ use Rattle.seata_types.specs.declared.errors.NodeError.TheVariants as error
 use Rattle.durable_records.specs.declared.coordinators.SessionRecord.{SessionRecord}
 use Rattle.session_store.specs.declared.sessions.Sessions.{Sessions}
 use Rattle.disk_model.specs.declared.stoppable.Stoppable.{Stoppable}
-use Rattle.session_store.specs.Keeping.{KeepsRecords, SameOpening, SameDisks, known, is_down as sessions_down}
+use Rattle.disk_model.specs.contracts.stoppable.Stoppable.{the_row as stoppable_row}
+use Rattle.session_store.specs.Keeping.{KeepsRecords, SameOpening, SameDisks, known, is_down as sessions_down, with_disk as sessions_with}
 use Rattle.history_text.specs.Durable.{own_faults}
 use Rattle.coordinator_core.specs.declared.nodes.Coordinator.{Coordinator}
+use Rattle.coordinator_core.specs.contracts.nodes.Coordinator.{the_row}
 use Rattle.coordinator_core.specs.Knowledge.{memory}
 use Rattle.coordinator_core.specs.Standing.{sessions_of, pair_of, active_of, is_down}
 use Rattle.coordinator_core.specs.Starting.{started_on, no_moments}
@@ -92,3 +95,13 @@ pub record FallsAgain {D : Type 0} (old new : Coordinator D) : Type 0 where
 abbrev pub ComesBack : {D : Type 0} → ℕ → Result (Unit {0}) NoMemory → Coordinator D → Coordinator D → Type 0
 ComesBack now (Ok done) old new = StartsAgain now old new
 ComesBack now (Err refused) old new = FallsAgain old new
+
+-- ---- a disk that is lent
+
+module _ (D : RattleType) where
+  abbrev pub with_disk : Coordinator D.Denot → Stoppable D.Denot → Coordinator D.Denot
+  with_disk c disk = record c { table = record c.table { sessions = sessions_with (stoppable_row D) (sessions_of c) disk } }
+
+  -- it ends with the last disk behind r as the active one
+  abbrev pub LendsActive : MutBor (Coordinator D.Denot) → MutBor (Stoppable D.Denot) → Fml
+  LendsActive c r = Lends (the_row D) (stoppable_row D) c r (with_disk c.now)

@@ -40,17 +40,18 @@ fn give_back<D: Disk>(
 
 impl<D: Disk> Coordinator<D> {
     ghost use Rattle.std.specs.Prelude.{◌≡◌, ◌<◌, ◌≤◌, ◌^◌, true, false, [], ℕ, List, Some, IfOk, IfErr};
+    ghost use Rattle.std.specs.Borrow.{sem};
     ghost use Rattle.disk_model.specs.Disk.{IsSettled};
     ghost use Rattle.durable_records.specs.declared.coordinators.SessionRecord.{SessionRecord};
     ghost use Rattle.session_store.specs.Keeping.{twin, known, found_of};
     ghost use Rattle.session_log.specs.SnapshotOf.{snapshot_of};
-    ghost use Rattle.journal_checkpoint.specs.Keeping.{first_disk, second_disk};
+    ghost use Rattle.journal_checkpoint.specs.Keeping.{active_disk, first_disk, second_disk};
     ghost use Rattle.disk_model.specs.Stop.{below};
     ghost use Rattle.seata_types.specs.declared.limits.TheConstants.{MANAGERS};
     ghost use Rattle.coordinator_core.specs.Opening.{IsOpened, HandsBack};
     ghost use Rattle.coordinator_core.specs.Standing.{StandsOver, times_of, steps_left, serves, is_down, sessions_of, course, unended_sessions};
     ghost use Rattle.coordinator_core.specs.Costs.{held_rows, InputCosts};
-    ghost use Rattle.coordinator_core.specs.Moving.{start_of, kept_of, Misses, Arms, ArmsWith, ComesBack};
+    ghost use Rattle.coordinator_core.specs.Moving.{start_of, kept_of, Misses, Arms, ArmsWith, ComesBack, LendsActive};
     ghost use Rattle.coordinator_core.specs.Stepping.{StepsBy, RestartsBy};
     ghost use Rattle.coordinator_core.specs.Tracks.{records};
     ghost use Rattle.history_rules.specs.Own.{Own};
@@ -136,6 +137,16 @@ impl<D: Disk> Coordinator<D> {
         ensures { result ≡ found_of (sessions_of self.now) }
     {
         self.table.sessions.found()
+    }
+
+    /// The active disk with its stop, to arm it or to read it; takes no memory. The coordinator stands for what it stood for only
+    /// where no call changes the images or what a stop lets pass.
+    pub fn disk_mut(&mut self) -> &mut Stoppable<D>
+        ensures* lends { sem 𝓛 (LendsActive D.row self.entry result) }
+        ensures disk { result.now ≡ active_disk (twin (sessions_of self.old)) }
+    {
+        let table = &mut self.table;
+        table.sessions.disk_mut()
     }
 
     /// Its two disks, in their order; takes no memory.
