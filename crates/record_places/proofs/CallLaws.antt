@@ -51,7 +51,7 @@ pub record IsCallWithin (call : Call) : Type 0 where
 
 -- ---- lists
 
-found_in : {A : Type 0} (P : A → Type 0) (p : A → Bool) (xs : List A) (x : A) → AllByRecursion P xs → find p xs ≡ Some x → P x
+pub found_in : {A : Type 0} (P : A → Type 0) (p : A → Bool) (xs : List A) (x : A) → AllByRecursion P xs → find p xs ≡ Some x → P x
 found_in P p [] x all e = absurd (none-some x e)
 found_in P p (y ∷ ys) x all e = by (found_in P p ys x all.1) (p y) e
   where
@@ -85,11 +85,11 @@ at_within (x ∷ xs) key all = by (is_key key x.0) (at_within xs key all.1)
     by false later = later
 
 module _ (db : Database) (w : AreTablesWithin db) where
-  table_within : (name : List ℕ) (def : TableDef) → table_named db.schema name ≡ Some def → IsTableWithin def
+  pub table_within : (name : List ℕ) (def : TableDef) → table_named db.schema name ≡ Some def → IsTableWithin def
   table_within name def e = found_in IsTableWithin _ db.schema.tables def w.tables e
 
   -- the key of a row of a table
-  key_of_entry : (def : TableDef) → IsTableWithin def → (row : Row) (e : RowKey × Row) → IsEntryOf db.resource def row e → AllByRecursion FitsValue e.1.0 → IsKeyWithin e.0
+  pub key_of_entry : (def : TableDef) → IsTableWithin def → (row : Row) (e : RowKey × Row) → IsEntryOf db.resource def row e → AllByRecursion FitsValue e.1.0 → IsKeyWithin e.0
   key_of_entry def t row e is values =
       let parts = parts_within def e.1 values e.0.pk is.values in
       record {
@@ -162,11 +162,11 @@ module _ (db : Database) (w : AreTablesWithin db) where
 
   -- ---- statement after statement
 
-  puts_within : (cs : List Change) → AllByRecursion IsChangeWithin cs → AllByRecursion (λ (c : Change). (row : Row) → c.1 ≡ Some row → IsEntryWithin (c.0, row)) cs
+  pub puts_within : (cs : List Change) → AllByRecursion IsChangeWithin cs → AllByRecursion (λ (c : Change). (row : Row) → c.1 ≡ Some row → IsEntryWithin (c.0, row)) cs
   puts_within [] all = tt
   puts_within (c ∷ cs) all = ((λ row e. (all.0.0, all.0.1 row e)), puts_within cs all.1)
 
-  going : (call : Call) (s : Stmt) (def : TableDef) → IsTaken db call s def → IsStmtWithin s → IsCallWithin call → IsCallWithin (with_step db call s def)
+  pub going : (call : Call) (s : Stmt) (def : TableDef) → IsTaken db call s def → IsStmtWithin s → IsCallWithin call → IsCallWithin (with_step db call s def)
   going call s def taken is h =
       let t = table_within (table_of s) def taken.named in
       let now = all_put_all IsEntryWithin db.rows call.changes rows_within (puts_within call.changes h.changed) in

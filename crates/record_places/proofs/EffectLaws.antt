@@ -1,7 +1,7 @@
 -- The effect of statements has places.
 use Rattle.std.proofs.Common.{◌≡◌, ℕ, ◌≤◌, List, [], ◌∷◌, length, None, Result, Ok, Err, refl, subst, arith}
 use Rattle.std.specs.List.{AllByRecursion}
-use Rattle.std.proofs.lemmas.List.Elements.{All-from_recursion}
+use Rattle.std.proofs.lemmas.List.Elements.{All-from_recursion, recursion_from_All}
 use Rattle.std.proofs.lemmas.Option.{none-some}
 use Rattle.seata_types.specs.declared.errors.StmtError.{StmtError}
 use Rattle.seata_types.specs.declared.limits.TheConstants.{CALL_ROWS}
@@ -15,12 +15,13 @@ use Rattle.byte_fields.specs.Layout.{FitsImageIn, FitsReadIn}
 use Rattle.local_tables.specs.Calls.{Call, nothing, steps, effect, effect_of, image_of, read_of, to_effect}
 use Rattle.local_tables.specs.EffectRows.{IsEffectOf, read_key}
 use Rattle.local_tables.specs.FittingRows.{IsEffectOn}
-use Rattle.local_tables.specs.Rows.{Database, Change, key_of}
+use Rattle.local_tables.specs.Rows.{Database, Change, IsImageOf, IsReadOf, key_of}
+use Rattle.durable_records.specs.ResourceOrder.{image_keys, read_keys}
 use Rattle.local_tables.specs.declared.schemas.Effect.{Effect}
 use Rattle.local_tables.proofs.EffectRowLaws.{all_mapped, effects_of_tables}
 use Rattle.local_tables.proofs.FittingEffects.{effects_fit}
-use Rattle.record_places.specs.Laws.{EffectsHavePlaces}
-use Rattle.record_places.specs.Within.{AreTablesWithin, IsEffectWithin}
+use Rattle.record_places.specs.Laws.{EffectsHaveKeys, EffectsHavePlaces, HasKeysOf}
+use Rattle.record_places.specs.Within.{AreKeysOf, AreTablesWithin, IsEffectWithin, IsKeyOf}
 use Rattle.record_places.proofs.CallLaws.{IsCallWithin, IsChangeWithin, IsEntryWithin, at_within, nothing_within, rows_within, steps_within}
 use Rattle.record_places.proofs.OrderLaws.{ordered, reads_few}
 use Rattle.record_places.proofs.SizeLaws.{IsImageWithin, IsReadWithin, image_fits, images_size, read_fits, reads_size}
@@ -70,8 +71,41 @@ module _ (db : Database) (w : AreTablesWithin db) where
       on of
   effect_within stmts (Err f) e is on of made = absurd cc
 
+  -- ---- its keys
+
+  image_key : (i : Image) → IsImageWithin i → IsImageOf db i → IsKeyOf db.resource i.key
+  image_key i is of = record { fits = is.key.fits; of = of.resource; short = is.key.short }
+
+  read_key_of : (r : ReadRow) → IsReadWithin r → IsReadOf db r → IsKeyOf db.resource r.key
+  read_key_of r is of = record { fits = is.key.fits; of = of.resource; short = is.key.short }
+
+  each_touched : (is : List Image) → AllByRecursion IsImageWithin is → AllByRecursion (IsImageOf db) is → AreKeysOf db.resource (image_keys is)
+  each_touched [] all of = tt
+  each_touched (i ∷ is) all of = (image_key i all.0 of.0, each_touched is all.1 of.1)
+
+  each_read_key : (rs : List ReadRow) → AllByRecursion IsReadWithin rs → AllByRecursion (IsReadOf db) rs → AreKeysOf db.resource (read_keys rs)
+  each_read_key [] all of = tt
+  each_read_key (r ∷ rs) all of = (read_key_of r all.0 of.0, each_read_key rs all.1 of.1)
+
+  effect_keys : (r : Result Call (ℕ × StmtError)) (e : Effect) → ((call : Call) → r ≡ Ok call → IsCallWithin call) → IsEffectOn db e → to_effect db r ≡ Ok e → HasKeysOf db.resource e
+  effect_keys (Ok call) e is on made =
+      let same : effect_of db call ≡ e = cc in
+      let h = is call refl in
+      record {
+        touched = each_touched e.images (subst (λ (x : Effect). AllByRecursion IsImageWithin x.images) same (all_mapped IsChangeWithin IsImageWithin (image_of db.rows) image_within call.changes h.changed))
+            (recursion_from_All (IsImageOf db) e.images on.images);
+        read = each_read_key e.reads (subst (λ (x : Effect). AllByRecursion IsReadWithin x.reads) same (all_mapped IsEntryWithin IsReadWithin read_of read_within call.reads h.read))
+            (recursion_from_All (IsReadOf db) e.reads on.reads);
+      }
+  effect_keys (Err f) e is on made = absurd cc
+
 pub effects_have_places : EffectsHavePlaces
 unfolding effect
 effects_have_places db stmts e w all is =
     effect_within db w stmts (steps db 0 (Ok nothing) stmts) e (λ call made. steps_within db w stmts 0 (Ok nothing) call all (nothing_within db w) made)
     (effects_fit db stmts e w.rows is) (effects_of_tables db stmts e is) is
+
+pub effects_have_keys : EffectsHaveKeys
+unfolding effect
+effects_have_keys db stmts e w all is =
+    effect_keys db w (steps db 0 (Ok nothing) stmts) e (λ call made. steps_within db w stmts 0 (Ok nothing) call all (nothing_within db w) made) (effects_fit db stmts e w.rows is) is

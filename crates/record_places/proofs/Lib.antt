@@ -4,3 +4,4 @@ pub mod OrderLaws
 pub mod SizeLaws
 pub mod EffectLaws
 pub mod RecordLaws
+pub mod FaultLaws

@@ -1,6 +1,7 @@
 -- That effects and their records have places.
-use Rattle.std.specs.Prelude.{◌≡◌, ℕ, ◌<◌, ◌^◌, List, Ok}
+use Rattle.std.specs.Prelude.{◌≡◌, ℕ, ◌<◌, ◌≤◌, ◌^◌, List, length, Ok, Err}
 use Rattle.std.specs.List.{AllByRecursion}
+use Rattle.seata_types.specs.declared.errors.StmtError.{StmtError}
 use Rattle.seata_types.specs.declared.ids.Leg.{Leg}
 use Rattle.seata_types.specs.declared.statements.Stmt.{Stmt}
 use Rattle.byte_fields.specs.Parts.{FitsLeg}
@@ -8,12 +9,31 @@ use Rattle.local_tables.specs.Calls.{effect}
 use Rattle.local_tables.specs.Rows.{Database}
 use Rattle.local_tables.specs.declared.schemas.Effect.{Effect}
 use Rattle.durable_records.specs.declared.resources.ResourceRecord.TheVariants as log
+use Rattle.durable_records.specs.ResourceOrder.{image_keys, read_keys}
 use Rattle.resource_store.specs.Answers.{HasPlace}
-use Rattle.record_places.specs.Within.{AreTablesWithin, IsEffectWithin, IsStmtWithin}
+use Rattle.record_places.specs.Within.{AreKeysOf, AreTablesWithin, IsEffectWithin, IsFaultOf, IsStmtWithin}
 
 -- an effect of statements, on tables whose values have places
 abbrev pub EffectsHavePlaces : Type 0
 EffectsHavePlaces = (db : Database) (stmts : List Stmt) (e : Effect) → AreTablesWithin db → AllByRecursion IsStmtWithin stmts → effect db stmts ≡ Ok e → IsEffectWithin e
+
+-- the keys of an effect of statements, on tables whose values have places
+pub record HasKeysOf (resource : ℕ) (e : Effect) : Type 0 where
+  pub touched : AreKeysOf resource (image_keys e.images)
+  pub read : AreKeysOf resource (read_keys e.reads)
+
+abbrev pub EffectsHaveKeys : Type 0
+EffectsHaveKeys = (db : Database) (stmts : List Stmt) (e : Effect) → AreTablesWithin db → AllByRecursion IsStmtWithin stmts → effect db stmts ≡ Ok e → HasKeysOf db.resource e
+
+-- the first statement without a meaning is one of these, counted from 1, and where its fault is at a key, this has a place
+pub record IsFaultAmong (resource : ℕ) (stmts : List Stmt) (index : ℕ) (fault : StmtError) : Type 0 where
+  pub counted : 1 ≤ index
+  pub among : index ≤ length stmts
+  pub place : IsFaultOf resource fault
+
+abbrev pub FaultsHavePlaces : Type 0
+FaultsHavePlaces = (db : Database) (stmts : List Stmt) (index : ℕ) (fault : StmtError) → AreTablesWithin db → AllByRecursion IsStmtWithin stmts → effect db stmts ≡ Err (index, fault)
+    → IsFaultAmong db.resource stmts index fault
 
 -- each record that an effect may go into
 pub record HaveRecordsPlaces (e : Effect) : Type 0 where

@@ -1,6 +1,8 @@
 -- Tables and statements whose values have places in the records of a resource.
-use Rattle.std.specs.Prelude.{ℕ, ◌<◌, ◌≤◌, ◌+◌, ◌^◌, List, length}
+use Rattle.std.specs.Prelude.{◌≡◌, ℕ, ◌<◌, ◌≤◌, ◌+◌, ◌^◌, List, length}
 use Rattle.std.specs.List.{AllByRecursion}
+use Rattle.seata_types.specs.declared.errors.StmtError.{StmtError}
+use Rattle.seata_types.specs.declared.errors.StmtError.TheVariants as errors
 use Rattle.seata_types.specs.declared.limits.TheConstants.{BODY_BYTES, COLUMNS, KEY_PARTS, NAME_BYTES}
 use Rattle.seata_types.specs.declared.rows.Row.{Row}
 use Rattle.seata_types.specs.declared.rows.RowKey.{RowKey}
@@ -9,7 +11,7 @@ use Rattle.seata_types.specs.declared.statements.Stmt.{Stmt}
 use Rattle.seata_types.specs.declared.statements.Stmt.TheVariants as stmt
 use Rattle.seata_types.specs.declared.statements.Term.{Term}
 use Rattle.seata_types.specs.declared.statements.Term.TheVariants as term
-use Rattle.byte_fields.specs.Layout.{FitsImages, FitsReads, FitsText, FitsValue, images_bytes, reads_bytes}
+use Rattle.byte_fields.specs.Layout.{FitsImages, FitsKey, FitsReads, FitsText, FitsValue, images_bytes, reads_bytes}
 use Rattle.local_tables.specs.Rows.{AreRows, Database}
 use Rattle.local_tables.specs.declared.schemas.Effect.{Effect}
 use Rattle.local_tables.specs.declared.schemas.TableDef.{TableDef}
@@ -58,3 +60,20 @@ pub record IsEffectWithin (e : Effect) : Type 0 where
   pub images : FitsImages e.images
   pub reads : FitsReads e.reads
   pub room : length (images_bytes e.images) + length (reads_bytes e.reads) + 64 ≤ BODY_BYTES
+
+-- ---- keys
+
+-- a key of this resource that has a place, with no longer a table's name than it may have
+pub record IsKeyOf (resource : ℕ) (key : RowKey) : Type 0 where
+  pub fits : FitsKey key
+  pub of : key.resource ≡ resource
+  pub short : length key.table ≤ NAME_BYTES
+
+abbrev pub AreKeysOf : ℕ → List RowKey → Type 0
+AreKeysOf resource keys = AllByRecursion (IsKeyOf resource) keys
+
+-- why a statement has no meaning: at no key, or at one that has a place
+abbrev pub IsFaultOf : ℕ → StmtError → Type 0
+IsFaultOf resource (errors.Overflow key) = IsKeyOf resource key
+IsFaultOf resource (errors.Duplicate key) = IsKeyOf resource key
+IsFaultOf resource _ = Unit {0}
