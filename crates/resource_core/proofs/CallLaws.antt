@@ -16,6 +16,11 @@ use Rattle.seata_types.specs.declared.messages.Step.{Step}
 use Rattle.seata_types.specs.declared.rows.RowKey.{RowKey}
 use Rattle.seata_types.specs.declared.statements.Work.{Work}
 use Rattle.seata_types.specs.declared.statements.Work.TheVariants as work
+use Rattle.seata_types.specs.declared.limits.TheConstants.{RESOURCES}
+use Rattle.byte_fields.specs.Layout.{FitsTicket}
+use Rattle.byte_fields.specs.Parts.{FitsBranch}
+use Rattle.frame_codec.specs.Limits.{IsCounted, IsFramable, IsWithinLimits}
+use Rattle.frame_codec.specs.Messages.{FitsMessage}
 use Rattle.local_tables.specs.declared.schemas.Effect.{Effect}
 use Rattle.local_txn.specs.OpenTickets.{Open, OfCall, is_for_call, opening_of, busy_row, with_first}
 use Rattle.local_txn.specs.Answers.{Tickets, is_for, new_ticket, owner_by, with_open, Executed, IsBusy}
@@ -25,19 +30,29 @@ use Rattle.history_rules.specs.Own.{Given, still}
 use Rattle.history_rules.specs.ResourceMemory.{Memory, next_ticket, opening_tables, opened_for, resource_asked, memory_after}
 use Rattle.history_rules.specs.ResourceRules as rules
 use Rattle.history_rules.specs.ResourceRules.{least_branch, requests}
+use Rattle.history_text.specs.Framing.{SendsFramable}
 use Rattle.history_text.specs.Promises.{own_step}
+use Rattle.record_places.specs.Laws.{HasKeysOf}
 use Rattle.resource_store.specs.Keeping.{known, setting_of, is_down, KeepsRecords}
 use Rattle.resource_core.specs.Holding.{setup_of, Holds}
-use Rattle.resource_core.specs.Ready.{IsReady, IsTicketWithin, Serves}
+use Rattle.resource_core.specs.Ready.{IsCallWithin, IsReady, IsTicketWithin, Serves}
 use Rattle.resource_core.specs.Stepping.{Answers, KeepsSettings, done_by}
 use Rattle.resource_core.specs.Telling.{tells}
 use Rattle.resource_core.specs.declared.branches.Branches.{Branches}
 use Rattle.resource_core.specs.declared.callers.Caller.{Caller}
+use Rattle.resource_core.proofs.FramingLaws.{IsCause, busy_key, busy_told, done_told, failed_told, request_framed, told_framed}
 use Rattle.resource_core.proofs.TicketLists.{opened_within}
 use Rattle.resource_core.proofs.TicketSteps.{answers_with, answers_still}
 
 abbrev pub call_input : Caller → Work → (resource : ℕ) → Place → Input
 call_input c w resource from = input.Message from (message.Call c.xid c.manager resource c.call w)
+
+-- the numbers of a call that can be framed
+pub call_within : (c : Caller) (w : Work) (resource : ℕ) → IsFramable (message.Call c.xid c.manager resource c.call w) → IsCallWithin c.xid.0 c.call
+call_within c w resource is = by is.layout is.limits
+  where
+    by : FitsMessage (message.Call c.xid c.manager resource c.call w) → IsWithinLimits (message.Call c.xid c.manager resource c.call w) → IsCallWithin c.xid.0 c.call
+    by (xid, of, at, call, fits) (manager, place, counted, asked) = record { xid = xid; counted = counted }
 
 -- the call with these parts, of a transaction that isn't number 0
 tickets_for : (x c : ℕ) (opens : List Open) → 0 < x → find (is_for x c) opens ≡ find (λ o. is_for_call x c o.owner) opens
@@ -63,20 +78,20 @@ module _ {D : Type 0} (state : D → DiskState) (old : Branches D) (c : Caller) 
   -- of no transaction
   pub of_none : c.xid.0 ≡ 0 → Answers state old old (call_input c w resource from) (Ok (still act.Ignored))
   of_none e = answers_still state old (call_input c w resource from) up (still act.Ignored)
-      (λ m h. ap (λ (x : ℕ). rules.on_call (setup_of old) m.left.records m.opens (next_ticket m) c.manager x c.call w) e) (λ m. refl) (λ m now. refl)
+      (λ m h. ap (λ (x : ℕ). rules.on_call (setup_of old) m.left.records m.opens (next_ticket m) c.manager x c.call w) e) (λ m. refl) (λ m now. refl) (λ ready served. tt)
 
   module _ (pos : 0 < c.xid.0) where
     -- the work is done
-    pub again : (branch : BranchId) (step : Step) → ((rs : List ResourceRecord) → KeepsRecords state (setting_of old.store) rs old.store → least_branch (done_by rs c w) ≡ Some branch.0)
+    pub again : (branch : BranchId) (step : Step) → FitsBranch branch → ((rs : List ResourceRecord) → KeepsRecords state (setting_of old.store) rs old.store → least_branch (done_by rs c w) ≡ Some branch.0)
         → step ≡ tells c (act.Again c.xid c.call branch) (called.Done branch) → Answers state old old (call_input c w resource from) (Ok step)
-    again branch step done is =
+    again branch step few done is =
         subst (λ (s : Step). Answers state old old (call_input c w resource from) (Ok s)) (sym is)
         (answers_still state old (call_input c w resource from) up (tells c (act.Again c.xid c.call branch) (called.Done branch))
         (λ m h.
         of_one m c.xid.0 pos
         ∙ ap (λ (b : Option ℕ). rules.call_answer (setup_of old) m.left.records m.opens (next_ticket m) c.manager c.xid.0 c.call w b (find (λ o. is_for_call c.xid.0 c.call o.owner) m.opens))
         (ap least_branch (done_is m w) ∙ done m.left.records h.keeps))
-        (λ m. refl) (λ m now. refl))
+        (λ m. refl) (λ m now. refl) (λ ready served. told_framed c (act.Again c.xid c.call branch) (called.Done branch) (call_within c w resource served.framable) (done_told branch few)))
 
     module _ (undone : (rs : List ResourceRecord) → KeepsRecords state (setting_of old.store) rs old.store → least_branch (done_by rs c w) ≡ None) where
       not_done : (m : Memory) → Holds state old m → (o : Option Open) → find (is_for c.xid.0 c.call) old.txns.opens ≡ o
@@ -90,7 +105,7 @@ module _ {D : Type 0} (state : D → DiskState) (old : Branches D) (c : Caller) 
 
       -- it is open
       pub waiting : (o : Open) → find (is_for c.xid.0 c.call) old.txns.opens ≡ Some o → Answers state old old (call_input c w resource from) (Ok (still (act.Waiting c.xid c.call)))
-      waiting o e = answers_still state old (call_input c w resource from) up (still (act.Waiting c.xid c.call)) (λ m h. not_done m h (Some o) e) (λ m. refl) (λ m now. refl)
+      waiting o e = answers_still state old (call_input c w resource from) up (still (act.Waiting c.xid c.call)) (λ m h. not_done m h (Some o) e) (λ m. refl) (λ m now. refl) (λ ready served. tt)
 
       module _ (closed : find (is_for c.xid.0 c.call) old.txns.opens ≡ None) where
         new_as : (m : Memory) → Holds state old m → rules.on_call (setup_of old) m.left.records m.opens (next_ticket m) c.manager c.xid.0 c.call w
@@ -111,20 +126,23 @@ module _ {D : Type 0} (state : D → DiskState) (old : Branches D) (c : Caller) 
               (ap (λ (ts : Tickets). busy_row ts.opens e) (sym h.tickets) ∙ busy)
 
           -- a statement has no meaning
-          pub refused : (index : ℕ) (fault : StmtError) (step : Step) → r ≡ Err (index, fault)
+          pub refused : (index : ℕ) (fault : StmtError) (step : Step) → (IsReady old → Serves (call_input c w resource from) → IsCause (why.Stmt index fault)) → r ≡ Err (index, fault)
               → step ≡ tells c (act.Refused c.xid c.call (why.Stmt index fault)) (called.Failed (why.Stmt index fault)) → Answers state old old (call_input c w resource from) (Ok step)
-          refused index fault step is e =
+          refused index fault step cause is e =
               subst (λ (s : Step). Answers state old old (call_input c w resource from) (Ok s)) (sym e)
               (answers_still state old (call_input c w resource from) up (tells c (act.Refused c.xid c.call (why.Stmt index fault)) (called.Failed (why.Stmt index fault)))
-              (λ m h. meant_as m h (Err (index, fault)) is) (λ m. refl) (λ m now. refl))
+              (λ m h. meant_as m h (Err (index, fault)) is) (λ m. refl) (λ m now. refl)
+              (λ ready served. told_framed c (act.Refused c.xid c.call (why.Stmt index fault)) (called.Failed (why.Stmt index fault)) (call_within c w resource served.framable) (failed_told (why.Stmt index fault) (cause ready served))))
 
           -- a row is open
-          pub busy : (key : RowKey) (by : Ticket) (step : Step) → IsBusy old.txns.opens r key by
+          pub busy : (key : RowKey) (by : Ticket) (step : Step) → (IsReady old → Serves (call_input c w resource from) → (e : Effect) → r ≡ Ok e → HasKeysOf (known old.store).tables.resource e) → FitsTicket by → IsBusy old.txns.opens r key by
               → step ≡ tells c (act.Busy c.xid c.call key by) (called.Busy key by) → Answers state old old (call_input c w resource from) (Ok step)
-          busy key by step b e =
+          busy key by step keys few b e =
               subst (λ (s : Step). Answers state old old (call_input c w resource from) (Ok s)) (sym e)
               (answers_still state old (call_input c w resource from) up (tells c (act.Busy c.xid c.call key by) (called.Busy key by))
-              (λ m h. rows_as m h b.effect (Some (key, by)) b.means b.busy) (λ m. refl) (λ m now. refl))
+              (λ m h. rows_as m h b.effect (Some (key, by)) b.means b.busy) (λ m. refl) (λ m now. refl)
+              (λ ready served. told_framed c (act.Busy c.xid c.call key by) (called.Busy key by) (call_within c w resource served.framable)
+              (busy_told (known old.store).tables.resource key by ready.knows.resource (busy_key (known old.store).tables.resource old.txns.opens b.effect key by (keys ready served b.effect b.means) b.busy) few)))
 
           -- a ticket is opened
           pub opened : (new : Branches D) (t : Ticket) (step : Step) → (x : Executed old.txns (owner_by c.xid.0 c.manager c.call w) r t new.txns)
@@ -153,3 +171,5 @@ module _ {D : Type 0} (state : D → DiskState) (old : Branches D) (c : Caller) 
               })
               (subst (λ (ts : Tickets). ts.opened ≤ old.txns.opened + 1) (sym x.opens) (omega arith))
               itself (λ ready served. opened_within old ready new.txns (opening_of t (owner_by c.xid.0 c.manager c.call w) x.effect) x.opens (within ready served))
+              (λ ready served. subst SendsFramable (sym is) (request_framed (setting_of old.store).resource (known old.store).tables (act.Opened c.xid c.call t)
+              (opening_of t (owner_by c.xid.0 c.manager c.call w) x.effect) (subst (IsCounted RESOURCES) ready.numbered ready.counted) ready.knows.resource (within ready served)))

@@ -17,6 +17,9 @@ use Rattle.seata_types.specs.declared.rows.RowKey.{RowKey}
 use Rattle.seata_types.specs.declared.statements.Work.{Work}
 use Rattle.seata_types.specs.declared.statuses.BranchKind.{BranchKind}
 use Rattle.seata_types.specs.declared.statuses.GlobalStatus.{GlobalStatus}
+use Rattle.seata_types.specs.declared.messages.CallAnswer.TheVariants as called
+use Rattle.byte_fields.specs.Parts.{FitsXid}
+use Rattle.frame_codec.specs.Messages.{FitsMessage}
 use Rattle.local_txn.specs.OpenTickets.{Open, Owner, OfCall, OfLocal, open_at, without, counting}
 use Rattle.local_txn.specs.Answers.{Tickets, with_opens}
 use Rattle.local_txn.proofs.OpenLaws.{found_ticket}
@@ -26,13 +29,15 @@ use Rattle.history_rules.specs.ResourceRules as rules
 use Rattle.at_branch.specs.Conflicts.{Conflict, Ignores, Counts, GivesUp, met, met_by, met_with, why_last, conflict}
 use Rattle.at_branch.specs.Steps.{conflict_step}
 use Rattle.at_branch.proofs.StepLaws.{meets_by_rules}
-use Rattle.resource_store.specs.Keeping.{is_down}
+use Rattle.resource_store.specs.Keeping.{is_down, known}
 use Rattle.resource_core.specs.Holding.{setup_of, Holds}
+use Rattle.resource_core.specs.Ready.{Serves}
 use Rattle.resource_core.specs.Stepping.{Answers, KeepsSettings, caller_at, caller_by, kind_of}
 use Rattle.std.specs.Prelude.{nat_le}
 use Rattle.resource_core.specs.Telling.{drops, why_of, given_up}
 use Rattle.resource_core.specs.declared.branches.Branches.{Branches}
 use Rattle.resource_core.specs.declared.callers.Caller.{Caller}
+use Rattle.resource_core.proofs.FramingLaws.{IsCause, caller_within, failed_told, told_framed}
 use Rattle.resource_core.proofs.TicketLists.{counted_within, left_within}
 use Rattle.resource_core.proofs.TicketSteps.{answers_with, answers_still}
 
@@ -86,6 +91,14 @@ why_now : (holder : Xid) (last : Bool) → (if last then Some why.Tries else Non
 why_now holder true = refl
 why_now holder false = refl
 
+-- why a ticket gives up can be told, where its holder came in a message
+given_by : (holder : Xid) (rolling : Bool) → FitsXid holder → IsCause (why_of (given_up holder rolling))
+given_by holder true few = record { layout = few; limits = tt }
+given_by holder false few = record { layout = tt; limits = tt }
+
+given_cause : (t : Ticket) (xid : Xid) (key : RowKey) (holder : Xid) (rolling : Bool) → FitsMessage (message.RegisterAnswer t xid (registered.Conflict key holder rolling)) → IsCause (why_of (given_up holder rolling))
+given_cause t xid key holder rolling (ticket, of, (fits, few)) = given_by holder rolling few
+
 abbrev pub answer_input : Ticket → Xid → Place → Registered → Input
 answer_input t xid from answer = input.Message from (message.RegisterAnswer t xid answer)
 
@@ -107,7 +120,7 @@ module _ {D : Type 0} (state : D → DiskState) (old : Branches D) (t : Ticket) 
 
   pub ignored : (answer : Registered) → caller_at (open_at old.txns.opens t) ≡ None → Answers state old old (answer_input t xid from answer) (Ok (still act.Ignored))
   ignored answer e = answers_still state old (answer_input t xid from answer) up (still act.Ignored)
-      (λ m h. of_none m answer (open_at m.opens t) (ap (λ (ts : Tickets). caller_at (open_at ts.opens t)) (sym h.tickets) ∙ e)) (λ m. refl) (λ m now. refl)
+      (λ m h. of_none m answer (open_at m.opens t) (ap (λ (ts : Tickets). caller_at (open_at ts.opens t)) (sym h.tickets) ∙ e)) (λ m. refl) (λ m now. refl) (λ ready served. tt)
 
   -- ---- the ticket of a call
 
@@ -123,13 +136,13 @@ module _ {D : Type 0} (state : D → DiskState) (old : Branches D) (t : Ticket) 
         ∙ ap (λ (w : Owner). rules.ticket_answer (setup_of old) m.left.records m.opens (next_ticket m) o.it w answer) o.owner
 
     -- the ticket is dropped by a rule
-    pub dropped : (answer : Registered) (cause : Why) (new : Branches D) (step : Step)
+    pub dropped : (answer : Registered) (cause : Why) (new : Branches D) (step : Step) → (Serves (answer_input t xid from answer) → IsCause cause)
         → ((m : Memory) → Holds state old m → (o : IsOpenFor m.opens t c kind)
         → rules.ticket_answer (setup_of old) m.left.records m.opens (next_ticket m) o.it (OfCall c.manager c.xid.0 c.call o.work) answer
         ≡ rules.drops (setup_of old) m.left.records m.opens (next_ticket m) o.it c.manager c.xid.0 c.call cause)
         → step ≡ drops c t cause → new.store ≡ old.store → new.txns ≡ with_opens old.txns (without old.txns.opens t) → KeepsSettings old new
         → Answers state old new (answer_input t xid from answer) (Ok step)
-    dropped answer cause new step by is same tickets itself =
+    dropped answer cause new step causes by is same tickets itself =
         subst (λ (s : Step). Answers state old new (answer_input t xid from answer) (Ok s)) (sym is)
         (answers_with state old (answer_input t xid from answer) up new (drops c t cause) same
         (λ m h.
@@ -143,15 +156,16 @@ module _ {D : Type 0} (state : D → DiskState) (old : Branches D) (t : Ticket) 
           tickets = tickets ∙ ap (λ (ts : Tickets). with_opens ts (without ts.opens t)) h.tickets;
         })
         (subst (λ (ts : Tickets). ts.opened ≤ old.txns.opened + 1) (sym tickets) (omega arith))
-        itself (λ ready served. left_within old ready new.txns t tickets))
+        itself (λ ready served. left_within old ready new.txns t tickets)
+        (λ ready served. told_framed c (act.Dropped c.xid c.call t cause) (called.Failed cause) (caller_within (known old.store).tables old.txns.opens t c kind ready.tickets here) (failed_told cause (causes served))))
 
     pub closed : (status : GlobalStatus) (new : Branches D) (step : Step) → step ≡ drops c t (why.Closed status) → new.store ≡ old.store
         → new.txns ≡ with_opens old.txns (without old.txns.opens t) → KeepsSettings old new → Answers state old new (answer_input t xid from (registered.Closed status)) (Ok step)
-    closed status new step is same tickets itself = dropped (registered.Closed status) (why.Closed status) new step (λ m h o. refl) is same tickets itself
+    closed status new step is same tickets itself = dropped (registered.Closed status) (why.Closed status) new step (λ served. record { layout = tt; limits = tt }) (λ m h o. refl) is same tickets itself
 
     pub late : (new : Branches D) (step : Step) → step ≡ drops c t why.Late → new.store ≡ old.store
         → new.txns ≡ with_opens old.txns (without old.txns.opens t) → KeepsSettings old new → Answers state old new (answer_input t xid from registered.Late) (Ok step)
-    late new step is same tickets itself = dropped registered.Late why.Late new step (λ m h o. refl) is same tickets itself
+    late new step is same tickets itself = dropped registered.Late why.Late new step (λ served. record { layout = tt; limits = tt }) (λ m h o. refl) is same tickets itself
 
     -- ---- a conflict
 
@@ -182,24 +196,7 @@ module _ {D : Type 0} (state : D → DiskState) (old : Branches D) (t : Ticket) 
           tickets = tickets ∙ ap (λ (ts : Tickets). with_opens ts (map (counting t n) ts.opens)) h.tickets;
         })
         (subst (λ (ts : Tickets). ts.opened ≤ old.txns.opened + 1) (sym tickets) (omega arith))
-        itself (λ ready served. counted_within old ready new.txns t n tickets)
-
-    pub gives_up : (key : RowKey) (holder : Xid) (rolling : Bool) (p : Open) (cause : Why) → conflict old.tries holder rolling (open_at old.txns.opens t) ≡ GivesUp p cause → (new : Branches D) (step : Step)
-        → step ≡ drops c t cause → new.store ≡ old.store → new.txns ≡ with_opens old.txns (without old.txns.opens t) → KeepsSettings old new
-        → Answers state old new (answer_input t xid from (registered.Conflict key holder rolling)) (Ok step)
-    gives_up key holder rolling p cause e new step is same tickets itself =
-        subst (λ (s : Step). Answers state old new (answer_input t xid from (registered.Conflict key holder rolling)) (Ok s)) (sym is)
-        (answers_with state old (answer_input t xid from (registered.Conflict key holder rolling)) up new (drops c t cause) same
-        (λ m h. record {
-          opens = without m.opens t;
-          opened = m.opened;
-          rule = conflicts_as m (is_open m h) key holder rolling (GivesUp p cause) (held_as m h holder rolling (GivesUp p cause) e);
-          asks = refl;
-          leaves = λ now. refl;
-          tickets = tickets ∙ ap (λ (ts : Tickets). with_opens ts (without ts.opens t)) h.tickets;
-        })
-        (subst (λ (ts : Tickets). ts.opened ≤ old.txns.opened + 1) (sym tickets) (omega arith))
-        itself (λ ready served. left_within old ready new.txns t tickets))
+        itself (λ ready served. counted_within old ready new.txns t n tickets) (λ ready served. tt)
 
     -- a call's conflict is never ignored
     not_met : (o : Open) (last : Option Why) → met_with o last ≡ Ignores → ⊥
@@ -226,3 +223,22 @@ module _ {D : Type 0} (state : D → DiskState) (old : Branches D) (t : Ticket) 
         let o = open_for old.txns.opens t c kind here in
         cause_by o.it holder rolling (nat_le old.tries (o.it.conflicts + 1)) p cause
         (ap (met_with o.it) (sym (why_is holder rolling o.it.conflicts)) ∙ sym (met_as old.txns.opens o holder rolling) ∙ e)
+
+    pub gives_up : (key : RowKey) (holder : Xid) (rolling : Bool) (p : Open) (cause : Why) → conflict old.tries holder rolling (open_at old.txns.opens t) ≡ GivesUp p cause → (new : Branches D) (step : Step)
+        → step ≡ drops c t cause → new.store ≡ old.store → new.txns ≡ with_opens old.txns (without old.txns.opens t) → KeepsSettings old new
+        → Answers state old new (answer_input t xid from (registered.Conflict key holder rolling)) (Ok step)
+    gives_up key holder rolling p cause e new step is same tickets itself =
+        subst (λ (s : Step). Answers state old new (answer_input t xid from (registered.Conflict key holder rolling)) (Ok s)) (sym is)
+        (answers_with state old (answer_input t xid from (registered.Conflict key holder rolling)) up new (drops c t cause) same
+        (λ m h. record {
+          opens = without m.opens t;
+          opened = m.opened;
+          rule = conflicts_as m (is_open m h) key holder rolling (GivesUp p cause) (held_as m h holder rolling (GivesUp p cause) e);
+          asks = refl;
+          leaves = λ now. refl;
+          tickets = tickets ∙ ap (λ (ts : Tickets). with_opens ts (without ts.opens t)) h.tickets;
+        })
+        (subst (λ (ts : Tickets). ts.opened ≤ old.txns.opened + 1) (sym tickets) (omega arith))
+        itself (λ ready served. left_within old ready new.txns t tickets)
+        (λ ready served. told_framed c (act.Dropped c.xid c.call t cause) (called.Failed cause) (caller_within (known old.store).tables old.txns.opens t c kind ready.tickets here)
+        (failed_told cause (subst IsCause (cause_is holder rolling p cause e) (given_cause t xid key holder rolling served.framable.layout)))))

@@ -1,5 +1,5 @@
 -- What a resource answers is what happens by the rules of all nodes.
-use Rattle.std.proofs.Common.{◌≡◌, ◌∙◌, ℕ, Bool, true, false, cond, List, ◌∷◌, Some, None, Ok, refl, sym, ap, subst}
+use Rattle.std.proofs.Common.{◌≡◌, ◌∙◌, ℕ, Bool, true, false, cond, List, ◌∷◌, Some, None, refl, sym, ap, subst}
 use Rattle.disk_model.specs.Disk.{DiskState}
 use Rattle.seata_types.specs.declared.acts.Act.{Act}
 use Rattle.seata_types.specs.declared.acts.Act.TheVariants as act
@@ -13,11 +13,12 @@ use Rattle.history_rules.specs.Own.{Given, Own, still}
 use Rattle.history_rules.specs.ResourceMemory.{Setup, memory}
 use Rattle.history_rules.specs.ResourceRules.{resource_answer}
 use Rattle.history_text.specs.Promises.{own_step}
+use Rattle.resource_store.specs.Keeping.{setting_of}
 use Rattle.resource_store.specs.Meaning.{Setting}
 use Rattle.resource_core.specs.Holding.{Holds, setup_of}
 use Rattle.resource_core.specs.Setups.{actions_of}
 use Rattle.resource_core.specs.Standing.{AnswersAreSteps, FailuresAreSteps}
-use Rattle.resource_core.specs.Stepping.{Answers}
+use Rattle.resource_core.specs.Stepping.{KeepsSettings}
 use Rattle.resource_core.specs.declared.branches.Branches.{Branches}
 use Rattle.resource_core.proofs.QuietLaws.{answers_stay_up}
 
@@ -28,7 +29,7 @@ uncut step _ = refl
 
 module _ (s : Setup) (past : List ResourceRecord) (os : List Own) (now : ℕ) (up : is_down os ≡ false) where
   -- what happens at a node that is up
-  happens_up : (fault : Bool) (given : Input) → happens (Resource s past) os now fault false (Given given) ≡ given_answer (Resource s past) os now fault false (resource_answer s (memory s past os) given)
+  pub happens_up : (fault : Bool) (given : Input) → happens (Resource s past) os now fault false (Given given) ≡ given_answer (Resource s past) os now fault false (resource_answer s (memory s past os) given)
   happens_up fault given =
       ap (λ (b : Bool). cond b (down_answer (Resource s past) os now fault false (Given given)) (up_answer (Resource s past) os now fault false (Given given))) up
 
@@ -37,21 +38,21 @@ module _ (s : Setup) (past : List ResourceRecord) (os : List Own) (now : ℕ) (u
       let step = resource_answer s (memory s past os) given in
       happens_up false given ∙ ap (λ (b : Bool). written b step step.act) long ∙ uncut step step.act
 
-  cut : (given : Input) (flight : Durable) → (resource_answer s (memory s past os) given).act ≡ act.Durable flight → still (act.Down None (Some flight)) ≡ happens (Resource s past) os now true false (Given given)
+  pub cut : (given : Input) (flight : Durable) → (resource_answer s (memory s past os) given).act ≡ act.Durable flight → still (act.Down None (Some flight)) ≡ happens (Resource s past) os now true false (Given given)
   cut given flight e =
       let step = resource_answer s (memory s past os) given in
       sym (happens_up true given ∙ ap (written true step) e)
 
 module _ {D : Type 0} (state : D → DiskState) where
   -- an answer leaves what it is of
-  same_setup : (old new : Branches D) (given : Input) (step : Step) → Answers state old new given (Ok step) → setup_of old ≡ setup_of new
-  same_setup old new given step a = λ i. record {
-    number = (ap (λ (t : Setting). t.resource) (sym a.leaves.setting)) i;
-    schema = (ap (λ (t : Setting). t.schema) (sym a.leaves.setting)) i;
-    opening = (ap (λ (t : Setting). t.opening) (sym a.leaves.setting)) i;
-    tries = (sym a.same.tries) i;
-    actions = (ap actions_of (sym a.same.actions)) i;
-    locals = (sym a.same.locals) i;
+  pub same_setup : (old new : Branches D) → setting_of new.store ≡ setting_of old.store → KeepsSettings old new → setup_of old ≡ setup_of new
+  same_setup old new setting same = λ i. record {
+    number = (ap (λ (t : Setting). t.resource) (sym setting)) i;
+    schema = (ap (λ (t : Setting). t.schema) (sym setting)) i;
+    opening = (ap (λ (t : Setting). t.opening) (sym setting)) i;
+    tries = (sym same.tries) i;
+    actions = (ap actions_of (sym same.actions)) i;
+    locals = (sym same.locals) i;
   }
 
   pub answers_are_steps : AnswersAreSteps state
@@ -62,7 +63,7 @@ module _ {D : Type 0} (state : D → DiskState) where
         is = λ long. taken.is ∙ sym (whole (setup_of old) past os now stands.up given long);
         stands = record {
           up = ap (λ (b : Bool). down_after step.act b) stands.up ∙ ap (λ (x : Step). down_after x.act false) taken.is ∙ answers_stay_up (setup_of old) m given;
-          holds = subst (λ (s : Setup). Holds state new (memory s past (own_step given now step ∷ os))) (same_setup old new given step a) (taken.holds now);
+          holds = subst (λ (s : Setup). Holds state new (memory s past (own_step given now step ∷ os))) (same_setup old new a.leaves.setting a.same) (taken.holds now);
         };
       }
 

@@ -22,3 +22,10 @@ pub mod TicketLists
 pub mod StayReady
 pub mod QuietLaws
 pub mod HappensLaws
+pub mod NodeDisks
+pub mod NodeStepped
+pub mod NodeArms
+pub mod NodeRestarted
+pub mod FramingLaws
+pub mod KeyFrames
+pub mod NodeOpened

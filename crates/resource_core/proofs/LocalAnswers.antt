@@ -20,6 +20,7 @@ use Rattle.resource_store.specs.declared.store.Store.{Store}
 use Rattle.resource_store.specs.Keeping.{setting_of, is_down}
 use Rattle.resource_store.specs.Answers.{GivesBy, Leaves, tables_now}
 use Rattle.local_guard.specs.Locals.{freed, local_number, closed}
+use Rattle.history_text.specs.Framing.{SendsFramable}
 use Rattle.local_guard.specs.Steps.{freed_step}
 use Rattle.resource_core.specs.Holding.{Holds}
 use Rattle.resource_core.specs.Stepping.{Answers, Hears, KeepsSettings, with_tickets}
@@ -39,6 +40,11 @@ kept_free t P (Some k) opens all = all_left P opens t all
 free_tickets : (t : Ticket) (number : Option ℕ) (ts : Tickets) → closed t number ts ≡ with_opens ts (after_free t number ts.opens)
 free_tickets t None ts = refl
 free_tickets t (Some k) ts = refl
+
+-- nothing is sent
+freed_framed : (t : Ticket) (number : Option ℕ) → SendsFramable (freed_step t number)
+freed_framed t None = tt
+freed_framed t (Some k) = tt
 
 both_stay : {D : Type 0} (old : Branches D) (s : Store D) (ts : Tickets) → KeepsSettings old (with_both old s ts)
 both_stay old s ts = record { number = refl; tries = refl; actions = refl; locals = refl }
@@ -60,7 +66,7 @@ module _ {D : Type 0} (state : D → DiskState) (old : Branches D) (t : Ticket) 
         → ts ≡ closed t number old.txns → Hears state old (with_both old s ts) (message.LockAnswer t None) (Ok step)
     frees_ok number step is gives leaves tickets = λ from.
         answers_ok state old (free_input t from) (freed_step t) (after_free t) (durable.LocalCommitted k t) (with_both old s ts) up (kept_free t)
-        (freed (open_at old.txns.opens t)) number step is (free_rule from) gives leaves (tickets ∙ free_tickets t number old.txns) (both_stay old s ts)
+        (freed (open_at old.txns.opens t)) number step is (free_rule from) gives leaves (tickets ∙ free_tickets t number old.txns) (both_stay old s ts) (λ ready served. freed_framed t number)
 
     pub frees_err : (e : StoreError) (error : NodeError) → error ≡ node_error (durable.LocalCommitted k t) e → GivesBy state (freed (open_at old.txns.opens t)) (Err e) old.store s
         → Leaves {A = Option ℕ} state (Err e) old.store s → ts ≡ old.txns → Hears state old (with_both old s ts) (message.LockAnswer t None) (Err error)

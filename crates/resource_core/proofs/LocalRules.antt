@@ -9,6 +9,8 @@ use Rattle.seata_types.specs.declared.errors.Why.TheVariants as why
 use Rattle.seata_types.specs.declared.ids.Place.{Place}
 use Rattle.seata_types.specs.declared.ids.Ticket.{Ticket}
 use Rattle.seata_types.specs.declared.ids.Xid.{Xid}
+use Rattle.seata_types.specs.declared.limits.TheConstants.{RESOURCES}
+use Rattle.frame_codec.specs.Limits.{IsCounted}
 use Rattle.seata_types.specs.declared.messages.Input.{Input}
 use Rattle.seata_types.specs.declared.messages.Input.TheVariants as input
 use Rattle.seata_types.specs.declared.messages.Message.TheVariants as message
@@ -27,6 +29,7 @@ use Rattle.history_rules.specs.Own.{Given, added, still}
 use Rattle.history_rules.specs.ResourceMemory.{Memory, next_ticket, opening_tables, local_of, local_committed_of, opened_for, or_empty, or_none, effect_on, resource_asked, memory_after}
 use Rattle.history_rules.specs.ResourceRules as rules
 use Rattle.history_rules.specs.ResourceRules.{requests}
+use Rattle.history_text.specs.Framing.{SendsFramable}
 use Rattle.history_text.specs.Promises.{own_step}
 use Rattle.resource_store.specs.Keeping.{setting_of, is_down, known}
 use Rattle.resource_store.proofs.AnswerLaws.{tables_of}
@@ -36,6 +39,7 @@ use Rattle.resource_core.specs.Holding.{setup_of, Holds}
 use Rattle.resource_core.specs.Ready.{IsReady, IsTicketWithin, Serves}
 use Rattle.resource_core.specs.Stepping.{Answers, KeepsSettings}
 use Rattle.resource_core.specs.declared.branches.Branches.{Branches}
+use Rattle.resource_core.proofs.FramingLaws.{request_framed}
 use Rattle.resource_core.proofs.StoreSteps.{IsRule}
 use Rattle.resource_core.proofs.TicketLists.{left_within, opened_within}
 use Rattle.resource_core.proofs.TicketSteps.{answers_with, answers_still}
@@ -53,7 +57,7 @@ effect_known state old stmts m h = ap (λ (db : Database). effect db stmts) (sym
 module _ {D : Type 0} (state : D → DiskState) (old : Branches D) (k : ℕ) (up : is_down old.store ≡ false) where
   pub local_none : local_of (setup_of old) k ≡ None → Answers state old old (input.Local k) (Ok (still act.Ignored))
   local_none e = answers_still state old (input.Local k) up (still act.Ignored)
-      (λ m h. ap (rules.on_local (setup_of old) m.left.records m.opens (next_ticket m) k) e) (λ m. refl) (λ m now. refl)
+      (λ m h. ap (rules.on_local (setup_of old) m.left.records m.opens (next_ticket m) k) e) (λ m. refl) (λ m now. refl) (λ ready served. tt)
 
   module _ (stmts : List Stmt) (here : local_of (setup_of old) k ≡ Some stmts) where
     local_as : (m : Memory) → Holds state old m → (o : Option Open) → find (is_for 0 k) old.txns.opens ≡ o
@@ -63,7 +67,7 @@ module _ {D : Type 0} (state : D → DiskState) (old : Branches D) (k : ℕ) (up
         ∙ ap (rules.local_answer (setup_of old) m.left.records m.opens (next_ticket m) k stmts) (ap (λ (ts : Tickets). find (is_for 0 k) ts.opens) (sym h.tickets) ∙ e)
 
     pub local_waits : (o : Open) → find (is_for 0 k) old.txns.opens ≡ Some o → Answers state old old (input.Local k) (Ok (still (act.WaitingLocal k)))
-    local_waits o e = answers_still state old (input.Local k) up (still (act.WaitingLocal k)) (λ m h. local_as m h (Some o) e) (λ m. refl) (λ m now. refl)
+    local_waits o e = answers_still state old (input.Local k) up (still (act.WaitingLocal k)) (λ m h. local_as m h (Some o) e) (λ m. refl) (λ m now. refl) (λ ready served. tt)
 
     module _ (closed : find (is_for 0 k) old.txns.opens ≡ None) where
       meant_as : (m : Memory) → Holds state old m → (q : Result Effect (ℕ × StmtError)) → effect (known old.store).tables stmts ≡ q
@@ -79,12 +83,12 @@ module _ {D : Type 0} (state : D → DiskState) (old : Branches D) (k : ℕ) (up
       pub local_refused : (index : ℕ) (fault : StmtError) → effect (known old.store).tables stmts ≡ Err (index, fault)
           → Answers state old old (input.Local k) (Ok (still (act.RefusedLocal k (why.Stmt index fault))))
       local_refused index fault is = answers_still state old (input.Local k) up (still (act.RefusedLocal k (why.Stmt index fault)))
-          (λ m h. meant_as m h (Err (index, fault)) is) (λ m. refl) (λ m now. refl)
+          (λ m h. meant_as m h (Err (index, fault)) is) (λ m. refl) (λ m now. refl) (λ ready served. tt)
 
       pub local_busy : (key : RowKey) (by : Ticket) → IsBusy old.txns.opens (effect (known old.store).tables stmts) key by
           → Answers state old old (input.Local k) (Ok (still (act.BusyLocal k key by)))
       local_busy key by b = answers_still state old (input.Local k) up (still (act.BusyLocal k key by))
-          (λ m h. rows_as m h b.effect (Some (key, by)) b.means b.busy) (λ m. refl) (λ m now. refl)
+          (λ m h. rows_as m h b.effect (Some (key, by)) b.means b.busy) (λ m. refl) (λ m now. refl) (λ ready served. tt)
 
       pub local_opened : (new : Branches D) (t : Ticket) (step : Step) → (x : Executed old.txns (OfLocal k) (effect (known old.store).tables stmts) t new.txns)
           → step ≡ requests (setting_of old.store).resource (act.OpenedLocal k t) (opening_of t (OfLocal k) x.effect)
@@ -112,6 +116,8 @@ module _ {D : Type 0} (state : D → DiskState) (old : Branches D) (k : ℕ) (up
           })
           (subst (λ (ts : Tickets). ts.opened ≤ old.txns.opened + 1) (sym x.opens) (omega arith))
           itself (λ ready served. opened_within old ready new.txns (opening_of t (OfLocal k) x.effect) x.opens (within ready served))
+          (λ ready served. subst SendsFramable (sym is)
+          (request_framed (setting_of old.store).resource (known old.store).tables (act.OpenedLocal k t) (opening_of t (OfLocal k) x.effect) (subst (IsCounted RESOURCES) ready.numbered ready.counted) ready.knows.resource (within ready served)))
 
 -- ---- the answer to its lock query
 
@@ -160,7 +166,7 @@ module _ {D : Type 0} (state : D → DiskState) (old : Branches D) (t : Ticket) 
 
     pub lock_ignored : (held : Option (RowKey × Xid)) → local_number (open_at old.txns.opens t) ≡ None → Answers state old old (input.Message from (message.LockAnswer t held)) (Ok (still act.Ignored))
     lock_ignored held e = answers_still state old (input.Message from (message.LockAnswer t held)) up (still act.Ignored)
-        (λ m h. ignored_by m held (open_at m.opens t) (ap (λ (ts : Tickets). local_number (open_at ts.opens t)) (sym h.tickets) ∙ e)) (λ m. refl) (λ m now. refl)
+        (λ m h. ignored_by m held (open_at m.opens t) (ap (λ (ts : Tickets). local_number (open_at ts.opens t)) (sym h.tickets) ∙ e)) (λ m. refl) (λ m now. refl) (λ ready served. tt)
 
     -- a row is held
     held_by : (m : Memory) (k : ℕ) (key : RowKey) (holder : Xid) (p : Option Open) → open_at m.opens t ≡ p → local_number p ≡ Some k
@@ -186,4 +192,4 @@ module _ {D : Type 0} (state : D → DiskState) (old : Branches D) (t : Ticket) 
           tickets = tickets ∙ ap (λ (ts : Tickets). with_opens ts (without ts.opens t)) h.tickets;
         })
         (subst (λ (ts : Tickets). ts.opened ≤ old.txns.opened + 1) (sym tickets) (omega arith))
-        itself (λ ready served. left_within old ready new.txns t tickets)
+        itself (λ ready served. left_within old ready new.txns t tickets) (λ ready served. tt)

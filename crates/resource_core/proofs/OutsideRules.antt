@@ -1,6 +1,6 @@
 -- Outside writes: each answer is the rule's.
 use Rattle.std.proofs.Common.{◌≡◌, ◌∙◌, ℕ, false, List, Option, Some, None, Result, Ok, Err, ⊎_elim, inl, refl, sym, ap, subst, arith}
-use Rattle.std.specs.Prelude.{IfErr}
+use Rattle.std.specs.Prelude.{IfOk, IfErr}
 use Rattle.disk_model.specs.Disk.{DiskState}
 use Rattle.seata_types.specs.declared.acts.Act.TheVariants as act
 use Rattle.seata_types.specs.declared.acts.Durable.TheVariants as durable
@@ -25,6 +25,7 @@ use Rattle.durable_records.specs.RowsKept.{tables}
 use Rattle.history_rules.specs.Own.{added, still}
 use Rattle.history_rules.specs.ResourceMemory.{Memory, next_ticket, opening_tables, local_of, or_empty, or_none, effect_on, resource_asked, memory_after}
 use Rattle.history_rules.specs.ResourceRules as rules
+use Rattle.history_text.specs.Framing.{SendsFramable}
 use Rattle.history_text.specs.Promises.{own_step}
 use Rattle.resource_store.specs.declared.store.Store.{Store}
 use Rattle.resource_store.specs.Keeping.{is_down, known}
@@ -48,7 +49,7 @@ with_store b s = record b { store = s }
 module _ {D : Type 0} (state : D → DiskState) (old : Branches D) (k : ℕ) (up : is_down old.store ≡ false) where
   pub outside_none : local_of (setup_of old) k ≡ None → Answers state old old (input.Outside k) (Ok (still act.Ignored))
   outside_none e = answers_still state old (input.Outside k) up (still act.Ignored)
-      (λ m h. ap (rules.on_outside (setup_of old) m.left.records m.opens (next_ticket m) k) e) (λ m. refl) (λ m now. refl)
+      (λ m h. ap (rules.on_outside (setup_of old) m.left.records m.opens (next_ticket m) k) e) (λ m. refl) (λ m now. refl) (λ ready served. tt)
 
   module _ (stmts : List Stmt) (here : local_of (setup_of old) k ≡ Some stmts) (s : Store D) where
     abbrev new : Branches D
@@ -127,6 +128,7 @@ module _ {D : Type 0} (state : D → DiskState) (old : Branches D) (k : ℕ) (up
       tickets = tt;
       opened = omega arith;
       within = λ ready served. ready.tickets;
+      frames = λ ready served. tt;
       same = record { number = refl; tries = refl; actions = refl; locals = refl };
     }
 
@@ -149,6 +151,14 @@ module _ {D : Type 0} (state : D → DiskState) (old : Branches D) (k : ℕ) (up
     kept_tickets (Ok step) = tt
     kept_tickets (Err e) = refl
 
+    -- nothing is sent
+    still_framed : (fault : OutsideError) (result : Result Step NodeError) → NotWritten k fault result → IfOk result SendsFramable
+    still_framed (outside.Stmt index cause) result is = subst (λ (r : Result Step NodeError). IfOk r SendsFramable) (sym is) tt
+    still_framed (outside.Busy key by) result is = subst (λ (r : Result Step NodeError). IfOk r SendsFramable) (sym is) tt
+    still_framed outside.Failed result is = subst (λ (r : Result Step NodeError). IfOk r SendsFramable) (sym is) tt
+    still_framed (outside.Full full) result is = subst (λ (r : Result Step NodeError). IfOk r SendsFramable) (sym is) tt
+    still_framed outside.NoMemory result is = subst (λ (r : Result Step NodeError). IfOk r SendsFramable) (sym is) tt
+
     pub outside_not : (fault : OutsideError) (result : Result Step NodeError) → NotWritten k fault result
         → WritesOutside state k old.txns.opens (effect (known old.store).tables stmts) (Err fault) old.store s
         → Leaves {A = Unit {0}} state (made_by (Err fault)) old.store s → Answers state old new (input.Outside k) result
@@ -158,5 +168,6 @@ module _ {D : Type 0} (state : D → DiskState) (old : Branches D) (k : ℕ) (up
       tickets = kept_tickets result;
       opened = omega arith;
       within = λ ready served. ready.tickets;
+      frames = λ ready served. still_framed fault result is;
       same = record { number = refl; tries = refl; actions = refl; locals = refl };
     }

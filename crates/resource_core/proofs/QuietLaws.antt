@@ -1,5 +1,6 @@
--- A resource's rules never take it down, nor restart it.
-use Rattle.std.proofs.Common.{◌≡◌, ℕ, zero, suc, ◌+◌, Bool, true, false, cond, nat_le, List, Option, Some, None, Result, Ok, Err, refl}
+-- A resource's rules never take it down, nor restart it, and each durable answer of theirs asks for a record.
+use Rattle.std.proofs.Common.{◌≡◌, ℕ, zero, suc, ◌+◌, Bool, true, false, cond, nat_le, List, Option, Some, None, is_some, option_map, Result, Ok, Err, refl, ap, ◌∙◌}
+use Rattle.seata_types.specs.declared.acts.Act.{Act}
 use Rattle.seata_types.specs.declared.acts.Act.TheVariants as act
 use Rattle.seata_types.specs.declared.errors.StmtError.{StmtError}
 use Rattle.seata_types.specs.declared.errors.Why.TheVariants as why
@@ -22,209 +23,237 @@ use Rattle.seata_types.specs.declared.statuses.BranchKind.{BranchKind}
 use Rattle.seata_types.specs.declared.statuses.BranchKind.TheVariants as kind
 use Rattle.local_tables.specs.Calls.{effect}
 use Rattle.local_tables.specs.declared.schemas.Effect.{Effect}
-use Rattle.local_txn.specs.OpenTickets.{Open, Owner, OfCall, OfLocal}
+use Rattle.local_txn.specs.OpenTickets.{Open, Owner, OfCall, OfLocal, open_at}
+use Rattle.local_txn.proofs.OpenLaws.{found_ticket}
 use Rattle.durable_records.specs.declared.resources.ResourceRecord.{ResourceRecord}
 use Rattle.durable_records.specs.Fences.{FenceAnswer, Runs, WasDone, Suspends, Refuses, fence, on_cancel, on_confirm}
 use Rattle.durable_records.specs.RowsKept.{tables}
 use Rattle.durable_records.specs.UndoRecords.{Undo}
 use Rattle.history_rules.specs.Devices.{down_after}
 use Rattle.history_rules.specs.Own.{still}
-use Rattle.history_rules.specs.ResourceMemory.{Memory, Setup, action_of, opening_tables}
+use Rattle.history_rules.specs.CoordinatorRules.{branch_of, xid_of}
+use Rattle.history_rules.specs.ResourceMemory.{Memory, Setup, action_of, committed_of, local_committed_of, next_ticket, opening_tables, resource_asked, tried_of}
 use Rattle.history_rules.specs.ResourceRules as rules
 use Rattle.history_rules.specs.ResourceRules.{resource_answer}
+use Rattle.history_text.specs.Promises.{own_step}
+use Rattle.resource_core.specs.Stepping.{asked_record}
 
--- an act that leaves its node up
-abbrev IsQuiet : Step → Type 0
-IsQuiet step = down_after step.act false ≡ false
+-- an act of a node that stays up, with the record that it asks for where it is durable
+abbrev pub is_recorded : Option ResourceRecord → Act → Bool
+is_recorded asked (act.Durable done) = is_some asked
+is_recorded asked (act.Down kept at) = false
+is_recorded asked (act.Restarted kept) = false
+is_recorded asked act.Armed = false
+is_recorded asked _ = true
 
-module _ (s : Setup) (rs : List ResourceRecord) (opens : List Open) (next : Ticket) where
+module _ (s : Setup) (mem : Memory) (given : Input) where
+  -- it leaves the node up, and where it is durable it asks for a record
+  abbrev IsAsked : Step → Type 0
+  IsAsked step = is_recorded (resource_asked s mem (own_step given 0 step)) step.act ≡ true
+
+  abbrev IsOpen : Open → Type 0
+  IsOpen o = open_at mem.opens o.ticket ≡ Some o
+
+  -- a ticket that is found is open under its own name
+  open_as : (t : Ticket) (o : Open) → open_at mem.opens t ≡ Some o → IsOpen o
+  open_as t o found = ap (open_at mem.opens) (found_ticket mem.opens t o found) ∙ found
+
   -- ---- calls
 
-  free_quiet : (m x c : ℕ) (w : Work) (e : Effect) (b : Option (RowKey × Ticket)) → IsQuiet (rules.free_call s rs opens next m x c w e b)
-  free_quiet m x c w e (Some (key, by)) = refl
-  free_quiet m x c w e None = refl
+  free_asked : (m x c : ℕ) (w : Work) (e : Effect) (b : Option (RowKey × Ticket)) → IsAsked (rules.free_call s mem.left.records mem.opens (next_ticket mem) m x c w e b)
+  free_asked m x c w e (Some (key, by)) = refl
+  free_asked m x c w e None = refl
 
-  new_quiet : (m x c : ℕ) (w : Work) (r : Result Effect (ℕ × StmtError)) → IsQuiet (rules.new_call s rs opens next m x c w r)
-  new_quiet m x c w (Err (index, error)) = refl
-  new_quiet m x c w (Ok e) = free_quiet m x c w e _
+  new_asked : (m x c : ℕ) (w : Work) (r : Result Effect (ℕ × StmtError)) → IsAsked (rules.new_call s mem.left.records mem.opens (next_ticket mem) m x c w r)
+  new_asked m x c w (Err (index, error)) = refl
+  new_asked m x c w (Ok e) = free_asked m x c w e _
 
-  answer_quiet : (m x c : ℕ) (w : Work) (done : Option ℕ) (o : Option Open) → IsQuiet (rules.call_answer s rs opens next m x c w done o)
-  answer_quiet m x c w (Some b) o = refl
-  answer_quiet m x c w None (Some o) = refl
-  answer_quiet m x c w None None = new_quiet m x c w _
+  answer_asked : (m x c : ℕ) (w : Work) (done : Option ℕ) (o : Option Open) → IsAsked (rules.call_answer s mem.left.records mem.opens (next_ticket mem) m x c w done o)
+  answer_asked m x c w (Some b) o = refl
+  answer_asked m x c w None (Some o) = refl
+  answer_asked m x c w None None = new_asked m x c w _
 
-  call_quiet : (m x c : ℕ) (w : Work) → IsQuiet (rules.on_call s rs opens next m x c w)
-  call_quiet m zero c w = refl
-  call_quiet m (suc x) c w = answer_quiet m (suc x) c w _ _
+  call_asked : (m x c : ℕ) (w : Work) → IsAsked (rules.on_call s mem.left.records mem.opens (next_ticket mem) m x c w)
+  call_asked m zero c w = refl
+  call_asked m (suc x) c w = answer_asked m (suc x) c w _ _
 
   -- ---- answers to a registration
 
-  at_quiet : (o : Open) (m x c b : ℕ) (u : Option Undo) (marked : Bool) → IsQuiet (rules.at_granted s rs opens next o m x c b u marked)
-  at_quiet o m x c b (Some u) marked = refl
-  at_quiet o m x c b None true = refl
-  at_quiet o m x c b None false = refl
+  at_asked : (o : Open) → IsOpen o → (m x c b : ℕ) (u : Option Undo) (marked : Bool) → IsAsked (rules.at_granted s mem.left.records mem.opens (next_ticket mem) o m x c b u marked)
+  at_asked o found m x c b (Some u) marked = refl
+  at_asked o found m x c b None true = refl
+  at_asked o found m x c b None false = ap (λ (p : Option Open). is_some (option_map (committed_of (xid_of x) (branch_of b)) p)) found
 
-  touched_quiet : (o : Open) (m x c b : ℕ) (index : Option ℕ) → IsQuiet (rules.try_touched s rs opens next o m x c b index)
-  touched_quiet o m x c b (Some index) = refl
-  touched_quiet o m x c b None = refl
+  touched_asked : (o : Open) → IsOpen o → (m x c b : ℕ) (index : Option ℕ) → IsAsked (rules.try_touched s mem.left.records mem.opens (next_ticket mem) o m x c b index)
+  touched_asked o found m x c b (Some index) = refl
+  touched_asked o found m x c b None = ap (λ (p : Option Open). is_some (option_map (tried_of (xid_of x) (branch_of b) (tables (opening_tables s) mem.left.records)) p)) found
 
-  meant_quiet : (o : Open) (m x c b : ℕ) (r : Result Effect (ℕ × StmtError)) → IsQuiet (rules.try_meant s rs opens next o m x c b r)
-  meant_quiet o m x c b (Err (index, error)) = refl
-  meant_quiet o m x c b (Ok e) = touched_quiet o m x c b _
+  meant_asked : (o : Open) → IsOpen o → (m x c b : ℕ) (r : Result Effect (ℕ × StmtError)) → IsAsked (rules.try_meant s mem.left.records mem.opens (next_ticket mem) o m x c b r)
+  meant_asked o found m x c b (Err (index, error)) = refl
+  meant_asked o found m x c b (Ok e) = touched_asked o found m x c b _
 
-  tcc_quiet : (o : Open) (m x c b : ℕ) (a : Action) (answer : FenceAnswer) → IsQuiet (rules.tcc_granted s rs opens next o m x c b a answer)
-  tcc_quiet o m x c b a Runs = meant_quiet o m x c b (effect (tables (opening_tables s) rs) a.tries)
-  tcc_quiet o m x c b a WasDone = refl
-  tcc_quiet o m x c b a Suspends = refl
-  tcc_quiet o m x c b a Refuses = refl
+  tcc_asked : (o : Open) → IsOpen o → (m x c b : ℕ) (a : Action) (answer : FenceAnswer) → IsAsked (rules.tcc_granted s mem.left.records mem.opens (next_ticket mem) o m x c b a answer)
+  tcc_asked o found m x c b a Runs = meant_asked o found m x c b (effect (tables (opening_tables s) mem.left.records) a.tries)
+  tcc_asked o found m x c b a WasDone = refl
+  tcc_asked o found m x c b a Suspends = refl
+  tcc_asked o found m x c b a Refuses = refl
 
-  granted_quiet : (o : Open) (w : Owner) (b : ℕ) → IsQuiet (rules.granted_answer s rs opens next o w b)
-  granted_quiet o (OfCall m x c (work.At stmts)) b = at_quiet o m x c b _ _
-  granted_quiet o (OfCall m x c (work.Tcc action)) b = tcc_quiet o m x c b action _
-  granted_quiet o (OfLocal k) b = refl
+  granted_asked : (o : Open) → IsOpen o → (w : Owner) (b : ℕ) → IsAsked (rules.granted_answer s mem.left.records mem.opens (next_ticket mem) o w b)
+  granted_asked o found (OfCall m x c (work.At stmts)) b = at_asked o found m x c b _ _
+  granted_asked o found (OfCall m x c (work.Tcc action)) b = tcc_asked o found m x c b action _
+  granted_asked o found (OfLocal k) b = refl
 
-  met_quiet : (o : Open) (m x c : ℕ) (holder : Xid) (rolling : Bool) → IsQuiet (rules.conflict_answer s rs opens next o m x c holder rolling)
-  met_quiet o m x c holder true = refl
-  met_quiet o m x c holder false = by (nat_le s.tries (o.conflicts + 1))
+  met_asked : (o : Open) (m x c : ℕ) (holder : Xid) (rolling : Bool) → IsAsked (rules.conflict_answer s mem.left.records mem.opens (next_ticket mem) o m x c holder rolling)
+  met_asked o m x c holder true = refl
+  met_asked o m x c holder false = by (nat_le s.tries (o.conflicts + 1))
     where
-      by : (b : Bool) → IsQuiet (cond b (rules.drops s rs opens next o m x c why.Tries) (still (act.Conflicted o.ticket (o.conflicts + 1))))
+      by : (b : Bool) → IsAsked (cond b (rules.drops s mem.left.records mem.opens (next_ticket mem) o m x c why.Tries) (still (act.Conflicted o.ticket (o.conflicts + 1))))
       by true = refl
       by false = refl
 
-  ticket_quiet : (o : Open) (w : Owner) (answer : Registered) → IsQuiet (rules.ticket_answer s rs opens next o w answer)
-  ticket_quiet o w (registered.Granted b) = granted_quiet o w b.0
-  ticket_quiet o (OfCall m x c w) (registered.Conflict key holder rolling) = met_quiet o m x c holder rolling
-  ticket_quiet o (OfCall m x c w) (registered.Closed status) = refl
-  ticket_quiet o (OfCall m x c w) registered.Late = refl
-  ticket_quiet o (OfLocal k) (registered.Conflict key holder rolling) = refl
-  ticket_quiet o (OfLocal k) (registered.Closed status) = refl
-  ticket_quiet o (OfLocal k) registered.Late = refl
+  ticket_asked : (o : Open) → IsOpen o → (w : Owner) (answer : Registered) → IsAsked (rules.ticket_answer s mem.left.records mem.opens (next_ticket mem) o w answer)
+  ticket_asked o found w (registered.Granted b) = granted_asked o found w b.0
+  ticket_asked o found (OfCall m x c w) (registered.Conflict key holder rolling) = met_asked o m x c holder rolling
+  ticket_asked o found (OfCall m x c w) (registered.Closed status) = refl
+  ticket_asked o found (OfCall m x c w) registered.Late = refl
+  ticket_asked o found (OfLocal k) (registered.Conflict key holder rolling) = refl
+  ticket_asked o found (OfLocal k) (registered.Closed status) = refl
+  ticket_asked o found (OfLocal k) registered.Late = refl
 
-  registered_quiet : (o : Option Open) (answer : Registered) → IsQuiet (rules.on_registered s rs opens next o answer)
-  registered_quiet None answer = refl
-  registered_quiet (Some o) answer = ticket_quiet o o.owner answer
+  registered_asked : (t : Ticket) (p : Option Open) → open_at mem.opens t ≡ p → (answer : Registered) → IsAsked (rules.on_registered s mem.left.records mem.opens (next_ticket mem) p answer)
+  registered_asked t None is answer = refl
+  registered_asked t (Some o) is answer = ticket_asked o (open_as t o is) o.owner answer
 
   -- ---- second phases
 
-  clear_quiet : (x b : ℕ) (u : Option Undo) → IsQuiet (rules.at_commit s rs opens next x b u)
-  clear_quiet x b (Some u) = refl
-  clear_quiet x b None = refl
+  clear_asked : (x b : ℕ) (u : Option Undo) → IsAsked (rules.at_commit s mem.left.records mem.opens (next_ticket mem) x b u)
+  clear_asked x b (Some u) = refl
+  clear_asked x b None = refl
 
-  undo_quiet : (x b : ℕ) (dirty : Option Image) → IsQuiet (rules.at_undo s rs opens next x b dirty)
-  undo_quiet x b (Some i) = refl
-  undo_quiet x b None = refl
+  undo_asked : (x b : ℕ) (dirty : Option Image) → IsAsked (rules.at_undo s mem.left.records mem.opens (next_ticket mem) x b dirty)
+  undo_asked x b (Some i) = refl
+  undo_asked x b None = refl
 
-  record_quiet : (x b : ℕ) (u : Undo) (busy : Option (RowKey × Ticket)) → IsQuiet (rules.at_record s rs opens next x b u busy)
-  record_quiet x b u (Some (key, by)) = refl
-  record_quiet x b u None = undo_quiet x b _
+  record_asked : (x b : ℕ) (u : Undo) (busy : Option (RowKey × Ticket)) → IsAsked (rules.at_record s mem.left.records mem.opens (next_ticket mem) x b u busy)
+  record_asked x b u (Some (key, by)) = refl
+  record_asked x b u None = undo_asked x b _
 
-  roll_quiet : (x b : ℕ) (marked : Bool) (u : Option Undo) → IsQuiet (rules.at_rollback s rs opens next x b marked u)
-  roll_quiet x b true u = refl
-  roll_quiet x b false None = refl
-  roll_quiet x b false (Some u) = record_quiet x b u _
+  roll_asked : (x b : ℕ) (marked : Bool) (u : Option Undo) → IsAsked (rules.at_rollback s mem.left.records mem.opens (next_ticket mem) x b marked u)
+  roll_asked x b true u = refl
+  roll_asked x b false None = refl
+  roll_asked x b false (Some u) = record_asked x b u _
 
-  confirmed_quiet : (x b : ℕ) (r : Result Effect (ℕ × StmtError)) → IsQuiet (rules.confirm_runs s rs opens next x b r)
-  confirmed_quiet x b (Err (index, error)) = refl
-  confirmed_quiet x b (Ok e) = refl
+  confirmed_asked : (x b : ℕ) (r : Result Effect (ℕ × StmtError)) → IsAsked (rules.confirm_runs s mem.left.records mem.opens (next_ticket mem) x b r)
+  confirmed_asked x b (Err (index, error)) = refl
+  confirmed_asked x b (Ok e) = refl
 
-  confirm_quiet : (x b : ℕ) (a : Action) (answer : FenceAnswer) → IsQuiet (rules.tcc_commit s rs opens next x b a answer)
-  confirm_quiet x b a Runs = confirmed_quiet x b _
-  confirm_quiet x b a WasDone = refl
-  confirm_quiet x b a Suspends = refl
-  confirm_quiet x b a Refuses = refl
+  confirm_asked : (x b : ℕ) (a : Action) (answer : FenceAnswer) → IsAsked (rules.tcc_commit s mem.left.records mem.opens (next_ticket mem) x b a answer)
+  confirm_asked x b a Runs = confirmed_asked x b _
+  confirm_asked x b a WasDone = refl
+  confirm_asked x b a Suspends = refl
+  confirm_asked x b a Refuses = refl
 
-  cancelled_quiet : (x b : ℕ) (r : Result Effect (ℕ × StmtError)) → IsQuiet (rules.cancel_runs s rs opens next x b r)
-  cancelled_quiet x b (Err (index, error)) = refl
-  cancelled_quiet x b (Ok e) = refl
+  cancelled_asked : (x b : ℕ) (r : Result Effect (ℕ × StmtError)) → IsAsked (rules.cancel_runs s mem.left.records mem.opens (next_ticket mem) x b r)
+  cancelled_asked x b (Err (index, error)) = refl
+  cancelled_asked x b (Ok e) = refl
 
-  cancel_quiet : (x b : ℕ) (a : Action) (answer : FenceAnswer) → IsQuiet (rules.tcc_rollback s rs opens next x b a answer)
-  cancel_quiet x b a Runs = cancelled_quiet x b _
-  cancel_quiet x b a WasDone = refl
-  cancel_quiet x b a Suspends = refl
-  cancel_quiet x b a Refuses = refl
+  cancel_asked : (x b : ℕ) (a : Action) (answer : FenceAnswer) → IsAsked (rules.tcc_rollback s mem.left.records mem.opens (next_ticket mem) x b a answer)
+  cancel_asked x b a Runs = cancelled_asked x b _
+  cancel_asked x b a WasDone = refl
+  cancel_asked x b a Suspends = refl
+  cancel_asked x b a Refuses = refl
 
-  with_quiet : (answer : Action → Step) → ((a : Action) → IsQuiet (answer a)) → (o : Option Action) → IsQuiet (rules.with_action s rs opens next answer o)
-  with_quiet answer each None = refl
-  with_quiet answer each (Some a) = each a
+  with_asked : (answer : Action → Step) → ((a : Action) → IsAsked (answer a)) → (o : Option Action) → IsAsked (rules.with_action s mem.left.records mem.opens (next_ticket mem) answer o)
+  with_asked answer each None = refl
+  with_asked answer each (Some a) = each a
 
-  commit_quiet : (x b : ℕ) (k : BranchKind) (m c : ℕ) → IsQuiet (rules.on_commit s rs opens next x b k m c)
-  commit_quiet x b kind.At m c = clear_quiet x b _
-  commit_quiet x b kind.Tcc m c = with_quiet (λ a. rules.tcc_commit s rs opens next x b a (on_confirm (fence rs x b))) (λ a. confirm_quiet x b a (on_confirm (fence rs x b))) (action_of s m c)
+  commit_asked : (x b : ℕ) (k : BranchKind) (m c : ℕ) → IsAsked (rules.on_commit s mem.left.records mem.opens (next_ticket mem) x b k m c)
+  commit_asked x b kind.At m c = clear_asked x b _
+  commit_asked x b kind.Tcc m c = with_asked (λ a. rules.tcc_commit s mem.left.records mem.opens (next_ticket mem) x b a (on_confirm (fence mem.left.records x b))) (λ a. confirm_asked x b a (on_confirm (fence mem.left.records x b))) (action_of s m c)
 
-  rollback_quiet : (x b : ℕ) (k : BranchKind) (m c : ℕ) → IsQuiet (rules.on_rollback s rs opens next x b k m c)
-  rollback_quiet x b kind.At m c = roll_quiet x b _ _
-  rollback_quiet x b kind.Tcc m c = with_quiet (λ a. rules.tcc_rollback s rs opens next x b a (on_cancel (fence rs x b))) (λ a. cancel_quiet x b a (on_cancel (fence rs x b))) (action_of s m c)
+  rollback_asked : (x b : ℕ) (k : BranchKind) (m c : ℕ) → IsAsked (rules.on_rollback s mem.left.records mem.opens (next_ticket mem) x b k m c)
+  rollback_asked x b kind.At m c = roll_asked x b _ _
+  rollback_asked x b kind.Tcc m c = with_asked (λ a. rules.tcc_rollback s mem.left.records mem.opens (next_ticket mem) x b a (on_cancel (fence mem.left.records x b))) (λ a. cancel_asked x b a (on_cancel (fence mem.left.records x b))) (action_of s m c)
 
   -- ---- local transactions and outside writes
 
-  local_free_quiet : (k : ℕ) (e : Effect) (b : Option (RowKey × Ticket)) → IsQuiet (rules.local_free s rs opens next k e b)
-  local_free_quiet k e (Some (key, by)) = refl
-  local_free_quiet k e None = refl
+  local_free_asked : (k : ℕ) (e : Effect) (b : Option (RowKey × Ticket)) → IsAsked (rules.local_free s mem.left.records mem.opens (next_ticket mem) k e b)
+  local_free_asked k e (Some (key, by)) = refl
+  local_free_asked k e None = refl
 
-  local_meant_quiet : (k : ℕ) (r : Result Effect (ℕ × StmtError)) → IsQuiet (rules.local_meant s rs opens next k r)
-  local_meant_quiet k (Err (index, error)) = refl
-  local_meant_quiet k (Ok e) = local_free_quiet k e _
+  local_meant_asked : (k : ℕ) (r : Result Effect (ℕ × StmtError)) → IsAsked (rules.local_meant s mem.left.records mem.opens (next_ticket mem) k r)
+  local_meant_asked k (Err (index, error)) = refl
+  local_meant_asked k (Ok e) = local_free_asked k e _
 
-  local_answer_quiet : (k : ℕ) (stmts : List Stmt) (o : Option Open) → IsQuiet (rules.local_answer s rs opens next k stmts o)
-  local_answer_quiet k stmts (Some o) = refl
-  local_answer_quiet k stmts None = local_meant_quiet k _
+  local_answer_asked : (k : ℕ) (stmts : List Stmt) (o : Option Open) → IsAsked (rules.local_answer s mem.left.records mem.opens (next_ticket mem) k stmts o)
+  local_answer_asked k stmts (Some o) = refl
+  local_answer_asked k stmts None = local_meant_asked k _
 
-  local_quiet : (k : ℕ) (stmts : Option (List Stmt)) → IsQuiet (rules.on_local s rs opens next k stmts)
-  local_quiet k None = refl
-  local_quiet k (Some stmts) = local_answer_quiet k stmts _
+  local_asked : (k : ℕ) (stmts : Option (List Stmt)) → IsAsked (rules.on_local s mem.left.records mem.opens (next_ticket mem) k stmts)
+  local_asked k None = refl
+  local_asked k (Some stmts) = local_answer_asked k stmts _
 
-  lock_quiet : (o : Open) (w : Owner) (held : Option (RowKey × Xid)) → IsQuiet (rules.lock_answer s rs opens next o w held)
-  lock_quiet o (OfLocal k) (Some (key, holder)) = refl
-  lock_quiet o (OfLocal k) None = refl
-  lock_quiet o (OfCall m x c w) held = refl
+  lock_asked : (o : Open) → IsOpen o → (w : Owner) (held : Option (RowKey × Xid)) → IsAsked (rules.lock_answer s mem.left.records mem.opens (next_ticket mem) o w held)
+  lock_asked o found (OfLocal k) (Some (key, holder)) = refl
+  lock_asked o found (OfLocal k) None = ap (λ (p : Option Open). is_some (option_map (local_committed_of k) p)) found
+  lock_asked o found (OfCall m x c w) held = refl
 
-  locked_quiet : (o : Option Open) (held : Option (RowKey × Xid)) → IsQuiet (rules.on_lock_answer s rs opens next o held)
-  locked_quiet None held = refl
-  locked_quiet (Some o) held = lock_quiet o o.owner held
+  locked_asked : (t : Ticket) (p : Option Open) → open_at mem.opens t ≡ p → (held : Option (RowKey × Xid)) → IsAsked (rules.on_lock_answer s mem.left.records mem.opens (next_ticket mem) p held)
+  locked_asked t None is held = refl
+  locked_asked t (Some o) is held = lock_asked o (open_as t o is) o.owner held
 
-  outside_free_quiet : (k : ℕ) (b : Option (RowKey × Ticket)) → IsQuiet (rules.outside_free s rs opens next k b)
-  outside_free_quiet k (Some (key, by)) = refl
-  outside_free_quiet k None = refl
+  outside_free_asked : (k : ℕ) (b : Option (RowKey × Ticket)) → IsAsked (rules.outside_free s mem.left.records mem.opens (next_ticket mem) k b)
+  outside_free_asked k (Some (key, by)) = refl
+  outside_free_asked k None = refl
 
-  outside_meant_quiet : (k : ℕ) (r : Result Effect (ℕ × StmtError)) → IsQuiet (rules.outside_meant s rs opens next k r)
-  outside_meant_quiet k (Err (index, error)) = refl
-  outside_meant_quiet k (Ok e) = outside_free_quiet k _
+  outside_meant_asked : (k : ℕ) (r : Result Effect (ℕ × StmtError)) → IsAsked (rules.outside_meant s mem.left.records mem.opens (next_ticket mem) k r)
+  outside_meant_asked k (Err (index, error)) = refl
+  outside_meant_asked k (Ok e) = outside_free_asked k _
 
-  outside_quiet : (k : ℕ) (stmts : Option (List Stmt)) → IsQuiet (rules.on_outside s rs opens next k stmts)
-  outside_quiet k None = refl
-  outside_quiet k (Some stmts) = outside_meant_quiet k _
+  outside_asked : (k : ℕ) (stmts : Option (List Stmt)) → IsAsked (rules.on_outside s mem.left.records mem.opens (next_ticket mem) k stmts)
+  outside_asked k None = refl
+  outside_asked k (Some stmts) = outside_meant_asked k _
 
   -- ---- turns, and all
 
-  turn_quiet : (o : Option Open) → IsQuiet (rules.on_turn s rs opens next o)
-  turn_quiet None = refl
-  turn_quiet (Some o) = refl
+  turn_asked : (o : Option Open) → IsAsked (rules.on_turn s mem.left.records mem.opens (next_ticket mem) o)
+  turn_asked None = refl
+  turn_asked (Some o) = refl
 
-  message_quiet : (heard : Message) → IsQuiet (rules.on_message s rs opens next heard)
-  message_quiet (message.Call xid manager resource call w) = call_quiet manager xid.0 call w
-  message_quiet (message.RegisterAnswer ticket xid answer) = registered_quiet _ answer
-  message_quiet (message.LockAnswer ticket held) = locked_quiet _ held
-  message_quiet (message.BranchCommit xid b k manager call) = commit_quiet xid.0 b.0 k manager call
-  message_quiet (message.BranchRollback xid b k manager call) = rollback_quiet xid.0 b.0 k manager call
-  message_quiet (message.Begin manager timeout) = refl
-  message_quiet (message.Begun xid) = refl
-  message_quiet (message.BranchCommitted xid id status stmt) = refl
-  message_quiet (message.BranchRollbacked xid id status stmt) = refl
-  message_quiet (message.GlobalCommit xid) = refl
-  message_quiet (message.CommitStatus xid status) = refl
-  message_quiet (message.GlobalRollback xid) = refl
-  message_quiet (message.RollbackStatus xid status) = refl
-  message_quiet (message.Register xid resource call ticket mode hold check) = refl
-  message_quiet (message.GlobalStatus xid) = refl
-  message_quiet (message.StatusAnswer xid status) = refl
-  message_quiet (message.LockQuery resource ticket check) = refl
-  message_quiet (message.Answer xid call given) = refl
+  message_asked : (heard : Message) → IsAsked (rules.on_message s mem.left.records mem.opens (next_ticket mem) heard)
+  message_asked (message.Call xid manager resource call w) = call_asked manager xid.0 call w
+  message_asked (message.RegisterAnswer ticket xid answer) = registered_asked ticket _ refl answer
+  message_asked (message.LockAnswer ticket held) = locked_asked ticket _ refl held
+  message_asked (message.BranchCommit xid b k manager call) = commit_asked xid.0 b.0 k manager call
+  message_asked (message.BranchRollback xid b k manager call) = rollback_asked xid.0 b.0 k manager call
+  message_asked (message.Begin manager timeout) = refl
+  message_asked (message.Begun xid) = refl
+  message_asked (message.BranchCommitted xid id status stmt) = refl
+  message_asked (message.BranchRollbacked xid id status stmt) = refl
+  message_asked (message.GlobalCommit xid) = refl
+  message_asked (message.CommitStatus xid status) = refl
+  message_asked (message.GlobalRollback xid) = refl
+  message_asked (message.RollbackStatus xid status) = refl
+  message_asked (message.Register xid resource call ticket mode hold check) = refl
+  message_asked (message.GlobalStatus xid) = refl
+  message_asked (message.StatusAnswer xid status) = refl
+  message_asked (message.LockQuery resource ticket check) = refl
+  message_asked (message.Answer xid call given) = refl
 
-  input_quiet : (given : Input) → IsQuiet (rules.on_input s rs opens next given)
-  input_quiet input.Turn = turn_quiet _
-  input_quiet (input.Message from heard) = message_quiet heard
-  input_quiet (input.Local k) = local_quiet k _
-  input_quiet (input.Outside k) = outside_quiet k _
+  input_asked : (given : Input) → IsAsked (rules.on_input s mem.left.records mem.opens (next_ticket mem) given)
+  input_asked input.Turn = turn_asked _
+  input_asked (input.Message from heard) = message_asked heard
+  input_asked (input.Local k) = local_asked k _
+  input_asked (input.Outside k) = outside_asked k _
+
+-- a durable answer of the rules asks for a record, and no answer takes the node down, restarts it or arms it
+pub answers_are_recorded : (s : Setup) (m : Memory) (given : Input) → is_recorded (asked_record s m given) (resource_answer s m given).act ≡ true
+answers_are_recorded s m given = input_asked s m given given
+
+stays_up : (asked : Option ResourceRecord) (a : Act) → is_recorded asked a ≡ true → down_after a false ≡ false
+stays_up asked (act.Down kept at) e = absurd cc
+stays_up asked (act.Restarted kept) e = refl
+stays_up asked _ e = refl
 
 pub answers_stay_up : (s : Setup) (m : Memory) (given : Input) → down_after (resource_answer s m given).act false ≡ false
-answers_stay_up s m given = input_quiet s m.left.records m.opens _ given
+answers_stay_up s m given = stays_up (asked_record s m given) (resource_answer s m given).act (answers_are_recorded s m given)

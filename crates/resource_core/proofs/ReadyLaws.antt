@@ -37,7 +37,7 @@ use Rattle.local_guard.specs.Locals as locals
 use Rattle.local_guard.specs.Locals.{local_number, number_by}
 use Rattle.record_places.specs.Laws.{HaveRecordsPlaces}
 use Rattle.record_places.specs.Within.{AreTablesWithin, HasValues}
-use Rattle.record_places.proofs.EffectLaws.{effects_have_places}
+use Rattle.record_places.proofs.EffectLaws.{effects_have_keys, effects_have_places}
 use Rattle.record_places.proofs.RecordLaws.{records_have_places}
 use Rattle.resource_core.specs.Ready.{AreStmtsWithin, HasActionWithin, HasRows, HasStmtsWithin, IsActionWithin, IsKnownWithin, IsOwnedWithin, IsTicketWithin, effect_in}
 use Rattle.resource_core.specs.Setups.{actions_of}
@@ -56,9 +56,13 @@ values_within [] all = tt
 values_within (e ∷ es) all = (recursion_from_All FitsValue e.1.0 all.0.1.each, values_within es all.1)
 
 pub tables_within : (k : Known) → IsKnownWithin k → AreTablesWithin k.tables
-tables_within k is = record { resource = is.resource; tables = is.schema; rows = is.kept.rows; values = values_within k.tables.rows is.parts.rows }
+tables_within k is = let few = is.resource.1 in record { resource = omega (arith, few); tables = is.schema; rows = is.kept.rows; values = values_within k.tables.rows is.parts.rows }
 
 -- ---- statements
+
+-- they are counted in two bytes
+pub many : {stmts : List Stmt} → AreStmtsWithin stmts → length stmts ≤ 65535
+many is = let few = is.count in omega (arith, few)
 
 module _ (db : Database) (tables : AreTablesWithin db) where
   places : (stmts : List Stmt) → AreStmtsWithin stmts → (e : Effect) → effect db stmts ≡ Ok e → HaveRecordsPlaces e
@@ -75,21 +79,22 @@ module _ (db : Database) (tables : AreTablesWithin db) where
 
   -- ---- open tickets
 
-  module _ (leg : Leg) (few : FitsLeg leg) where
+  module _ (leg : Leg) (small : FitsLeg leg) where
     at_may : (c : Caller) (o : Open) (w : Owner) → o.owner ≡ w → caller_by w ≡ Some (c, kind.At) → IsOwnedWithin db o w → MayCommit db leg o
     at_may c o (OfLocal k) owner e is = absurd cc
     at_may c o (OfCall m x call (work.At stmts)) owner e is =
-        let place = subst (λ (n : ℕ). HasPlace (log.Committed leg.xid leg.branch n o.images o.reads)) (sym (ap call_of owner)) ((records_have_places (effect_in o) is.1.places).committed leg call few is.0) in
+        let few = is.0.counted.1 in
+        let place = subst (λ (n : ℕ). HasPlace (log.Committed leg.xid leg.branch n o.images o.reads)) (sym (ap call_of owner)) ((records_have_places (effect_in o) is.1.places).committed leg call small (omega (arith, few))) in
         record { of_kind = ap is_at_call owner; rows = record { fit = is.1.fits; fits = place.fits; small = place.small } }
     at_may c o (OfCall m x call (work.Tcc action)) owner e is = let other : kind.Tcc ≡ kind.At = ap (kind_in kind.At) e in absurd cc
 
     tcc_may : (c : Caller) (o : Open) (w : Owner) → o.owner ≡ w → caller_by w ≡ Some (c, kind.Tcc) → IsOwnedWithin db o w → MayTry db leg o
     tcc_may c o (OfLocal k) owner e is = absurd cc
     tcc_may c o (OfCall m x call (work.At stmts)) owner e is = let other : kind.At ≡ kind.Tcc = ap (kind_in kind.Tcc) e in absurd cc
-    tcc_may c o (OfCall m x call (work.Tcc action)) owner e is = record {
+    tcc_may c o (OfCall m x call (work.Tcc action)) owner e is = let few = is.0.counted.1 in record {
       of_kind = ap is_tcc_call owner;
-      statements = subst (λ (v : Owner). length (tries_of v) ≤ 65535) (sym owner) is.1.count;
-      places = subst (λ (v : Owner). HasPlaces db (tries_of v) (log.Tried leg.xid leg.branch (call_of v))) (sym owner) (λ found means. (places action.tries is.1 found means).tried leg call few is.0);
+      statements = subst (λ (v : Owner). length (tries_of v) ≤ 65535) (sym owner) (many is.1);
+      places = subst (λ (v : Owner). HasPlaces db (tries_of v) (log.Tried leg.xid leg.branch (call_of v))) (sym owner) (λ found means. (places action.tries is.1 found means).tried leg call small (omega (arith, few)));
     }
 
 few_by : (m n : ℕ) → nat_le (m + n) CALL_ROWS ≡ true → nat_le (m + 0) CALL_ROWS ≡ true
@@ -113,21 +118,21 @@ module _ (db : Database) (tables : AreTablesWithin db) (opens : List Open) (t : 
     where
       by : (p : Option Open) → open_at opens t ≡ p → caller_at p ≡ Some (c, kind.At) → IfSome p (MayCommit db leg)
       by None found h = tt
-      by (Some o) found h = at_may db tables leg few c o o.owner refl h (found_open (IsTicketWithin db) opens t o tickets found)
+      by (Some o) found h = at_may db tables leg few c o o.owner refl h (found_open (IsTicketWithin db) opens t o tickets found).owned
 
   pub may_try : (leg : Leg) → FitsLeg leg → (c : Caller) → caller_at (open_at opens t) ≡ Some (c, kind.Tcc) → IfSome (open_at opens t) (MayTry db leg)
   may_try leg few c e = by (open_at opens t) refl e
     where
       by : (p : Option Open) → open_at opens t ≡ p → caller_at p ≡ Some (c, kind.Tcc) → IfSome p (MayTry db leg)
       by None found h = tt
-      by (Some o) found h = tcc_may db tables leg few c o o.owner refl h (found_open (IsTicketWithin db) opens t o tickets found)
+      by (Some o) found h = tcc_may db tables leg few c o o.owner refl h (found_open (IsTicketWithin db) opens t o tickets found).owned
 
   pub may_free : (k : ℕ) → local_number (open_at opens t) ≡ Some k → IfSome (open_at opens t) (locals.MayCommit db)
   may_free k e = by (open_at opens t) refl e
     where
       by : (p : Option Open) → open_at opens t ≡ p → local_number p ≡ Some k → IfSome p (locals.MayCommit db)
       by None found h = tt
-      by (Some o) found h = local_may db o o.owner k refl h (found_open (IsTicketWithin db) opens t o tickets found)
+      by (Some o) found h = local_may db o o.owner k refl h (found_open (IsTicketWithin db) opens t o tickets found).owned
 
 -- ---- what is opened
 
@@ -135,7 +140,8 @@ module _ (db : Database) (tables : AreTablesWithin db) where
   pub rows_of_effect : (stmts : List Stmt) → AreStmtsWithin stmts → (t : Ticket) (w : Owner) (e : Effect) → effect db stmts ≡ Ok e → HasRows db (opening_of t w e)
   rows_of_effect stmts is t w e means =
       let found = effects_have_places db stmts e tables is.each means in
-      record { fits = effects_fit db stmts e tables.rows means; places = record { images = found.images; reads = found.reads; room = found.room } }
+      let keys = effects_have_keys db stmts e tables is.each means in
+      record { fits = effects_fit db stmts e tables.rows means; places = record { images = found.images; reads = found.reads; room = found.room }; keys = record { touched = keys.touched; read = keys.read } }
 
 -- ---- actions and local transactions
 

@@ -1,9 +1,11 @@
 -- A resource that was ready is ready after its answer.
-use Rattle.std.proofs.Common.{◌≡◌, ◌∙◌, ◌⊎◌, ⊎_elim, ℕ, ◌<◌, ◌^◌, false, true, Result, Ok, Err, refl, sym, ap, subst, true≢false}
+use Rattle.std.proofs.Common.{◌≡◌, ◌∙◌, ◌⊎◌, ⊎_elim, false, true, Result, Ok, Err, refl, sym, ap, subst, true≢false}
 use Rattle.std.specs.List.{AllByRecursion}
 use Rattle.disk_model.specs.Disk.{DiskState}
 use Rattle.seata_types.specs.declared.errors.StoreError.{StoreError}
 use Rattle.seata_types.specs.declared.errors.StoreError.TheVariants as store_error
+use Rattle.seata_types.specs.declared.limits.TheConstants.{RESOURCES}
+use Rattle.frame_codec.specs.Limits.{IsCounted}
 use Rattle.local_tables.specs.declared.schemas.Schema.{Schema}
 use Rattle.durable_records.specs.declared.resources.ResourceRecord.{ResourceRecord}
 use Rattle.durable_records.specs.declared.resources.ResourceRecord.TheVariants as log
@@ -21,7 +23,7 @@ use Rattle.resource_core.specs.Stepping.{made_as}
 use Rattle.resource_core.proofs.TicketLists.{tickets_alike}
 
 -- what is known is of the same tables
-record IsAlike (k other : Known) : Type 0 where
+pub record IsAlike (k other : Known) : Type 0 where
   pub resource : k.tables.resource ≡ other.tables.resource
   pub schema : k.tables.schema ≡ other.tables.schema
 
@@ -39,7 +41,7 @@ alike k (log.LocalCommitted number images) = record { resource = refl; schema = 
 alike k (log.Outside number images) = record { resource = refl; schema = refl }
 
 -- what is known after an answer has places, and is of the same tables
-record IsKnownAfter (k other : Known) : Type 0 where
+pub record IsKnownAfter (k other : Known) : Type 0 where
   pub within : IsKnownWithin other
   pub same : IsAlike k other
 
@@ -56,7 +58,7 @@ module _ {D : Type 0} (state : D → DiskState) (old new : Store D) (is : IsKnow
       let next = stays (known old) r k.kept taken.allowed in
       let same = alike (known old) r in
       record {
-        resource = subst (λ (n : ℕ). n < 2 ^ 16) same.resource k.resource;
+        resource = subst (IsCounted RESOURCES) same.resource k.resource;
         schema = subst (λ (s : Schema). AllByRecursion IsTableWithin s.tables) same.schema k.schema;
         kept = next.0;
         parts = next.1 k.parts taken.fits;
@@ -65,7 +67,7 @@ module _ {D : Type 0} (state : D → DiskState) (old new : Store D) (is : IsKnow
   changed r (Err (store_error.Full full)) taken changes = same_known (known old) (known new) (ap (λ (s : Store D). known s) changes.disks) is
   changed r (Err store_error.NoMemory) taken changes = same_known (known old) (known new) (ap (λ (s : Store D). known s) changes.disks) is
 
-  known_after : (result : Result (Unit {0}) StoreError) → (new ≡ old) ⊎ ((r : ResourceRecord) × IsTaken r old × Changes state r result old new) → IsKnownAfter (known old) (known new)
+  pub known_after : (result : Result (Unit {0}) StoreError) → (new ≡ old) ⊎ ((r : ResourceRecord) × IsTaken r old × Changes state r result old new) → IsKnownAfter (known old) (known new)
   known_after result changes = ⊎_elim (λ same. same_known (known old) (known new) (ap (λ (s : Store D). known s) same) is) (λ made. changed made.0 result made.1 made.2) changes
 
 pub stays_ready : {D : Type 0} (state : D → DiskState) → StaysReady state
@@ -74,6 +76,7 @@ stays_ready state old new given result a ready served up room =
     record {
       up = up;
       room = room;
+      counted = subst (IsCounted RESOURCES) (sym a.same.number) ready.counted;
       numbered = a.same.number ∙ ready.numbered ∙ ap (λ (s : Setting). s.resource) (sym a.leaves.setting);
       knows = k.within;
       tickets = tickets_alike (known old.store).tables (known new.store).tables k.same.resource k.same.schema new.txns.opens (a.within ready served);

@@ -1,6 +1,6 @@
 -- Answers of calls on the store, as steps: where the answer at a memory is the rule's, so is the step.
 use Rattle.std.proofs.Common.{◌≡◌, ◌∙◌, ◌+◌, ◌≤◌, ◌∷◌, ℕ, false, List, Option, Some, None, Result, Ok, Err, refl, sym, ap, subst, arith}
-use Rattle.std.specs.Prelude.{IfErr, IfSome}
+use Rattle.std.specs.Prelude.{IfOk, IfErr, IfSome}
 use Rattle.std.specs.List.{AllByRecursion}
 use Rattle.disk_model.specs.Disk.{DiskState}
 use Rattle.seata_types.specs.declared.acts.Act.TheVariants as act
@@ -17,11 +17,12 @@ use Rattle.durable_records.specs.declared.resources.ResourceRecord.{ResourceReco
 use Rattle.durable_records.specs.UndoRecords.{boots}
 use Rattle.history_rules.specs.ResourceMemory.{Memory, resource_asked, memory_after}
 use Rattle.history_rules.specs.ResourceRules.{resource_answer}
+use Rattle.history_text.specs.Framing.{SendsFramable}
 use Rattle.history_text.specs.Promises.{own_step}
 use Rattle.resource_store.specs.Keeping.{is_down, known, setting_of}
 use Rattle.resource_store.specs.Answers.{Answer, Gives, GivesBy, Leaves, outcome, tables_now}
 use Rattle.resource_core.specs.Holding.{setup_of, Holds}
-use Rattle.resource_core.specs.Ready.{AreTicketsWithin, IsReady, IsTicketWithin}
+use Rattle.resource_core.specs.Ready.{AreTicketsWithin, IsReady, IsTicketWithin, Serves}
 use Rattle.resource_core.specs.Stepping.{StepsAt, Answers, KeepsSettings, made_as}
 use Rattle.resource_core.specs.Telling.{node_error}
 use Rattle.resource_core.specs.declared.branches.Branches.{Branches}
@@ -108,25 +109,26 @@ module _ {A D : Type 0} (state : D → DiskState) (old : Branches D) (given : In
     -- an answer of the store, by its records, is the resource's
     pub answers_by : (answer : Database → List ResourceRecord → Answer A) (result : Result A StoreError)
         → ((m : Memory) → Holds state old m → IsRule m (answer (tables_now (setting_of old.store) m.left.records) m.left.records)) → GivesBy state answer result old.store new.store
-        → Leaves state result old.store new.store → new.txns ≡ tickets_by result old.txns → KeepsSettings old new → Answers state old new given (stepped result)
-    answers_by answer result rule gives leaves tickets same = record {
+        → Leaves state result old.store new.store → new.txns ≡ tickets_by result old.txns → KeepsSettings old new → (IsReady old → Serves given → IfOk (stepped result) SendsFramable) → Answers state old new given (stepped result)
+    answers_by answer result rule gives leaves tickets same frames = record {
       steps = λ m h. steps_by new m h up (answer (tables_now (setting_of old.store) m.left.records) m.left.records) result (rule m h) (gives m.left.records h.keeps) tickets;
       leaves = leaves_as state result (made_as (stepped result)) old.store new.store (left_so result) leaves;
       tickets = kept_tickets result tickets;
       opened = subst (λ (ts : Tickets). ts.opened ≤ old.txns.opened + 1) (sym tickets) (none_opened result);
       within = λ ready served. subst (λ (ts : Tickets). AreTicketsWithin (known old.store).tables ts.opens) (sym tickets) (all_within ready result);
+      frames = frames;
       same = same;
     }
 
     -- the same of a step or an error that is the answer's
     pub answers_ok : (answer : Database → List ResourceRecord → Answer A) (a : A) (step : Step) → step ≡ step_of a
         → ((m : Memory) → Holds state old m → IsRule m (answer (tables_now (setting_of old.store) m.left.records) m.left.records)) → GivesBy state answer (Ok a) old.store new.store
-        → Leaves state (Ok a) old.store new.store → new.txns ≡ with_opens old.txns (closing a old.txns.opens) → KeepsSettings old new → Answers state old new given (Ok step)
-    answers_ok answer a step is rule gives leaves tickets same =
-        subst (λ (s : Step). Answers state old new given (Ok s)) (sym is) (answers_by answer (Ok a) rule gives leaves tickets same)
+        → Leaves state (Ok a) old.store new.store → new.txns ≡ with_opens old.txns (closing a old.txns.opens) → KeepsSettings old new → (IsReady old → Serves given → SendsFramable (step_of a)) → Answers state old new given (Ok step)
+    answers_ok answer a step is rule gives leaves tickets same frames =
+        subst (λ (s : Step). Answers state old new given (Ok s)) (sym is) (answers_by answer (Ok a) rule gives leaves tickets same frames)
 
     pub answers_err : (answer : Database → List ResourceRecord → Answer A) (e : StoreError) (error : NodeError) → error ≡ node_error flight e
         → ((m : Memory) → Holds state old m → IsRule m (answer (tables_now (setting_of old.store) m.left.records) m.left.records)) → GivesBy state answer (Err e) old.store new.store
         → Leaves {A = A} state (Err e) old.store new.store → new.txns ≡ old.txns → KeepsSettings old new → Answers state old new given (Err error)
     answers_err answer e error is rule gives leaves tickets same =
-        subst (λ (f : NodeError). Answers state old new given (Err f)) (sym is) (answers_by answer (Err e) rule gives leaves tickets same)
+        subst (λ (f : NodeError). Answers state old new given (Err f)) (sym is) (answers_by answer (Err e) rule gives leaves tickets same (λ ready served. tt))

@@ -10,7 +10,8 @@ use Rattle.local_txn.specs.OpenTickets.{Open, Owner, OfCall, OfLocal, counting, 
 use Rattle.local_txn.specs.Answers.{Tickets, with_open, with_opens}
 use Rattle.resource_memory.proofs.Fits.{fit_alike}
 use Rattle.resource_store.specs.Keeping.{known}
-use Rattle.resource_core.specs.Ready.{AreTicketsWithin, IsOwnedWithin, IsReady, IsTicketWithin}
+use Rattle.record_places.specs.Laws.{HasKeysOf}
+use Rattle.resource_core.specs.Ready.{AreTicketsWithin, HasRows, IsOwnedWithin, IsReady, IsTicketWithin, effect_in}
 use Rattle.resource_core.specs.declared.branches.Branches.{Branches}
 
 some_is : {A : Type 0} (a b : A) → Some a ≡ Some b → a ≡ b
@@ -49,30 +50,36 @@ all_sent P opens t all = by (open_at opens t) refl
 -- ---- counts of conflicts
 
 recounted : (db : Database) (o : Open) (n : ℕ) (w : Owner) → IsOwnedWithin db o w → IsOwnedWithin db (record o { conflicts = n }) w
-recounted db o n (OfCall m x c (work.At stmts)) is = (is.0, record { fits = is.1.fits; places = is.1.places })
+recounted db o n (OfCall m x c (work.At stmts)) is = (is.0, record { fits = is.1.fits; places = is.1.places; keys = is.1.keys })
 recounted db o n (OfCall m x c (work.Tcc action)) is = is
-recounted db o n (OfLocal k) is = (is.0, record { fits = is.1.fits; places = is.1.places })
+recounted db o n (OfLocal k) is = (is.0, record { fits = is.1.fits; places = is.1.places; keys = is.1.keys })
 
 all_counted : (db : Database) (t : Ticket) (n : ℕ) (opens : List Open) → AreTicketsWithin db opens → AreTicketsWithin db (map (counting t n) opens)
 all_counted db t n [] all = tt
 all_counted db t n (o ∷ os) all = (by (same_ticket o.ticket t), all_counted db t n os all.1)
   where
     by : (b : Bool) → IsTicketWithin db (cond b (record o { conflicts = n }) o)
-    by true = recounted db o n o.owner all.0
+    by true = record { named = all.0.named; owned = recounted db o n o.owner all.0.owned }
     by false = all.0
 
 -- ---- on tables with the same number and schema
 
+rows_alike : (one other : Database) → one.resource ≡ other.resource → one.schema ≡ other.schema → (o : Open) → HasRows one o → HasRows other o
+rows_alike one other number schema o is = record {
+  fits = sym (fit_alike one other o.images o.reads number schema) ∙ is.fits;
+  places = is.places;
+  keys = subst (λ (n : ℕ). HasKeysOf n (effect_in o)) number is.keys;
+}
+
 owned_alike : (one other : Database) → one.resource ≡ other.resource → one.schema ≡ other.schema → (o : Open) (w : Owner) → IsOwnedWithin one o w → IsOwnedWithin other o w
-owned_alike one other number schema o (OfCall m x c (work.At stmts)) is =
-    (is.0, record { fits = sym (fit_alike one other o.images o.reads number schema) ∙ is.1.fits; places = is.1.places })
+owned_alike one other number schema o (OfCall m x c (work.At stmts)) is = (is.0, rows_alike one other number schema o is.1)
 owned_alike one other number schema o (OfCall m x c (work.Tcc action)) is = is
-owned_alike one other number schema o (OfLocal k) is =
-    (is.0, record { fits = sym (fit_alike one other o.images o.reads number schema) ∙ is.1.fits; places = is.1.places })
+owned_alike one other number schema o (OfLocal k) is = (is.0, rows_alike one other number schema o is.1)
 
 pub tickets_alike : (one other : Database) → one.resource ≡ other.resource → one.schema ≡ other.schema → (opens : List Open) → AreTicketsWithin one opens → AreTicketsWithin other opens
 tickets_alike one other number schema [] all = tt
-tickets_alike one other number schema (o ∷ os) all = (owned_alike one other number schema o o.owner all.0, tickets_alike one other number schema os all.1)
+tickets_alike one other number schema (o ∷ os) all =
+    (record { named = all.0.named; owned = owned_alike one other number schema o o.owner all.0.owned }, tickets_alike one other number schema os all.1)
 
 -- ---- of a resource
 

@@ -11,6 +11,7 @@ use Rattle.local_txn.specs.Answers.{Tickets}
 use Rattle.durable_records.specs.UndoRecords.{boots}
 use Rattle.history_rules.specs.ResourceMemory.{Memory, resource_asked, memory_after}
 use Rattle.history_rules.specs.ResourceRules.{resource_answer}
+use Rattle.history_text.specs.Framing.{SendsFramable}
 use Rattle.history_text.specs.Promises.{own_step}
 use Rattle.resource_store.specs.declared.store.Store.{Store}
 use Rattle.resource_store.specs.Keeping.{known, is_down, has_failed}
@@ -38,8 +39,8 @@ module _ {D : Type 0} (state : D → DiskState) (old : Branches D) (given : Inpu
 
   pub answers_with : (new : Branches D) (step : Step) → new.store ≡ old.store → ((m : Memory) → Holds state old m → IsTicketRule new.txns step m)
       → new.txns.opened ≤ old.txns.opened + 1 → KeepsSettings old new → (IsReady old → Serves given → AreTicketsWithin (known old.store).tables new.txns.opens)
-      → Answers state old new given (Ok step)
-  answers_with new step same is opened itself within = record {
+      → (IsReady old → Serves given → SendsFramable step) → Answers state old new given (Ok step)
+  answers_with new step same is opened itself within frames = record {
     steps = λ m h.
         let r = is m h in
         stays state old new given m step step refl r.rule r.asks same
@@ -48,16 +49,17 @@ module _ {D : Type 0} (state : D → DiskState) (old : Branches D) (given : Inpu
     tickets = tt;
     opened = opened;
     within = within;
+    frames = frames;
     same = itself;
   }
 
   -- nothing changes
   pub answers_still : (step : Step) → ((m : Memory) → Holds state old m → resource_answer (setup_of old) m given ≡ step) → ((m : Memory) → resource_asked (setup_of old) m (own_step given 0 step) ≡ None)
-      → ((m : Memory) (now : ℕ) → memory_after (setup_of old) (own_step given now step) m ≡ m) → Answers state old old given (Ok step)
-  answers_still step rule asks leaves =
+      → ((m : Memory) (now : ℕ) → memory_after (setup_of old) (own_step given now step) m ≡ m) → (IsReady old → Serves given → SendsFramable step) → Answers state old old given (Ok step)
+  answers_still step rule asks leaves frames =
       answers_with old step refl
       (λ m h. record { opens = m.opens; opened = m.opened; rule = rule m h; asks = asks m; leaves = leaves m; tickets = h.tickets })
-      (omega arith) (record { number = refl; tries = refl; actions = refl; locals = refl }) (λ ready served. ready.tickets)
+      (omega arith) (record { number = refl; tries = refl; actions = refl; locals = refl }) (λ ready served. ready.tickets) frames
 
   -- memory was refused, and all is as before
   pub answers_not : (new : Branches D) → new ≡ old → Answers state old new given (Err error.NoMemory)
@@ -67,5 +69,6 @@ module _ {D : Type 0} (state : D → DiskState) (old : Branches D) (given : Inpu
     tickets = refl;
     opened = omega arith;
     within = λ ready served. ready.tickets;
+    frames = λ ready served. tt;
     same = record { number = refl; tries = refl; actions = refl; locals = refl };
   })

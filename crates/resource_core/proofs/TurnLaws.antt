@@ -8,17 +8,21 @@ use Rattle.seata_types.specs.declared.messages.Input.TheVariants as input
 use Rattle.seata_types.specs.declared.messages.Message.{Message}
 use Rattle.seata_types.specs.declared.messages.Message.TheVariants as message
 use Rattle.seata_types.specs.declared.messages.Step.{Step}
+use Rattle.seata_types.specs.declared.limits.TheConstants.{RESOURCES}
+use Rattle.frame_codec.specs.Limits.{IsCounted}
 use Rattle.local_txn.specs.OpenTickets.{Open, open_at, last_of, sent_again}
 use Rattle.local_txn.specs.Answers.{Tickets, ticket_of, with_opens}
 use Rattle.history_rules.specs.Own.{still, sends}
 use Rattle.history_rules.specs.ResourceMemory.{Memory, next_ticket}
 use Rattle.history_rules.specs.ResourceRules as rules
 use Rattle.history_rules.specs.ResourceRules.{request_of}
-use Rattle.resource_store.specs.Keeping.{setting_of, is_down}
+use Rattle.resource_store.specs.Keeping.{setting_of, is_down, known}
 use Rattle.resource_core.specs.Holding.{setup_of}
 use Rattle.resource_core.specs.Stepping.{Answers, asks_of, with_tickets, Hears}
 use Rattle.resource_core.specs.declared.branches.Branches.{Branches}
-use Rattle.resource_core.proofs.TicketLists.{sent_within}
+use Rattle.resource_core.specs.Ready.{IsTicketWithin}
+use Rattle.resource_core.proofs.FramingLaws.{request_framed}
+use Rattle.resource_core.proofs.TicketLists.{found_open, sent_within}
 use Rattle.resource_core.proofs.TicketSteps.{answers_with, answers_still}
 
 -- the ticket that was sent longest ago
@@ -49,7 +53,7 @@ module _ {D : Type 0} (state : D → DiskState) (old : Branches D) (up : is_down
   turn_rests e step is =
       subst (λ (s : Step). Answers state old old input.Turn (Ok s)) (sym is)
       (answers_still state old input.Turn up (still act.Nothing)
-      (λ m h. ap (rules.on_turn (setup_of old) m.left.records m.opens (next_ticket m)) (ap (λ (ts : Tickets). last_of ts.opens) (sym h.tickets) ∙ e)) (λ m. refl) (λ m now. refl))
+      (λ m h. ap (rules.on_turn (setup_of old) m.left.records m.opens (next_ticket m)) (ap (λ (ts : Tickets). last_of ts.opens) (sym h.tickets) ∙ e)) (λ m. refl) (λ m now. refl) (λ ready served. tt))
 
   pub turn_asks : (numbered : old.number ≡ (setting_of old.store).resource) (t : Ticket) (l : IsLast old.txns.opens t)
       → open_at old.txns.opens l.it.ticket ≡ Some l.it → (asked : Message) → Some asked ≡ asks_of old.number (open_at old.txns.opens t) → (step : Step) → step ≡ sends (act.Resent t) place.Tc asked
@@ -73,7 +77,9 @@ module _ {D : Type 0} (state : D → DiskState) (old : Branches D) (up : is_down
         tickets = tickets ∙ ap (λ (u : Tickets). with_opens u (sent_again t u.opens)) h.tickets;
       })
       (subst (λ (u : Tickets). u.opened ≤ old.txns.opened + 1) (sym tickets) (omega arith))
-      (record { number = refl; tries = refl; actions = refl; locals = refl }) (λ ready served. sent_within old ready ts t tickets))
+      (record { number = refl; tries = refl; actions = refl; locals = refl }) (λ ready served. sent_within old ready ts t tickets)
+      (λ ready served. request_framed (setting_of old.store).resource (known old.store).tables (act.Resent t) l.it (subst (IsCounted RESOURCES) ready.numbered ready.counted) ready.knows.resource
+      (found_open (IsTicketWithin (known old.store).tables) old.txns.opens t l.it ready.tickets found)))
 
   -- ---- messages of other nodes
 
@@ -109,4 +115,4 @@ module _ {D : Type 0} (state : D → DiskState) (old : Branches D) (up : is_down
   pub ignores : (heard : Message) → ((m : Memory) → answer m heard ≡ still act.Ignored) → (step : Step) → step ≡ still act.Ignored → Hears state old old heard (Ok step)
   ignores heard rule step is = λ from.
       subst (λ (s : Step). Answers state old old (input.Message from heard) (Ok s)) (sym is)
-      (answers_still state old (input.Message from heard) up (still act.Ignored) (λ m h. rule m) (λ m. refl) (λ m now. refl))
+      (answers_still state old (input.Message from heard) up (still act.Ignored) (λ m h. rule m) (λ m. refl) (λ m now. refl) (λ ready served. tt))

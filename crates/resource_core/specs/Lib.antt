@@ -5,3 +5,9 @@ pub mod Ready
 pub mod Stepping
 pub mod Laws
 pub mod Standing
+pub mod Shown
+pub mod NodeStanding
+pub mod NodeMoving
+pub mod NodeStepping
+pub mod NodeOpening
+pub mod NodeLaws

@@ -1,6 +1,6 @@
 -- What an answer of a resource promises: said of each memory that it holds, it is the rule's, with the record that the rule asks
 -- for on its disks.
-use Rattle.std.specs.Prelude.{◌≡◌, ℕ, ◌+◌, ◌<◌, ◌≤◌, List, map, find, Bool, true, false, Option, Some, None, Result, Ok, Err, IfErr}
+use Rattle.std.specs.Prelude.{◌≡◌, ℕ, ◌+◌, ◌<◌, ◌≤◌, List, map, find, Bool, true, false, Option, Some, None, Result, Ok, Err, IfOk, IfErr}
 use Rattle.disk_model.specs.Disk.{DiskState}
 use Rattle.seata_types.specs.declared.acts.Act.{Act}
 use Rattle.seata_types.specs.declared.acts.Act.TheVariants as act
@@ -28,6 +28,7 @@ use Rattle.seata_types.specs.declared.statements.Work.{Work}
 use Rattle.seata_types.specs.declared.statements.Work.TheVariants as work
 use Rattle.seata_types.specs.declared.statuses.BranchKind.{BranchKind}
 use Rattle.seata_types.specs.declared.statuses.BranchKind.TheVariants as kind
+use Rattle.byte_fields.specs.Layout.{FitsTicket}
 use Rattle.durable_records.specs.declared.resources.ResourceRecord.{ResourceRecord}
 use Rattle.durable_records.specs.UndoRecords.{undos_of_call}
 use Rattle.durable_records.specs.Fences.{FenceAnswer, Suspends, tried_of_call}
@@ -45,6 +46,7 @@ use Rattle.local_guard.specs.declared.answers.OutsideError.TheVariants as outsid
 use Rattle.history_rules.specs.Own.{still}
 use Rattle.history_rules.specs.ResourceMemory.{Setup, Memory, resource_asked, memory_after}
 use Rattle.history_rules.specs.ResourceRules.{resource_answer, request_of, requests, least_branch}
+use Rattle.history_text.specs.Framing.{SendsFramable}
 use Rattle.history_text.specs.Promises.{own_step}
 use Rattle.resource_store.specs.Answers.{Does, Leaves}
 use Rattle.resource_store.specs.Keeping.{known, setting_of, KeepsRecords}
@@ -143,13 +145,14 @@ pub record KeepsSettings {D : Type 0} (old new : Branches D) : Type 0 where
   pub locals : new.locals ≡ old.locals
 
 -- A resource answered an input: at each memory that it holds, and whatever its disks keep. After an error the open tickets are as
--- before. A ticket that is open then has rows of the tables that were known, with places.
+-- before. A ticket that is open then has rows of the tables that were known, with places, and what is sent can be framed.
 pub record Answers {D : Type 0} (state : D → DiskState) (old new : Branches D) (given : Input) (result : Result Step NodeError) : Type 0 where
   pub steps : (m : Memory) → Holds state old m → StepsAt state old new given result m
   pub leaves : Leaves state (made_as result) old.store new.store
   pub tickets : IfErr result (λ e. new.txns ≡ old.txns)
   pub opened : new.txns.opened ≤ old.txns.opened + 1
   pub within : IsReady old → Serves given → AreTicketsWithin (known old.store).tables new.txns.opens
+  pub frames : IsReady old → Serves given → IfOk result SendsFramable
   pub same : KeepsSettings old new
 
 -- the same of a message, wherever it came from
@@ -187,13 +190,13 @@ TriesOr old new c t branch answer (Err e) = (is_refusal answer ≡ true) × (e �
 
 -- the ticket o, which was opened last, asks the coordinator; or memory was refused, and all is as before its opening
 abbrev pub AsksOr : {D : Type 0} → Branches D → Branches D → Tickets → Act → Open → Result Step NodeError → Type 0
-AsksOr old new before done o (Ok step) = (step ≡ requests old.number done o) × (new ≡ old)
+AsksOr old new before done o (Ok step) = (step ≡ requests old.number done o) × (new ≡ old) × FitsTicket o.ticket
 AsksOr old new before done o (Err e) = (e ≡ error.NoMemory) × (new ≡ with_tickets old before)
 
 -- the answer to a call that opened no ticket, or memory was refused
 abbrev pub NotOpened : Caller → ExecError → Result Step NodeError → Type 0
 NotOpened c (exec.Stmt index fault) (Ok step) = step ≡ tells c (act.Refused c.xid c.call (why.Stmt index fault)) (called.Failed (why.Stmt index fault))
-NotOpened c (exec.Busy key by) (Ok step) = step ≡ tells c (act.Busy c.xid c.call key by) (called.Busy key by)
+NotOpened c (exec.Busy key by) (Ok step) = (step ≡ tells c (act.Busy c.xid c.call key by) (called.Busy key by)) × FitsTicket by
 NotOpened c exec.NoMemory (Ok step) = ⊥
 NotOpened c fault (Err e) = e ≡ error.NoMemory
 

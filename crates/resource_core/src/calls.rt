@@ -6,7 +6,7 @@ ghost use Rattle.resource_core.specs.Stepping.{NotOpened, branch_by, branch_on};
 use crate::answers::{done, tells};
 use crate::branches::Branches;
 use crate::callers::Caller;
-use crate::numbers::is_nobody;
+use crate::numbers::{in_range, in_ticket, is_nobody};
 use disk_model::Disk;
 use history_text::{sends, still};
 use local_txn::ExecError;
@@ -45,6 +45,7 @@ impl<D: Disk> Branches<D> {
         }
         let Caller { xid, call, .. } = caller;
         if let Some(branch) = self.done_for(caller, work) {
+            in_range(xid.0, branch.0);
             return Ok(done(caller, Act::Again { xid, call, branch }, branch));
         }
         if self.txns.find_call(xid, call).is_some() {
@@ -117,6 +118,7 @@ impl<D: Disk> Branches<D> {
             AsksOr self.old self.new before (Act.Opened caller.xid caller.call ticket) o result }
     {
         let Caller { xid, call, .. } = caller;
+        in_ticket(ticket.boot, ticket.seq);
         match self.request(alloc, ticket) {
             Ok(message) => {
                 let act = Act::Opened { xid, call, ticket };
@@ -166,6 +168,7 @@ fn busy(alloc: Global, caller: Caller, key: RowKey, by: Ticket) -> Result<Step, 
         drop(key);
         return Err(NodeError::NoMemory);
     };
+    in_ticket(by.boot, by.seq);
     let act = Act::Busy {
         xid: caller.xid,
         call: caller.call,

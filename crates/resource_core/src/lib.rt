@@ -10,8 +10,11 @@ mod ends;
 mod grants;
 pub mod laws;
 mod locals;
+pub mod nodes;
 mod numbers;
 mod requests;
-mod setup;
+pub mod setup;
 
 pub use branches::Branches;
+pub use nodes::{NODE_STEPS, Resource};
+pub use setup::Setup;

@@ -7,6 +7,7 @@ ghost use Rattle.resource_core.specs.Stepping.{LocalNotOpened, NotWritten};
 
 use crate::answers::{freed, node_error};
 use crate::branches::Branches;
+use crate::numbers::in_ticket;
 use crate::setup::local_of;
 use disk_model::Disk;
 use history_text::{sends, still};
@@ -52,6 +53,7 @@ impl<D: Disk> Branches<D> {
         ensures { (before : Tickets) (o : Open) → o.ticket ≡ ticket → self.old.txns ≡ with_open before o →
             AsksOr self.old self.new before (Act.OpenedLocal number ticket) o result }
     {
+        in_ticket(ticket.boot, ticket.seq);
         match self.request(alloc, ticket) {
             Ok(message) => {
                 let act = Act::OpenedLocal { number, ticket };

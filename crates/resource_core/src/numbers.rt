@@ -15,3 +15,9 @@ pub(crate) fn is_nobody(xid: Xid) -> bool
 {
     xid.0 == 0
 }
+
+/// The numbers of a ticket have 32 bits.
+pub(crate) fn in_ticket(boot: u32, seq: u32)
+    ensures boot { boot < 2 ^ 32 }
+    ensures seq { seq < 2 ^ 32 }
+{}

@@ -1,10 +1,23 @@
-//! The actions and the local transactions of a resource.
+//! What a resource is, but for its number.
 ghost use Rattle.std.specs.Prelude.{◌≡◌};
 ghost use Rattle.std.specs.Option.{option_copied};
 ghost use Rattle.history_rules.specs.ResourceMemory.{action_in, local_in};
 ghost use Rattle.resource_core.specs.Setups.{actions_of};
 
-use seata_types::{Action, List, Stmt};
+use local_tables::Schema;
+use seata_types::{Action, List, Row, Stmt, Text};
+
+/// What a resource is: its tables with the rows that they open with, each behind its table's name; how often a call tries for
+/// the global lock; the actions of its TCC calls, each behind its manager and its call; and its local transactions, each behind
+/// its number. All are counted from 1.
+#[derive(Drop)]
+pub struct Setup {
+    pub schema: Schema,
+    pub opening: List<(Text, Row)>,
+    pub tries: u32,
+    pub actions: List<(u16, u16, Action)>,
+    pub locals: List<(u16, List<Stmt>)>,
+}
 
 /// The actions of a manager's call, if it has any here.
 pub(crate) fn action_of(actions: &[(u16, u16, Action)], manager: u16, call: u16) -> Option<&Action>

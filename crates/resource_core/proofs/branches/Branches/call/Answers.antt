@@ -19,7 +19,7 @@ returns-then-is_nobody g c = λ resource from.
 pub returns-in-Some : goal.returns-in-Some
 returns-in-Some g c = λ resource from.
     again g.D.Disk.state c.args.self.now c.args.caller c.args.work.now c.requires.ready.up resource from (is_one c.args.caller.xid.0 (sym c.is_nobody.ensures ∙ c.if-is_nobody.false))
-    c.in-Some.branch c.done.result (λ rs k. sym (c.done_for.ensures rs k) ∙ ap (option_map branch_number) c.in-Some.is) c.done.ensures
+    c.in-Some.branch c.done.result c.in_range.ensures.branch (λ rs k. sym (c.done_for.ensures rs k) ∙ ap (option_map branch_number) c.in-Some.is) c.done.ensures
 
 pub returns-then-is_some : goal.returns-then-is_some
 returns-then-is_some g c = λ resource from.

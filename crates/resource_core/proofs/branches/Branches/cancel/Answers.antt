@@ -7,7 +7,7 @@ use Rattle.history_rules.specs.ResourceMemory.{action_in}
 use Rattle.resource_core.specs.Setups.{actions_of}
 use Rattle.resource_core.specs.Stepping.{cancelling}
 use Rattle.resource_core.proofs.EndAnswers.{none_found, rollback_unknown, cancels_ok, cancels_err}
-use Rattle.resource_core.proofs.ReadyLaws.{action_within, may_cancel, tables_within}
+use Rattle.resource_core.proofs.ReadyLaws.{action_within, many, may_cancel, tables_within}
 use Rattle.resource_core.proofs.branches.Branches.cancel.Goals as goal
 
 pub returns-in_default : goal.returns-in_default
@@ -20,7 +20,7 @@ cancel-requires-clause-up g c = c.requires.up
 
 pub cancel-requires-clause-statements : goal.cancel-requires-clause-statements
 cancel-requires-clause-statements g c =
-    (action_within c.args.self.now.actions c.args.manager c.args.call c.in-Some.action.now c.requires.actions (ap (λ actions. action_in c.args.manager c.args.call (actions_of actions)) (sym c.as_slice.ensures) ∙ sym c.action_of.ensures ∙ ap (λ (o : Option _). option_copied o) c.in-Some.is)).cancels.count
+    many (action_within c.args.self.now.actions c.args.manager c.args.call c.in-Some.action.now c.requires.actions (ap (λ actions. action_in c.args.manager c.args.call (actions_of actions)) (sym c.as_slice.ensures) ∙ sym c.action_of.ensures ∙ ap (λ (o : Option _). option_copied o) c.in-Some.is)).cancels
 
 pub cancel-requires-clause-places : goal.cancel-requires-clause-places
 cancel-requires-clause-places g c =
@@ -33,7 +33,7 @@ returns-in-Ok g c =
     c.cancelling-asked.ensures ∙ ap (cancelling c.args.leg) c.on_cancel.ensures ∙ ap (λ f. cancelling c.args.leg (on_cancel (fence_at f c.args.leg))) c.fence.ensures in
     cancels_ok g.D.Disk.state c.args.self.now c.cancel.new.store c.args.leg c.requires.up c.args.manager c.args.call c.in-Some.action.now
     (ap (λ actions. action_in c.args.manager c.args.call (actions_of actions)) (sym c.as_slice.ensures) ∙ sym c.action_of.ensures ∙ ap (λ (o : Option _). option_copied o) c.in-Some.is) c.cancelling-asked.result at
-    c.in-Ok.answer c.cancelled.result c.cancelled.ensures c.in-Ok.ensures.answer c.in-Ok.ensures.leaves
+    c.in-Ok.answer c.cancelled.result c.cancelled.ensures c.in-Ok.ensures.told c.in-Ok.ensures.answer c.in-Ok.ensures.leaves
 
 pub returns-in-Err : goal.returns-in-Err
 returns-in-Err g c =

@@ -4,7 +4,7 @@ use Rattle.history_rules.specs.ResourceMemory.{action_in}
 use Rattle.resource_store.specs.Keeping.{known}
 use Rattle.resource_core.specs.Setups.{actions_of}
 use Rattle.resource_core.proofs.EndAnswers.{none_found, commit_unknown, confirms_ok, confirms_err}
-use Rattle.resource_core.proofs.ReadyLaws.{action_within, may_confirm, tables_within}
+use Rattle.resource_core.proofs.ReadyLaws.{action_within, many, may_confirm, tables_within}
 use Rattle.resource_core.proofs.branches.Branches.confirm.Goals as goal
 
 pub returns-in_default : goal.returns-in_default
@@ -17,7 +17,7 @@ confirm-requires-clause-up g c = c.requires.up
 
 pub confirm-requires-clause-statements : goal.confirm-requires-clause-statements
 confirm-requires-clause-statements g c =
-    (action_within c.args.self.now.actions c.args.manager c.args.call c.in-Some.action.now c.requires.actions (ap (λ actions. action_in c.args.manager c.args.call (actions_of actions)) (sym c.as_slice.ensures) ∙ sym c.action_of.ensures ∙ ap (λ (o : Option _). option_copied o) c.in-Some.is)).confirms.count
+    many (action_within c.args.self.now.actions c.args.manager c.args.call c.in-Some.action.now c.requires.actions (ap (λ actions. action_in c.args.manager c.args.call (actions_of actions)) (sym c.as_slice.ensures) ∙ sym c.action_of.ensures ∙ ap (λ (o : Option _). option_copied o) c.in-Some.is)).confirms
 
 pub confirm-requires-clause-places : goal.confirm-requires-clause-places
 confirm-requires-clause-places g c =
@@ -27,7 +27,7 @@ confirm-requires-clause-places g c =
 pub returns-in-Ok : goal.returns-in-Ok
 returns-in-Ok g c =
     confirms_ok g.D.Disk.state c.args.self.now c.confirm.new.store c.args.leg c.requires.up c.args.manager c.args.call c.in-Some.action.now
-    (ap (λ actions. action_in c.args.manager c.args.call (actions_of actions)) (sym c.as_slice.ensures) ∙ sym c.action_of.ensures ∙ ap (λ (o : Option _). option_copied o) c.in-Some.is) c.in-Ok.answer c.confirmed.result c.confirmed.ensures c.in-Ok.ensures.answer c.in-Ok.ensures.leaves
+    (ap (λ actions. action_in c.args.manager c.args.call (actions_of actions)) (sym c.as_slice.ensures) ∙ sym c.action_of.ensures ∙ ap (λ (o : Option _). option_copied o) c.in-Some.is) c.in-Ok.answer c.confirmed.result c.confirmed.ensures c.in-Ok.ensures.told c.in-Ok.ensures.answer c.in-Ok.ensures.leaves
 
 pub returns-in-Err : goal.returns-in-Err
 returns-in-Err g c =

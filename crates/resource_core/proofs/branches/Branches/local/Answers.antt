@@ -12,7 +12,7 @@ use Rattle.resource_core.specs.Stepping.{Answers}
 use Rattle.resource_core.proofs.EndAnswers.{none_found}
 use Rattle.resource_core.proofs.LocalRules.{local_none, local_waits}
 use Rattle.resource_core.proofs.OpenAnswers.{opened_last, opened_now, found_open, found_none, local_asks, local_fails}
-use Rattle.resource_core.proofs.ReadyLaws.{local_within}
+use Rattle.resource_core.proofs.ReadyLaws.{local_within, many}
 use Rattle.resource_core.proofs.branches.Branches.local.Goals as goal
 
 pub returns-in_default : goal.returns-in_default
@@ -28,7 +28,7 @@ returns-then-is_some g c =
 
 pub open_local-requires-clause-statements : goal.open_local-requires-clause-statements
 open_local-requires-clause-statements g c =
-    (local_within c.args.self.now.locals c.args.number c.in-Some.stmts.now c.requires.locals (ap (local_in c.args.number) (sym c.as_slice.ensures) ∙ sym c.local_of.ensures ∙ ap (λ (o : Option _). option_copied o) c.in-Some.is)).count
+    many (local_within c.args.self.now.locals c.args.number c.in-Some.stmts.now c.requires.locals (ap (local_in c.args.number) (sym c.as_slice.ensures) ∙ sym c.local_of.ensures ∙ ap (λ (o : Option _). option_copied o) c.in-Some.is))
 
 pub open_local-requires-clause-tickets : goal.open_local-requires-clause-tickets
 open_local-requires-clause-tickets g c = c.requires.room

@@ -3,7 +3,7 @@ use Rattle.seata_types.specs.declared.statements.Work.TheVariants as work
 use Rattle.local_txn.specs.OpenTickets.{no_effect, opening_of}
 use Rattle.local_txn.specs.Answers.{owner_by}
 use Rattle.resource_core.proofs.CallLaws.{call_input}
-use Rattle.resource_core.proofs.OpenAnswers.{opened_last, opened_now, prepared, call_asks, tcc_opens, tcc_within}
+use Rattle.resource_core.proofs.OpenAnswers.{opened_last, opened_now, prepared, call_asks, tcc_opens, tcc_faults, tcc_keys, tcc_within}
 use Rattle.resource_core.proofs.TicketSteps.{answers_not}
 use Rattle.resource_core.proofs.branches.Branches.open_tcc.Goals as goal
 
@@ -26,6 +26,8 @@ returns-in-Ok g c =
     call_asks g.D.Disk.state c.args.self.now c.prepare.new.txns c.requires.ready.up c.requires.ready.numbered c.args.caller (work.Tcc c.args.action.now) c.requires.fresh (Ok no_effect) (λ m h. refl)
     (tcc_opens g.D.Disk.state c.args.self.now c.prepare.new.txns c.requires.ready.up c.requires.ready.numbered c.args.caller c.args.action.now)
     (tcc_within g.D.Disk.state c.args.self.now c.prepare.new.txns c.requires.ready.up c.requires.ready.numbered c.args.caller c.args.action.now c.requires.fresh.of_one)
+    (tcc_faults g.D.Disk.state c.args.self.now c.prepare.new.txns c.requires.ready.up c.requires.ready.numbered c.args.caller c.args.action.now)
+    (tcc_keys g.D.Disk.state c.args.self.now c.prepare.new.txns c.requires.ready.up c.requires.ready.numbered c.args.caller c.args.action.now)
     c.in-Ok.ticket x c.register.new.self c.register.result
     (c.register.ensures c.args.self.now.txns
     (opening_of c.in-Ok.ticket (owner_by c.args.caller.xid.0 c.args.caller.manager c.args.caller.call (work.Tcc c.args.action.now)) no_effect) refl x.opens)

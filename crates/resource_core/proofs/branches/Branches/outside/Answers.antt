@@ -7,7 +7,7 @@ use Rattle.resource_store.specs.Keeping.{known}
 use Rattle.resource_core.specs.Stepping.{Answers}
 use Rattle.resource_core.proofs.EndAnswers.{none_found}
 use Rattle.resource_core.proofs.OutsideRules.{with_store, outside_none, outside_done, outside_not}
-use Rattle.resource_core.proofs.ReadyLaws.{local_within, may_write, tables_within}
+use Rattle.resource_core.proofs.ReadyLaws.{local_within, many, may_write, tables_within}
 use Rattle.resource_core.proofs.branches.Branches.outside.Goals as goal
 
 pub returns-in_default : goal.returns-in_default
@@ -20,7 +20,7 @@ outside-requires-clause-up g c = c.requires.up
 
 pub outside-requires-clause-statements : goal.outside-requires-clause-statements
 outside-requires-clause-statements g c =
-    (local_within c.args.self.now.locals c.args.number c.in-Some.stmts.now c.requires.locals (ap (local_in c.args.number) (sym c.as_slice.ensures) ∙ sym c.local_of.ensures ∙ ap (λ (o : Option _). option_copied o) c.in-Some.is)).count
+    many (local_within c.args.self.now.locals c.args.number c.in-Some.stmts.now c.requires.locals (ap (local_in c.args.number) (sym c.as_slice.ensures) ∙ sym c.local_of.ensures ∙ ap (λ (o : Option _). option_copied o) c.in-Some.is))
 
 pub outside-requires-clause-places : goal.outside-requires-clause-places
 outside-requires-clause-places g c =

@@ -1,5 +1,7 @@
-use Rattle.std.proofs.Common.{◌∙◌, refl, ap}
+use Rattle.std.proofs.Common.{◌∙◌, refl, sym, ap, subst}
 use Rattle.seata_types.specs.declared.ids.Place.TheVariants as place
+use Rattle.seata_types.specs.declared.ids.Ticket.{Ticket}
+use Rattle.byte_fields.specs.Layout.{FitsTicket}
 use Rattle.history_rules.specs.Own.{sends}
 use Rattle.resource_core.proofs.RequestLaws.{asked_now}
 use Rattle.resource_core.proofs.branches.Branches.query.Goals as goal
@@ -8,8 +10,11 @@ pub request-requires : goal.request-requires
 request-requires g c = c.requires.is_open
 
 pub returns-in-Ok : goal.returns-in-Ok
-returns-in-Ok g c = λ before o named opened.
-    (c.sends.ensures.value ∙ ap (sends _ place.Tc) (asked_now c.args.self.now.number before c.args.self.now.txns o c.args.ticket c.in-Ok.message named opened c.in-Ok.ensures), refl)
+returns-in-Ok g c = λ before o named opened. (
+  c.sends.ensures.value ∙ ap (sends _ place.Tc) (asked_now c.args.self.now.number before c.args.self.now.txns o c.args.ticket c.in-Ok.message named opened c.in-Ok.ensures),
+  refl,
+  subst (λ (t : Ticket). FitsTicket t) (sym named) (record { boot = c.in_ticket.ensures.boot; seq = c.in_ticket.ensures.seq }),
+)
 
 pub withdraw-requires-clause-last : goal.withdraw-requires-clause-last
 withdraw-requires-clause-last g c = c.requires.last

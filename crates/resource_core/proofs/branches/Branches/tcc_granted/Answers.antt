@@ -1,3 +1,4 @@
+use Rattle.std.proofs.Common.{sym}
 use Rattle.resource_store.specs.Keeping.{known}
 use Rattle.resource_core.proofs.GrantAnswers.{tries_by, tries_err}
 use Rattle.resource_core.proofs.ReadyLaws.{may_try, tables_within}
@@ -14,7 +15,7 @@ on_grant-requires-clause-may g c =
 pub returns-in-Ok : goal.returns-in-Ok
 returns-in-Ok g c =
     tries_by g.D.Disk.state c.args.self.now c.on_grant.new.store c.on_grant.new.txns c.args.ticket c.args.caller c.args.branch c.requires.ready.up c.requires.is_open
-    c.in-Ok.answer c.tried.new.self c.tried.result c.tried.ensures c.in-Ok.ensures.answer c.in-Ok.ensures.leaves c.in-Ok.ensures.stays c.in-Ok.ensures.tickets
+    c.in-Ok.answer c.tried.new.self c.tried.result (sym c.in-Ok.ensures.told) c.tried.ensures c.in-Ok.ensures.answer c.in-Ok.ensures.leaves c.in-Ok.ensures.stays c.in-Ok.ensures.tickets
 
 pub returns-in-Err : goal.returns-in-Err
 returns-in-Err g c =

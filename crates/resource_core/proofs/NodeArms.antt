@@ -1,0 +1,220 @@
+-- What a stop and a crash leave of a resource.
+use Rattle.std.proofs.Common.{◌≡◌, inl, ℕ, Bool, true, false, List, ◌∷◌, None, option_map, is_some, refl, sym, ap, subst, ◌∙◌, arith}
+use Rattle.std.specs.List.{AllByRecursion}
+use Rattle.disk_model.specs.Disk.{DiskState, Content, IsLawful, SameKind}
+use Rattle.disk_model.specs.Stop.{below, stop_of, failures_of, state_of}
+use Rattle.disk_model.specs.declared.stoppable.Stop.TheVariants.{Armed}
+use Rattle.disk_model.specs.declared.stoppable.Stoppable.{Stoppable}
+use Rattle.journal_checkpoint.specs.Images.{Pair}
+use Rattle.journal_checkpoint.specs.Keeping.{active_disk, other_disk, is_second}
+use Rattle.seata_types.specs.declared.acts.Act.TheVariants as act
+use Rattle.durable_records.specs.declared.resources.ResourceRecord.{ResourceRecord}
+use Rattle.history_rules.specs.Own.{Own, Stopped, Crashed, still}
+use Rattle.history_rules.specs.Devices.{is_down as down_by}
+use Rattle.history_rules.specs.ResourceMemory.{Setup, memory}
+use Rattle.history_rules.specs.Nodes.{Coordinator, Manager, happens}
+use Rattle.history_rules.specs.Nodes.{Resource as ResourceRole}
+use Rattle.history_text.specs.Durable.{SamePicks}
+use Rattle.history_text.specs.Promises.{Does, StaysItself, own_entry}
+use Rattle.resource_memory.specs.Known.{Known}
+use Rattle.resource_store.specs.declared.store.Store.{Store}
+use Rattle.resource_store.specs.Keeping.{twin, known, setting_of, is_down as store_is_down, KeepsRecords, with_disk}
+use Rattle.resource_store.specs.Meaning.{IsOf, Opens, Setting}
+use Rattle.record_places.specs.Within.{IsTableWithin}
+use Rattle.resource_core.specs.declared.nodes.Resource.{Resource}
+use Rattle.resource_core.specs.Holding.{Holds}
+use Rattle.resource_core.specs.NodeMoving.{ArmsPair, ArmsStore, with_store}
+use Rattle.resource_core.specs.NodeStanding.{IsSound, StandsAs, StandsOver, serves}
+use Rattle.resource_core.specs.Ready.{AreTicketsWithin}
+use Rattle.resource_core.specs.Setups.{actions_of}
+use Rattle.resource_core.specs.Shown.{disks_of, is_down, pair_of, setup_in, stands_at, store_of}
+use Rattle.resource_core.proofs.NodeDisks.{Moved, false_true, keeps_images, moved_same, pair_on, same_kind, same_picks}
+use Rattle.resource_core.proofs.NodeStepped.{stays_itself}
+
+-- ---- a stop on the active disk
+
+-- a disk of which a stop lets so many calls pass
+abbrev armed_disk : {D : Type 0} → ℕ → Stoppable D → Stoppable D
+armed_disk calls d = record { disk = below d; stop = Armed calls; failures = failures_of d }
+
+is_armed_disk : {D : Type 0} (calls : ℕ) (d d' : Stoppable D) → below d' ≡ below d → stop_of d' ≡ Armed calls → failures_of d' ≡ failures_of d → armed_disk calls d ≡ d'
+is_armed_disk calls d d' same stop failures = λ i. record { disk = sym same i; stop = sym stop i; failures = sym failures i }
+
+module _ {D : Type 0} (state : D → DiskState) (calls : ℕ) where
+  pair_armed : (second : Bool) (a o : Stoppable D) → ArmsPair (pair_on (state_of state) second a o) (pair_on (state_of state) second (armed_disk calls a) o)
+  pair_armed false a o = record { own = refl; first_content = refl; second_content = refl; first_size = refl; second_size = refl; first_moments = refl; second_moments = refl; first_leaves = λ c e. e; second_leaves = λ c e. e }
+  pair_armed true a o = record { own = refl; first_content = refl; second_content = refl; first_size = refl; second_size = refl; first_moments = refl; second_moments = refl; first_leaves = λ c e. e; second_leaves = λ c e. e }
+
+  keeps_armed : (s : Store (Stoppable D)) (t : Setting) (rs : List ResourceRecord) → KeepsRecords (state_of state) t rs s → KeepsRecords (state_of state) t rs (with_disk s (armed_disk calls (active_disk (twin s))))
+  keeps_armed s t rs k = record {
+    found = k.found;
+    kept = record {
+      pair = record {
+        journal = record {
+          disk = record { settled = k.kept.pair.journal.disk.settled; images = k.kept.pair.journal.disk.images };
+          end = k.kept.pair.journal.end;
+        };
+        settled = k.kept.pair.settled;
+        active = k.kept.pair.active;
+        passive = k.kept.pair.passive;
+        side = k.kept.pair.side;
+      };
+      held = k.kept.held;
+    };
+    list = k.list;
+    knows = k.knows;
+  }
+
+  store_armed : (s : Store (Stoppable D)) → ArmsStore state calls s (with_disk s (armed_disk calls (active_disk (twin s))))
+  store_armed s = record {
+    keeps = keeps_armed s;
+    left = refl;
+    pair = pair_armed (is_second (twin s)) (active_disk (twin s)) (other_disk (twin s));
+    known = refl;
+    setting = refl;
+    found = refl;
+    down = refl;
+  }
+
+  pub arms_store : (s : Store (Stoppable D)) (lent disk : Stoppable D) → lent ≡ active_disk (twin s) → below disk ≡ below lent → stop_of disk ≡ Armed calls → failures_of disk ≡ failures_of lent
+      → ArmsStore state calls s (with_disk s disk)
+  arms_store s lent disk is same stop failures =
+      subst (λ (d : Stoppable D). ArmsStore state calls s (with_disk s d)) (is_armed_disk calls (active_disk (twin s)) disk (same ∙ ap below is) stop (failures ∙ ap failures_of is)) (store_armed s)
+
+-- ---- what stays
+
+same_kind_by : (old new : DiskState) → new.size ≡ old.size → new.content ≡ old.content → new.tells_moments ≡ old.tells_moments → SameKind old new
+same_kind_by old new size content moments = record { size = size; tells_images = ap is_some content; tells_moments = moments }
+
+pub moved_armed : (old new : Pair) → ArmsPair old new → Moved old new
+moved_armed old new a = record {
+  own = let own = a.own in omega (arith, own);
+  first_pick = ap (option_map (λ (c : Content). c.last_pick)) a.first_content;
+  second_pick = ap (option_map (λ (c : Content). c.last_pick)) a.second_content;
+  first_kind = same_kind_by old.first new.first a.first_size a.first_content a.first_moments;
+  second_kind = same_kind_by old.second new.second a.second_size a.second_content a.second_moments;
+}
+
+-- a resource with another store of its setting is what it was
+pub setup_still : {D : Type 0} (r : Resource D) (s : Store (Stoppable D)) → setting_of s ≡ setting_of (store_of r) → setup_in r ≡ setup_in (with_store r s)
+setup_still r s setting = ap of_setting (sym setting)
+  where
+    of_setting : Setting → Setup
+    of_setting t = record { number = t.resource; schema = t.schema; opening = t.opening; tries = r.branches.tries; actions = actions_of r.branches.actions; locals = r.branches.locals }
+
+module _ {D : Type 0} (r : Resource D) (s : Store (Stoppable D)) (same : known s ≡ known (store_of r)) (setting : setting_of s ≡ setting_of (store_of r)) (down : store_is_down s ≡ store_is_down (store_of r)) where
+  -- it needs nothing of its disks
+  pub sound_still : IsSound r → IsSound (with_store r s)
+  sound_still i = record {
+    numbered = i.numbered ∙ ap (λ (t : Setting). t.resource) (sym setting);
+    counted = i.counted;
+    opens = subst Opens (sym setting) i.opens;
+    tables = subst (λ (t : Setting). AllByRecursion IsTableWithin t.schema.tables) (sym setting) i.tables;
+    actions = i.actions;
+    locals = i.locals;
+    steps = i.steps;
+    up = λ e. down ∙ i.up e;
+    knows = λ e. subst (λ (t : Setting). IsOf t (known s)) (sym setting) (subst (λ (k : Known). IsOf (setting_of (store_of r)) k) (sym same) (i.knows e));
+    tickets = λ e. subst (λ (k : Known). AreTicketsWithin k.tables r.branches.txns.opens) (sym same) (i.tickets e);
+  }
+
+-- ---- an entry that stops it, or takes it down
+
+armed_happens : (setup : Setup) (past : List ResourceRecord) (owns : List Own) (now calls : ℕ) → down_by owns ≡ false → still act.Armed ≡ happens (ResourceRole setup past) owns now false false (Stopped calls)
+armed_happens setup past owns now calls up = rw up refl
+
+crashed_happens : (setup : Setup) (past : List ResourceRecord) (owns : List Own) (now : ℕ) → down_by owns ≡ false → still (act.Down None None) ≡ happens (ResourceRole setup past) owns now false false Crashed
+crashed_happens setup past owns now up = rw up refl
+
+module _ {D : Type 0} (state : D → DiskState) (law : (d : Stoppable D) → IsLawful (state_of state d)) (r : Resource D) (up : is_down r ≡ false) where
+  upon : (setup : Setup) (past : List ResourceRecord) (owns : List Own) → StandsOver state r setup past owns → down_by owns ≡ false
+  upon setup past owns s = sym s.down ∙ up
+
+  -- armed, with this store
+  module _ (s' : Store (Stoppable D)) (calls : ℕ) (a : ArmsStore state calls (store_of r) s') where
+    holds_armed : (setup : Setup) (past : List ResourceRecord) (owns : List Own) → StandsOver state r setup past owns → Holds (state_of state) (with_store r s').branches (memory setup past owns)
+    holds_armed setup past owns s =
+        let h = s.holds (upon setup past owns s) in
+        record {
+          keeps = subst (λ (t : Setting). KeepsRecords (state_of state) t (memory setup past owns).left.records s') (sym a.setting) (a.keeps (setting_of (store_of r)) (memory setup past owns).left.records h.keeps);
+          tickets = h.tickets;
+        }
+
+    armed_so : (setup : Setup) (past : List ResourceRecord) (owns : List Own) (now : ℕ) → StandsOver state r setup past owns
+        → StandsOver state (with_store r s') setup past (own_entry (Stopped calls) now (still act.Armed) ∷ owns)
+    armed_so setup past owns now s =
+        let h = holds_armed setup past owns s in
+        let own = a.pair.own in
+        let counted = s.disks.counted in
+        record {
+          is = s.is ∙ setup_still r s' a.setting;
+          numbered = s.numbered;
+          down = s.down;
+          disks = record {
+            passes = λ e. a.left;
+            images = λ x y first second. inl (keeps_images state law (setting_of s') (memory setup past owns).left.records s' h.keeps x y first second);
+            counted = omega (arith, counted, own);
+          };
+          holds = λ e. h;
+          fallen = λ e. false_true (sym (upon setup past owns s) ∙ e);
+        }
+
+    pub arm_does : (now : ℕ) → Does (StandsAs state) r (with_store r s') (Stopped calls) now (still act.Armed)
+    arm_does now (ResourceRole setup past) owns s = (armed_happens setup past owns now calls (upon setup past owns s), armed_so setup past owns now s)
+    arm_does now (Coordinator times past) owns s = absurd s
+    arm_does now (Manager settings) owns s = absurd s
+
+    pub arm_same : StaysItself stands_at serves (disks_of state) r (with_store r s')
+    arm_same = stays_itself state r (with_store r s') refl (sound_still r s' a.known a.setting a.down) (moved_armed (disks_of state r) (pair_of state s') a.pair).first_kind (moved_armed (disks_of state r) (pair_of state s') a.pair).second_kind
+
+    pub arm_picks : SamePicks (disks_of state r) (disks_of state (with_store r s'))
+    arm_picks = same_picks (disks_of state r) (pair_of state s') (moved_armed (disks_of state r) (pair_of state s') a.pair)
+
+  -- ---- a crash, over so many records
+
+  module _ (count : ℕ) (counts : count ≡ (known (store_of r)).acts) where
+    abbrev pub crashed : Resource D
+    crashed = record r { down = true; flight = None; records = count }
+
+    crashed_so : (setup : Setup) (past : List ResourceRecord) (owns : List Own) (now : ℕ) → StandsOver state r setup past owns
+        → StandsOver state crashed setup past (own_entry Crashed now (still (act.Down None None)) ∷ owns)
+    crashed_so setup past owns now s =
+        let h = s.holds (upon setup past owns s) in
+        let counted = s.disks.counted in
+        record {
+          is = s.is;
+          numbered = s.numbered;
+          down = refl;
+          disks = record {
+            passes = λ e. false_true (sym e);
+            images = λ x y first second. inl (keeps_images state law (setting_of (store_of r)) (memory setup past owns).left.records (store_of r) h.keeps x y first second);
+            counted = omega (arith, counted);
+          };
+          holds = λ e. false_true (sym e);
+          fallen = λ e. record { flight = refl; count = counts ∙ ap (λ (k : Known). k.acts) h.keeps.knows; closed = refl };
+        }
+
+    pub crash_does : (now : ℕ) → Does (StandsAs state) r crashed Crashed now (still (act.Down None None))
+    crash_does now (ResourceRole setup past) owns s = (crashed_happens setup past owns now (upon setup past owns s), crashed_so setup past owns now s)
+    crash_does now (Coordinator times past) owns s = absurd s
+    crash_does now (Manager settings) owns s = absurd s
+
+    sound_crashed : IsSound r → IsSound crashed
+    sound_crashed i = record {
+      numbered = i.numbered;
+      counted = i.counted;
+      opens = i.opens;
+      tables = i.tables;
+      actions = i.actions;
+      locals = i.locals;
+      steps = i.steps;
+      up = λ e. false_true (sym e);
+      knows = λ e. false_true (sym e);
+      tickets = λ e. false_true (sym e);
+    }
+
+    pub crash_same : StaysItself stands_at serves (disks_of state) r crashed
+    crash_same = stays_itself state r crashed refl sound_crashed (same_kind (disks_of state r).first) (same_kind (disks_of state r).second)
+
+    pub crash_picks : SamePicks (disks_of state r) (disks_of state crashed)
+    crash_picks = same_picks (disks_of state r) (disks_of state r) (moved_same (disks_of state r))

@@ -1,0 +1,310 @@
+//! A resource as a node.
+ghost use Rattle.std.specs.Prelude.{◌≡◌};
+ghost use Rattle.disk_model.specs.Stop.{below};
+
+use crate::branches::Branches;
+use crate::setup::Setup;
+use disk_model::{Disk, Stoppable};
+use history_text::Node;
+use local_txn::LocalTxns;
+use resource_store::Store;
+use seata_types::{Act, Durable, Input, NodeError, OpenError, Place, Step, StoreError};
+use std::alloc::Global;
+
+/// How many steps a node can make in all, this project's own.
+pub const NODE_STEPS: u32 = 4_294_967_294;
+
+/// A resource, over its two disks.
+#[derive(Drop)]
+pub struct Resource<D> {
+    branches: Branches<Stoppable<D>>,
+    down: bool,
+    // The act in flight, while it is down, and how many records stood before it.
+    flight: Option<Durable>,
+    records: u32,
+    left: u32,
+}
+
+// An error, and the disks without their stops.
+fn give_back<D: Disk>(
+    error: OpenError,
+    first: Stoppable<D>,
+    second: Stoppable<D>,
+) -> (OpenError, D, D)
+    ensures { result ≡ (error, below first, below second) }
+{
+    (error, first.into_inner(), second.into_inner())
+}
+
+impl<D: Disk> Resource<D> {
+    ghost use Rattle.std.specs.Prelude.{◌≡◌, ◌<◌, ◌≤◌, ◌^◌, true, false, List as Items, IfOk, IfErr};
+    ghost use Rattle.disk_model.specs.Disk.{IsSettled};
+    ghost use Rattle.disk_model.specs.Stop.{below, state_of};
+    ghost use Rattle.disk_model.specs.declared.disk.TheConstants.{LAST_PICK};
+    ghost use Rattle.journal_checkpoint.specs.Keeping.{first_disk, second_disk};
+    ghost use Rattle.durable_records.specs.declared.resources.ResourceRecord.{ResourceRecord};
+    ghost use Rattle.history_rules.specs.Own.{Own};
+    ghost use Rattle.history_rules.specs.ResourceMemory.{Setup as RuleSetup, memory};
+    ghost use Rattle.resource_store.specs.Keeping.{twin, found_of, setting_of, KeepsRecords};
+    ghost use Rattle.resource_store.specs.Keeping.{is_down as store_is_down};
+    ghost use Rattle.resource_core.specs.NodeOpening.{IsSetupWithin, IsOpened, HandsBack};
+    ghost use Rattle.resource_core.specs.NodeStanding.{StandsOver, IsSound, serves};
+    ghost use Rattle.resource_core.specs.NodeMoving.{kept_of, Misses, Arms, ArmsWith, Boots};
+    ghost use Rattle.resource_core.specs.NodeStepping.{StepsBy, RestartsBy};
+    ghost use Rattle.resource_core.specs.Shown.{store_of, steps_left, is_down};
+
+    /// Opens two disks of one size, of the resource with this number, and writes the record of one more boot. The disks come
+    /// back where it fails.
+    pub fn open(
+        alloc: Global,
+        first: D,
+        second: D,
+        place: u16,
+        setup: Setup,
+    ) -> Result<Resource<D>, (OpenError, D, D)>
+        requires first { IsSettled (D.state first) }
+        requires second { IsSettled (D.state second) }
+        requires setup { IsSetupWithin place setup }
+        ensures opened { IfOk result (IsOpened D.state first second place setup) }
+        ensures refused { IfErr result (HandsBack D.state first second place setup) }
+    {
+        let Setup {
+            schema,
+            opening,
+            tries,
+            actions,
+            locals,
+        } = setup;
+        let first = Stoppable::new(first);
+        let second = Stoppable::new(second);
+        let store = match Store::open(alloc, first, second, place, schema, opening) {
+            Ok(store) => store,
+            Err((error, first, second)) => return Err(give_back(error, first, second)),
+        };
+        let txns = LocalTxns::new(alloc, store.boot());
+        let branches = Branches {
+            number: place,
+            tries,
+            actions,
+            locals,
+            store,
+            txns,
+        };
+        Ok(Resource {
+            branches,
+            down: false,
+            flight: None,
+            records: 0,
+            left: NODE_STEPS,
+        })
+    }
+
+    /// Its store on its disks; takes no memory.
+    pub fn store(&self) -> &Store<Stoppable<D>>
+        requires up { is_down self.now ≡ false }
+        ensures value { result.now ≡ store_of self.now }
+        ensures keeps { (setup : RuleSetup) (past : Items ResourceRecord) (owns : Items Own) → StandsOver D.state self.now setup past owns →
+            KeepsRecords (state_of D.state) (setting_of result.now) (memory setup past owns).left.records result.now }
+    {
+        &self.branches.store
+    }
+
+    /// The first record that its first opening read, if there was one: whether it stands on the second disk, and its offset,
+    /// which is that of a snapshot too; takes no memory.
+    pub fn found(&self) -> Option<(bool, u64)>
+        ensures { result ≡ found_of (store_of self.now) }
+    {
+        self.branches.store.found()
+    }
+
+    /// Its two disks, in their order; takes no memory.
+    pub fn into_disks(self) -> (D, D)
+        ensures first { result.0 ≡ below (first_disk (twin (store_of self))) }
+        ensures second { result.1 ≡ below (second_disk (twin (store_of self))) }
+    {
+        let Resource { branches, .. } = self;
+        let Branches { store, .. } = branches;
+        let (first, second) = store.into_disks();
+        (first.into_inner(), second.into_inner())
+    }
+
+    // Takes a turn, a message or a local transaction.
+    fn answer(&mut self, alloc: Global, input: Input, now: u64) -> Result<Step, NodeError>
+        requires up { is_down self.old ≡ false }
+        requires able { 0 < steps_left self.old }
+        requires served { serves self.old input }
+        ensures { StepsBy D.state self.old self.new input now result }
+    {
+        let records = self.branches.store.records();
+        match self.branches.answer(alloc, &input) {
+            Ok(step) => {
+                drop(input);
+                self.left -= 1;
+                Ok(step)
+            }
+            Err(error) => {
+                drop(input);
+                self.miss(records, error);
+                Err(error)
+            }
+        }
+    }
+
+    // A step ended without an answer. Where the disks failed, it is down with its act in flight over so many records.
+    fn miss(&mut self, records: u32, error: NodeError)
+        requires able { 0 < steps_left self.old }
+        ensures { Misses records error self.old self.new }
+    {
+        if let NodeError::Failed { at } = error {
+            self.down = true;
+            self.flight = Some(at);
+            self.records = records;
+            self.left -= 1;
+        }
+    }
+
+    // Lets so many writes and syncs of the active disk pass.
+    fn arm_active(&mut self, calls: u32)
+        ensures { Arms D.state calls self.old self.new }
+    {
+        self.branches.store.disk_mut().arm(calls);
+    }
+
+    // The same, where calls are given.
+    fn arm_with(&mut self, calls: Option<u32>)
+        ensures { ArmsWith D.state calls self.old self.new }
+    {
+        if let Some(calls) = calls {
+            self.arm_active(calls);
+        }
+    }
+
+    // Comes back after a crash. A stop is armed before the boot, which is its first record.
+    fn restart_in_place(
+        &mut self,
+        alloc: Global,
+        now: u64,
+        pick: u16,
+        calls: Option<u32>,
+    ) -> Result<Act, OpenError>
+        requires down { is_down self.old ≡ true }
+        requires pick { pick ≤ LAST_PICK }
+        ensures { RestartsBy D.state self.old self.new pick calls now result }
+    {
+        if let Err(error) = self.branches.store.restart(alloc, pick) {
+            return Err(error);
+        }
+        self.arm_with(calls);
+        let kept = self.kept();
+        self.boot(alloc, kept)
+    }
+
+    // The act in flight, where its record is on the disks.
+    fn kept(&self) -> Option<Durable>
+        ensures { result ≡ kept_of self.now }
+    {
+        if self.branches.store.records() > self.records {
+            self.flight
+        } else {
+            None
+        }
+    }
+
+    // Writes the record of one more boot, and is up without open tickets. Where the disks fail it is down again, with the boot
+    // in flight.
+    fn boot(&mut self, alloc: Global, kept: Option<Durable>) -> Result<Act, OpenError>
+        requires ready { store_is_down (store_of self.old) ≡ false }
+        requires down { is_down self.old ≡ true }
+        ensures { Boots D.state kept self.old self.new result }
+    {
+        let records = self.branches.store.records();
+        match self.branches.store.start(alloc) {
+            Ok(()) => {
+                self.branches.txns = LocalTxns::new(alloc, self.branches.store.boot());
+                self.down = false;
+                Ok(Act::Restarted { kept })
+            }
+            Err(StoreError::Failed) => {
+                let at = Some(Durable::Boot);
+                self.flight = at;
+                self.records = records;
+                Ok(Act::Down { kept, at })
+            }
+            Err(StoreError::Full(full)) => Err(OpenError::Full(full)),
+            Err(StoreError::NoMemory) => Err(OpenError::NoMemory),
+        }
+    }
+}
+
+impl<D: Disk> Node for Resource<D> {
+    ghost use Rattle.std.specs.Prelude.{true};
+    ghost use Rattle.resource_core.specs.NodeStanding.{StandsAs, serves};
+    ghost use Rattle.resource_core.specs.NodeLaws as laws;
+    ghost use Rattle.resource_core.specs.Shown.{stands_at, steps_left, is_down, disks_of, needs, size_of};
+
+    ghost stands_for = { StandsAs D.state };
+
+    ghost stands_at = { stands_at };
+
+    ghost serves = { serves };
+
+    ghost left = { steps_left };
+
+    ghost stops = { λ _. true };
+
+    ghost down = { is_down };
+
+    ghost disks = { disks_of D.state };
+
+    ghost needs = { needs };
+
+    ghost size = { size_of D.state };
+
+    fn place(&self) -> Place {
+        Place::Res(self.branches.number)
+    }
+
+    fn step(&mut self, alloc: Global, input: Input, now: u64) -> Result<Step, NodeError> {
+        self.answer(alloc, input, now)
+    }
+
+    fn is_down(&self) -> bool {
+        self.down
+    }
+
+    fn steps_left(&self) -> u32 {
+        self.left
+    }
+
+    fn arm(&mut self, calls: u32) {
+        self.arm_active(calls);
+    }
+
+    fn crash(&mut self) {
+        self.down = true;
+        self.flight = None;
+        self.records = self.branches.store.records();
+    }
+
+    fn restart(
+        &mut self,
+        alloc: Global,
+        now: u64,
+        pick: u16,
+        calls: Option<u32>,
+    ) -> Result<Act, OpenError> {
+        self.restart_in_place(alloc, now, pick, calls)
+    }
+
+    ghost places = { laws.places D.state };
+
+    ghost with_disks = { laws.with_disks D.state };
+
+    ghost downs = { laws.downs D.state };
+
+    ghost loses = { laws.loses D.state };
+
+    ghost stays = { laws.stays D.state };
+
+    ghost device = { laws.device D.state };
+}
