@@ -19,8 +19,9 @@ use Rattle.seata_types.specs.declared.statements.Work.TheVariants as work
 use Rattle.seata_types.specs.declared.limits.TheConstants.{RESOURCES}
 use Rattle.byte_fields.specs.Layout.{FitsTicket}
 use Rattle.byte_fields.specs.Parts.{FitsBranch}
-use Rattle.frame_codec.specs.Limits.{IsCounted, IsFramable, IsWithinLimits}
+use Rattle.frame_codec.specs.Limits.{IsCounted, IsFramable, IsWithinLimits, IsWorkWithin}
 use Rattle.frame_codec.specs.Messages.{FitsMessage}
+use Rattle.frame_codec.specs.Works.{FitsWork}
 use Rattle.local_tables.specs.declared.schemas.Effect.{Effect}
 use Rattle.local_txn.specs.OpenTickets.{Open, OfCall, is_for_call, opening_of, busy_row, with_first}
 use Rattle.local_txn.specs.Answers.{Tickets, is_for, new_ticket, owner_by, with_open, Executed, IsBusy}
@@ -35,7 +36,7 @@ use Rattle.history_text.specs.Promises.{own_step}
 use Rattle.record_places.specs.Laws.{HasKeysOf}
 use Rattle.resource_store.specs.Keeping.{known, setting_of, is_down, KeepsRecords}
 use Rattle.resource_core.specs.Holding.{setup_of, Holds}
-use Rattle.resource_core.specs.Ready.{IsCallWithin, IsReady, IsTicketWithin, Serves}
+use Rattle.resource_core.specs.Ready.{IsCallWithin, IsReady, IsTicketWithin, Serves, ServesWork}
 use Rattle.resource_core.specs.Stepping.{Answers, KeepsSettings, done_by}
 use Rattle.resource_core.specs.Telling.{tells}
 use Rattle.resource_core.specs.declared.branches.Branches.{Branches}
@@ -43,6 +44,7 @@ use Rattle.resource_core.specs.declared.callers.Caller.{Caller}
 use Rattle.resource_core.proofs.FramingLaws.{IsCause, busy_key, busy_told, done_told, failed_told, request_framed, told_framed}
 use Rattle.resource_core.proofs.TicketLists.{opened_within}
 use Rattle.resource_core.proofs.TicketSteps.{answers_with, answers_still}
+use Rattle.resource_core.proofs.StatementLaws.{stmts_within}
 
 abbrev pub call_input : Caller → Work → (resource : ℕ) → Place → Input
 call_input c w resource from = input.Message from (message.Call c.xid c.manager resource c.call w)
@@ -53,6 +55,17 @@ call_within c w resource is = by is.layout is.limits
   where
     by : FitsMessage (message.Call c.xid c.manager resource c.call w) → IsWithinLimits (message.Call c.xid c.manager resource c.call w) → IsCallWithin c.xid.0 c.call
     by (xid, of, at, call, fits) (manager, place, counted, asked) = record { xid = xid; counted = counted }
+
+-- a call that can be framed has statements that have places
+served_work : (w : Work) → FitsWork w → IsWorkWithin w → ServesWork w
+served_work (work.At stmts) fits within = stmts_within stmts fits within.count
+served_work (work.Tcc action) fits within = stmts_within action.tries fits.0 within.0.count
+
+pub work_within : (c : Caller) (w : Work) (resource : ℕ) → IsFramable (message.Call c.xid c.manager resource c.call w) → ServesWork w
+work_within c w resource is = by is.layout is.limits
+  where
+    by : FitsMessage (message.Call c.xid c.manager resource c.call w) → IsWithinLimits (message.Call c.xid c.manager resource c.call w) → ServesWork w
+    by (xid, of, at, call, fits) (manager, place, counted, asked) = served_work w fits asked
 
 -- the call with these parts, of a transaction that isn't number 0
 tickets_for : (x c : ℕ) (opens : List Open) → 0 < x → find (is_for x c) opens ≡ find (λ o. is_for_call x c o.owner) opens
@@ -91,7 +104,7 @@ module _ {D : Type 0} (state : D → DiskState) (old : Branches D) (c : Caller) 
         of_one m c.xid.0 pos
         ∙ ap (λ (b : Option ℕ). rules.call_answer (setup_of old) m.left.records m.opens (next_ticket m) c.manager c.xid.0 c.call w b (find (λ o. is_for_call c.xid.0 c.call o.owner) m.opens))
         (ap least_branch (done_is m w) ∙ done m.left.records h.keeps))
-        (λ m. refl) (λ m now. refl) (λ ready served. told_framed c (act.Again c.xid c.call branch) (called.Done branch) (call_within c w resource served.framable) (done_told branch few)))
+        (λ m. refl) (λ m now. refl) (λ ready served. told_framed c (act.Again c.xid c.call branch) (called.Done branch) (call_within c w resource served) (done_told branch few)))
 
     module _ (undone : (rs : List ResourceRecord) → KeepsRecords state (setting_of old.store) rs old.store → least_branch (done_by rs c w) ≡ None) where
       not_done : (m : Memory) → Holds state old m → (o : Option Open) → find (is_for c.xid.0 c.call) old.txns.opens ≡ o
@@ -132,7 +145,7 @@ module _ {D : Type 0} (state : D → DiskState) (old : Branches D) (c : Caller) 
               subst (λ (s : Step). Answers state old old (call_input c w resource from) (Ok s)) (sym e)
               (answers_still state old (call_input c w resource from) up (tells c (act.Refused c.xid c.call (why.Stmt index fault)) (called.Failed (why.Stmt index fault)))
               (λ m h. meant_as m h (Err (index, fault)) is) (λ m. refl) (λ m now. refl)
-              (λ ready served. told_framed c (act.Refused c.xid c.call (why.Stmt index fault)) (called.Failed (why.Stmt index fault)) (call_within c w resource served.framable) (failed_told (why.Stmt index fault) (cause ready served))))
+              (λ ready served. told_framed c (act.Refused c.xid c.call (why.Stmt index fault)) (called.Failed (why.Stmt index fault)) (call_within c w resource served) (failed_told (why.Stmt index fault) (cause ready served))))
 
           -- a row is open
           pub busy : (key : RowKey) (by : Ticket) (step : Step) → (IsReady old → Serves (call_input c w resource from) → (e : Effect) → r ≡ Ok e → HasKeysOf (known old.store).tables.resource e) → FitsTicket by → IsBusy old.txns.opens r key by
@@ -141,7 +154,7 @@ module _ {D : Type 0} (state : D → DiskState) (old : Branches D) (c : Caller) 
               subst (λ (s : Step). Answers state old old (call_input c w resource from) (Ok s)) (sym e)
               (answers_still state old (call_input c w resource from) up (tells c (act.Busy c.xid c.call key by) (called.Busy key by))
               (λ m h. rows_as m h b.effect (Some (key, by)) b.means b.busy) (λ m. refl) (λ m now. refl)
-              (λ ready served. told_framed c (act.Busy c.xid c.call key by) (called.Busy key by) (call_within c w resource served.framable)
+              (λ ready served. told_framed c (act.Busy c.xid c.call key by) (called.Busy key by) (call_within c w resource served)
               (busy_told (known old.store).tables.resource key by ready.knows.resource (busy_key (known old.store).tables.resource old.txns.opens b.effect key by (keys ready served b.effect b.means) b.busy) few)))
 
           -- a ticket is opened

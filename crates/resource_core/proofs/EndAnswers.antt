@@ -98,7 +98,7 @@ module _ {D : Type 0} (state : D → DiskState) (old : Branches D) (s : Store D)
   clears_ok a step is gives leaves = λ manager call from.
       answers_ok state old (commit_input leg from manager call) (commit_step x b) as_they_are (durable.Cleared leg.xid leg.branch) (with_store old s) up (λ P a opens all. all) (committed leg) a step is
       (λ m h. commits state old leg from manager call m (undo_of m.left.records x b) refl) gives leaves refl (settings_stay old s)
-      (λ ready served. let few = leg_framed leg.xid leg.branch kind.At manager call served.framable.layout in commit_framed x b few.0 few.1 a)
+      (λ ready served. let few = leg_framed leg.xid leg.branch kind.At manager call served.layout in commit_framed x b few.0 few.1 a)
 
   pub clears_err : (e : StoreError) (error : NodeError) → error ≡ node_error (durable.Cleared leg.xid leg.branch) e → GivesBy state (committed leg) (Err e) old.store s
       → Leaves {A = Committed} state (Err e) old.store s → (manager call : ℕ) → Hears state old (with_store old s) (message.BranchCommit leg.xid leg.branch kind.At manager call) (Err error)
@@ -122,7 +122,7 @@ module _ {D : Type 0} (state : D → DiskState) (old : Branches D) (s : Store D)
     undoes_ok a step is gives leaves = λ from.
         answers_ok state old (rollback_input leg from manager call) (rollback_step x b) as_they_are flight (with_store old s) up (λ P a opens all. all) (rolled_back leg old.txns.opens) a step is
         (undo_rule from) gives leaves refl (settings_stay old s)
-        (λ ready served. let few = back_framed leg.xid leg.branch kind.At manager call served.framable.layout in rollback_framed x b few.0 few.1 a)
+        (λ ready served. let few = back_framed leg.xid leg.branch kind.At manager call served.layout in rollback_framed x b few.0 few.1 a)
 
     pub undoes_err : (e : StoreError) (error : NodeError) → error ≡ node_error flight e → GivesBy state (rolled_back leg old.txns.opens) (Err e) old.store s
         → Leaves {A = Rolled} state (Err e) old.store s → Hears state old (with_store old s) (message.BranchRollback leg.xid leg.branch kind.At manager call) (Err error)
@@ -138,7 +138,7 @@ module _ {D : Type 0} (state : D → DiskState) (old : Branches D) (s : Store D)
     confirms_ok a step is told gives leaves = λ from.
         answers_ok state old (confirm_input leg from manager call) (confirm_step x b) as_they_are (durable.Confirmed leg.xid leg.branch) (with_store old s) up (λ P a opens all. all) (confirmed leg action) a step is
         (λ m h. confirms state old leg from manager call m action here (on_confirm (fence m.left.records x b)) refl) gives leaves refl (settings_stay old s)
-        (λ ready served. let few = leg_framed leg.xid leg.branch kind.Tcc manager call served.framable.layout in confirm_framed x b few.0 few.1 a (λ index fault same.
+        (λ ready served. let few = leg_framed leg.xid leg.branch kind.Tcc manager call served.layout in confirm_framed x b few.0 few.1 a (λ index fault same.
         fault_counted (known old.store).tables (tables_within (known old.store) ready.knows) ready.knows.resource action.confirms (action_within old.actions manager call action ready.actions here).confirms index fault
         (confirm_fault leg (effect (known old.store).tables action.confirms) (on_confirm (fence_at (known old.store).fences leg)) index fault (sym told ∙ same))))
 
@@ -161,7 +161,7 @@ module _ {D : Type 0} (state : D → DiskState) (old : Branches D) (s : Store D)
       cancels_ok a step is told gives leaves = λ from.
           answers_ok state old (cancel_input leg from manager call) (cancel_step x b) as_they_are flight (with_store old s) up (λ P a opens all. all) (cancelled leg action) a step is
           (cancel_rule from) gives leaves refl (settings_stay old s)
-          (λ ready served. let few = back_framed leg.xid leg.branch kind.Tcc manager call served.framable.layout in cancel_framed x b few.0 few.1 a (λ index fault same.
+          (λ ready served. let few = back_framed leg.xid leg.branch kind.Tcc manager call served.layout in cancel_framed x b few.0 few.1 a (λ index fault same.
           fault_counted (known old.store).tables (tables_within (known old.store) ready.knows) ready.knows.resource action.cancels (action_within old.actions manager call action ready.actions here).cancels index fault
           (cancel_fault leg (effect (known old.store).tables action.cancels) (on_cancel (fence_at (known old.store).fences leg)) index fault (sym told ∙ same))))
 

@@ -158,7 +158,7 @@ module _ {D : Type 0} (state : D → DiskState) (old : Branches D) (s : Store D)
   grants_ok here a step is gives leaves tickets = λ xid from.
       answers_ok state old (grant_input t xid from branch) (granted_step c.manager c.xid.0 c.call branch.0 t) (after_grant t) (durable.Committed c.xid branch t) (with_both old s ts) up (kept_grants t)
       (granted leg (open_at old.txns.opens t)) a step is (at_rule here xid from) gives leaves (tickets ∙ at_tickets t a old.txns) (both_stay old s ts)
-      (λ ready served. granted_framed c (caller_within (known old.store).tables old.txns.opens t c kind.At ready.tickets here) branch (granted_few t xid branch served.framable.layout) t a)
+      (λ ready served. granted_framed c (caller_within (known old.store).tables old.txns.opens t c kind.At ready.tickets here) branch (granted_few t xid branch served.layout) t a)
 
   pub grants_err : (here : caller_at (open_at old.txns.opens t) ≡ Some (c, kind.At)) (e : StoreError) (error : NodeError) → error ≡ node_error (durable.Committed c.xid branch t) e
       → GivesBy state (granted leg (open_at old.txns.opens t)) (Err e) old.store s → Leaves {A = Granted} state (Err e) old.store s → ts ≡ old.txns
@@ -213,7 +213,7 @@ module _ {D : Type 0} (state : D → DiskState) (old : Branches D) (s : Store D)
   tries_with later here a step told is gives leaves tickets = λ xid from.
       answers_ok state old (grant_input t xid from branch) (try_step c.manager c.xid.0 c.call branch.0 t) (after_try t) (durable.Tried c.xid branch t) (with_both old s later) up (kept_tries t)
       (tcc.granted leg (open_at old.txns.opens t)) a step is (try_rule here xid from) gives leaves tickets (both_stay old s later)
-      (λ ready served. try_framed c (caller_within (known old.store).tables old.txns.opens t c kind.Tcc ready.tickets here) branch (granted_few t xid branch served.framable.layout) t a
+      (λ ready served. try_framed c (caller_within (known old.store).tables old.txns.opens t c kind.Tcc ready.tickets here) branch (granted_few t xid branch served.layout) t a
       (λ cause same. try_cause ready here cause (sym told ∙ same)))
 
   -- a refusal changed nothing yet

@@ -29,3 +29,4 @@ pub mod NodeRestarted
 pub mod FramingLaws
 pub mod KeyFrames
 pub mod NodeOpened
+pub mod StatementLaws

@@ -36,7 +36,7 @@ use Rattle.resource_core.specs.declared.callers.Caller.{Caller}
 use Rattle.record_places.specs.Laws.{HasKeysOf}
 use Rattle.record_places.proofs.EffectLaws.{effects_have_keys}
 use Rattle.resource_core.proofs.FramingLaws.{IsCause, fault_cause}
-use Rattle.resource_core.proofs.CallLaws.{call_within, owner_is, call_input, refused, busy, opened}
+use Rattle.resource_core.proofs.CallLaws.{call_within, work_within, owner_is, call_input, refused, busy, opened}
 use Rattle.resource_core.proofs.LocalRules.{effect_known, local_refused, local_busy, local_opened}
 use Rattle.resource_core.proofs.ReadyLaws.{local_within, rows_of_effect, tables_within}
 use Rattle.resource_core.proofs.TicketSteps.{answers_not}
@@ -152,7 +152,7 @@ module _ {D : Type 0} (state : D → DiskState) (old : Branches D) (ts : Tickets
   at_within c stmts pos t e named means ready resource from served =
       subst (λ (w : Owner). IsTicketWithin (known old.store).tables (opening_of t w e)) (sym (owner_is c.xid.0 c.manager c.call (work.At stmts) pos)) (record {
         named = named;
-        owned = (call_within c (work.At stmts) resource served.framable, rows_of_effect (known old.store).tables (tables_within (known old.store) ready.knows) stmts served.work t (OfCall c.manager c.xid.0 c.call (work.At stmts)) e means);
+        owned = (call_within c (work.At stmts) resource served, rows_of_effect (known old.store).tables (tables_within (known old.store) ready.knows) stmts (work_within c (work.At stmts) resource served) t (OfCall c.manager c.xid.0 c.call (work.At stmts)) e means);
       })
 
   pub tcc_within : (c : Caller) (action : Action) → 0 < c.xid.0 → (t : Ticket) (e : Effect) → FitsTicket t → ◌≡◌ {A = Result Effect (ℕ × StmtError)} (Ok no_effect) (Ok e) → IsReady old → (resource : ℕ) (from : _)
@@ -160,7 +160,7 @@ module _ {D : Type 0} (state : D → DiskState) (old : Branches D) (ts : Tickets
   tcc_within c action pos t e named means ready resource from served =
       subst (λ (w : Owner). IsTicketWithin (known old.store).tables (opening_of t w e)) (sym (owner_is c.xid.0 c.manager c.call (work.Tcc action) pos)) (record {
         named = named;
-        owned = (call_within c (work.Tcc action) resource served.framable, served.work);
+        owned = (call_within c (work.Tcc action) resource served, work_within c (work.Tcc action) resource served);
       })
 
   -- ---- that what is answered to calls can be told
@@ -168,11 +168,11 @@ module _ {D : Type 0} (state : D → DiskState) (old : Branches D) (ts : Tickets
   pub at_faults : (c : Caller) (stmts : List Stmt) (index : ℕ) (fault : StmtError) → effect (known old.store).tables stmts ≡ Err (index, fault) → IsReady old → (resource : ℕ) (from : _) → Serves (call_input c (work.At stmts) resource from)
       → IsCause (why.Stmt index fault)
   at_faults c stmts index fault means ready resource from served =
-      fault_cause (known old.store).tables (tables_within (known old.store) ready.knows) ready.knows.resource stmts served.work index fault means
+      fault_cause (known old.store).tables (tables_within (known old.store) ready.knows) ready.knows.resource stmts (work_within c (work.At stmts) resource served) index fault means
 
   pub at_keys : (c : Caller) (stmts : List Stmt) (e : Effect) → effect (known old.store).tables stmts ≡ Ok e → IsReady old → (resource : ℕ) (from : _) → Serves (call_input c (work.At stmts) resource from)
       → HasKeysOf (known old.store).tables.resource e
-  at_keys c stmts e means ready resource from served = effects_have_keys (known old.store).tables stmts e (tables_within (known old.store) ready.knows) served.work.each means
+  at_keys c stmts e means ready resource from served = effects_have_keys (known old.store).tables stmts e (tables_within (known old.store) ready.knows) (work_within c (work.At stmts) resource served).each means
 
   pub tcc_faults : (c : Caller) (action : Action) (index : ℕ) (fault : StmtError) → ◌≡◌ {A = Result Effect (ℕ × StmtError)} (Ok no_effect) (Err (index, fault)) → IsReady old → (resource : ℕ) (from : _)
       → Serves (call_input c (work.Tcc action) resource from) → IsCause (why.Stmt index fault)

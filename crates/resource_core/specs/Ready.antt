@@ -5,8 +5,6 @@ use Rattle.std.specs.List.{AllByRecursion}
 use Rattle.seata_types.specs.declared.limits.TheConstants.{CALLS, RESOURCES, STATEMENTS}
 use Rattle.seata_types.specs.declared.messages.Input.{Input}
 use Rattle.seata_types.specs.declared.messages.Input.TheVariants as input
-use Rattle.seata_types.specs.declared.messages.Message.{Message}
-use Rattle.seata_types.specs.declared.messages.Message.TheVariants as message
 use Rattle.seata_types.specs.declared.statements.Action.{Action}
 use Rattle.seata_types.specs.declared.statements.Stmt.{Stmt}
 use Rattle.seata_types.specs.declared.statements.Work.{Work}
@@ -98,17 +96,8 @@ abbrev pub ServesWork : Work → Type 0
 ServesWork (work.At stmts) = AreStmtsWithin stmts
 ServesWork (work.Tcc action) = AreStmtsWithin action.tries
 
--- the statements of a call have places
-abbrev pub HasWork : Message → Type 0
-HasWork (message.Call xid manager resource call asked) = ServesWork asked
-HasWork _ = Unit {0}
-
--- a message that can be framed
-pub record ServesMessage (heard : Message) : Type 0 where
-  pub framable : IsFramable heard
-  pub work : HasWork heard
-
+-- a message that can be framed, and a local transaction with a number of a scenario's
 abbrev pub Serves : Input → Type 0
-Serves (input.Message from heard) = ServesMessage heard
+Serves (input.Message from heard) = IsFramable heard
 Serves (input.Local k) = k < 2 ^ 16
 Serves _ = Unit {0}

@@ -27,7 +27,8 @@ impl<D: Disk> Branches<D> {
     ghost use Rattle.local_txn.specs.OpenTickets.{Open, last_of, open_at};
     ghost use Rattle.local_txn.specs.Answers.{ticket_of};
     ghost use Rattle.resource_core.specs.Stepping.{Answers, Hears, asks_of};
-    ghost use Rattle.resource_core.specs.Ready.{IsReady, Serves, ServesMessage};
+    ghost use Rattle.resource_core.specs.Ready.{IsReady, Serves};
+    ghost use Rattle.frame_codec.specs.Limits.{IsFramable};
 
     /// Answers an input by the rules.
     pub fn answer(&mut self, alloc: Global, given: &Input) -> Result<Step, NodeError>
@@ -46,7 +47,7 @@ impl<D: Disk> Branches<D> {
     // Answers a message, wherever it came from.
     fn hear(&mut self, alloc: Global, message: &Message) -> Result<Step, NodeError>
         requires ready { IsReady self.old }
-        requires served { ServesMessage message.now }
+        requires served { IsFramable message.now }
         ensures { Hears D.state self.old self.new message.now result }
     {
         match message {

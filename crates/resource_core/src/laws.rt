@@ -1,5 +1,5 @@
-//! What a resource's answers leave of what it is ready for.
-ghost use Rattle.resource_core.specs.Laws.{StaysReady};
+//! What a resource's answers leave of what it is ready for; which statements it may be given.
+ghost use Rattle.resource_core.specs.Laws.{StaysReady, StatementsHavePlaces};
 ghost use Rattle.resource_core.specs.Standing.{AnswersAreSteps, FailuresAreSteps};
 
 use disk_model::Disk;
@@ -14,4 +14,9 @@ pub fn resources_stay_ready<D: Disk>()
 pub fn answers_are_what_happens<D: Disk>()
     ensures steps { AnswersAreSteps D.state }
     ensures failures { FailuresAreSteps D.state }
+{}
+
+/// Statements that can be framed, no more than a call has, write values that have places in a record.
+pub fn statements_have_places()
+    ensures { StatementsHavePlaces }
 {}

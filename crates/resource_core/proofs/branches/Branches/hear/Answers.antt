@@ -1,18 +1,19 @@
 use Rattle.std.proofs.Common.{sym, subst}
 use Rattle.seata_types.specs.declared.messages.Message.{Message}
-use Rattle.resource_core.specs.Ready.{ServesMessage}
+use Rattle.frame_codec.specs.Limits.{IsFramable}
 use Rattle.resource_core.specs.Stepping.{Hears}
-use Rattle.resource_core.proofs.CallLaws.{call_within}
+use Rattle.resource_core.proofs.CallLaws.{call_within, work_within}
 use Rattle.resource_core.proofs.TurnLaws.{others, ignores}
 use Rattle.resource_core.proofs.branches.Branches.hear.Goals as goal
 
 pub call-requires-clause-counted : goal.call-requires-clause-counted
 call-requires-clause-counted g c =
-    let served = subst (λ (m : Message). ServesMessage m) c.in-Call.is c.requires.served in
-    (call_within (record { manager = c.in-Call.manager; xid = c.in-Call.xid; call = c.in-Call.call }) c.in-Call.work _ served.framable).counted.0
+    let served = subst (λ (m : Message). IsFramable m) c.in-Call.is c.requires.served in
+    (call_within (record { manager = c.in-Call.manager; xid = c.in-Call.xid; call = c.in-Call.call }) c.in-Call.work _ served).counted.0
 
 pub call-requires-clause-served : goal.call-requires-clause-served
-call-requires-clause-served g c = (subst (λ (m : Message). ServesMessage m) c.in-Call.is c.requires.served).work
+call-requires-clause-served g c =
+    work_within (record { manager = c.in-Call.manager; xid = c.in-Call.xid; call = c.in-Call.call }) c.in-Call.work _ (subst (λ (m : Message). IsFramable m) c.in-Call.is c.requires.served)
 
 pub returns-in-Call : goal.returns-in-Call
 returns-in-Call g c = subst (λ (m : Message). Hears g.D.Disk.state c.args.self.now c.call.new.self m c.call.result) (sym c.in-Call.is) (c.call.ensures _)
