@@ -3,7 +3,7 @@ use Rattle.std.proofs.Common.{◌≡◌, ◌==◌, ◌&&◌, ◌||◌, ◌<◌, 
 use Rattle.std.specs.Prelude.{find, filter, option_map, nat_lt}
 use Rattle.std.proofs.lemmas.Bool.Decides.{nat_tests}
 use Rattle.history_rules.specs.CoordinatorMemory.{or_this, least, sooner, soonest}
-use Rattle.retry_turns.specs.Plans.{goes_before, Plans}
+use Rattle.retry_turns.specs.Plans.{goes_before, moment_of, Plans}
 use Rattle.session_log.specs.SnapshotOf.{in_order}
 use Rattle.session_memory.specs.Lookups.{or_else, xid_of}
 use Rattle.session_memory.specs.Order.{Each}
@@ -11,7 +11,7 @@ use Rattle.session_memory.proofs.Small.{true_false, none_some, same_nat}
 use Rattle.session_memory.proofs.Lists.{AreCounted, find_both, and_false}
 use Rattle.session_log.specs.declared.sessions.SessionEntry.{SessionEntry}
 use Rattle.session_memory.specs.Changes.{is_finished}
-use Rattle.coordinator_core.specs.Choices.{is_old_entry}
+use Rattle.coordinator_core.specs.Choices.{is_by, is_old_entry}
 
 -- ---- the least that passes
 
@@ -130,3 +130,16 @@ pub never_old : (rests : Plans) (forget now : ℕ) (es : List SessionEntry) → 
 never_old rests zero now es e =
     sym (ap (option_map xid_of) (none_passes (is_old_entry rests 0 now) (λ t. and_false (is_finished t.session.status) false refl) es))
 never_old rests (suc forget) now es e = absurd (omega (arith, e))
+
+-- ---- nor where none rests for so long
+
+resting_by : (o : Option ℕ) (forget now : ℕ) → ((n : ℕ) → o ≡ Some n → now < n + forget) → is_by forget now o ≡ false
+resting_by None forget now young = refl
+resting_by (Some since) forget now young = let late : now < since + forget = young since refl in grind (arith, nat_tests, late)
+
+pub none_old : (rests : Plans) (forget now : ℕ) (es : List SessionEntry) → ((x n : ℕ) → moment_of rests x ≡ Some n → now < n + forget) → None ≡ option_map xid_of (find (is_old_entry rests forget now) es)
+none_old rests forget now es young = sym (ap (option_map xid_of) (none_passes (is_old_entry rests forget now) is_young es))
+  where
+    is_young : (t : SessionEntry) → is_old_entry rests forget now t ≡ false
+    is_young t =
+        and_false (is_finished t.session.status) _ (and_false (nat_lt 0 forget) _ (resting_by (moment_of rests t.xid.0) forget now (young t.xid.0)))

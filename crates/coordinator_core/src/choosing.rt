@@ -8,8 +8,8 @@ ghost use Rattle.session_memory.specs.Changes.{is_begin};
 ghost use Rattle.coordinator_core.specs.Choices.{is_late_entry, is_old_entry, is_unended_entry, is_by, last_open, nobody, has_passed};
 
 use crate::kinds;
-use crate::rests::Rests;
 use lock_table::{LockTable, Steps};
+use retry_turns::Turns;
 use seata_types::{Duplicate, NoMemory, RowKey, Xid};
 use session_log::{Branch, Session, SessionEntry};
 use std::alloc::Global;
@@ -50,16 +50,16 @@ fn is_by(since: Option<u64>, forget: u64, now: u64) -> bool
     }
 }
 
-fn is_old(entry: &SessionEntry, rests: &Rests, forget: u64, now: u64) -> bool
+fn is_old(entry: &SessionEntry, rests: &Turns, forget: u64, now: u64) -> bool
     ensures { result ≡ is_old_entry rests.now forget now entry.now }
 {
-    kinds::is_finished(entry.session.status) && is_by(rests.since(entry.xid), forget, now)
+    kinds::is_finished(entry.session.status) && is_by(rests.moment(entry.xid), forget, now)
 }
 
 /// The first transaction that rests for so long that it is forgotten; none where `forget` is 0.
 pub(crate) fn least_old(
     sessions: &[SessionEntry],
-    rests: &Rests,
+    rests: &Turns,
     forget: u64,
     now: u64,
 ) -> Option<Xid>
@@ -68,6 +68,12 @@ pub(crate) fn least_old(
     if forget == 0 {
         return None;
     }
+    if now < forget {
+        return None;
+    }
+    let Some(_) = rests.next_due(now - forget) else {
+        return None;
+    };
     for entry in sessions {
         if is_old(entry, rests, forget, now) {
             return Some(entry.xid);

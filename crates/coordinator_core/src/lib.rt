@@ -10,7 +10,6 @@ mod moments;
 pub mod nodes;
 mod questions;
 mod registering;
-mod rests;
 mod starting;
 mod table;
 mod turning;

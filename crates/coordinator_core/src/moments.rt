@@ -1,15 +1,15 @@
 //! The moments that a coordinator goes by.
-use crate::rests::Rests;
 use durable_records::SessionRecord;
 use retry_turns::Turns;
 use seata_types::{NoMemory, Xid};
 use std::alloc::Global;
 
-/// The transactions in their second phase, each planned for the moment at which it is due, and the finished ones.
+/// The transactions in their second phase, each planned for the moment at which it is due, and the finished ones, each with the
+/// moment since which it rests.
 #[derive(Drop)]
 pub struct Moments {
     pub turns: Turns,
-    pub rests: Rests,
+    pub rests: Turns,
 }
 
 impl Moments {
@@ -24,7 +24,7 @@ impl Moments {
     {
         Moments {
             turns: Turns::new(alloc),
-            rests: Rests::new(alloc),
+            rests: Turns::new(alloc),
         }
     }
 
@@ -35,7 +35,7 @@ impl Moments {
     {
         match item {
             SessionRecord::Decided { xid, .. } => self.turns.plan(*xid, now),
-            SessionRecord::Finished { xid } => self.rests.rest(*xid, now),
+            SessionRecord::Finished { xid } => self.rests.plan(*xid, now),
             _ => Ok(()),
         }
     }

@@ -67,7 +67,7 @@ fn start(moments: &mut Moments, entry: &SessionEntry, now: u64) -> Result<(), No
         return moments.turns.plan(entry.xid, now);
     }
     if kinds::is_finished(status) {
-        return moments.rests.rest(entry.xid, now);
+        return moments.rests.plan(entry.xid, now);
     }
     Ok(())
 }

@@ -1,6 +1,6 @@
 //! The plans, each a transaction with the moment at which it is due.
 ghost use Rattle.std.specs.Prelude.{◌≡◌, [], OnOk, OnErr, IsTrue, IsOk};
-ghost use Rattle.retry_turns.specs.Plans.{TellsDue, is_planned, with_plan, without_plan};
+ghost use Rattle.retry_turns.specs.Plans.{TellsDue, moment_of, is_planned, with_plan, without_plan};
 
 use crate::queue;
 use crate::queue::Queue;
@@ -64,6 +64,13 @@ impl Turns {
     {
         self.moments.remove(&xid.0);
         queue::settle(&mut self.queue, &self.moments);
+    }
+
+    /// The moment for which a transaction is planned, where it is; takes no memory.
+    pub fn moment(&self, xid: Xid) -> Option<u64>
+        ensures { result ≡ moment_of self.now xid.0 }
+    {
+        self.moments.get(&xid.0).copied()
     }
 
     /// The transaction whose moment is the least of those that have come by `now`, of several with that moment the one with
