@@ -1,10 +1,10 @@
 -- Blank disks stand for no records, for the crates above.
-use Rattle.std.proofs.Common.{◌≡◌, ◌+◌, ◌-◌, ◌<◌, ◌≤◌, ◌^◌, ℕ, zero, suc, false, List, [], ◌∷◌, drop, None, refl, ap, subst, sym, ◌∙◌, arith}
+use Rattle.std.proofs.Common.{◌≡◌, ◌+◌, ◌-◌, ◌<◌, ◌≤◌, ℕ, zero, suc, false, List, [], drop, None, refl, ap, ◌∙◌, arith}
 use Rattle.std.specs.Prelude.{replicate, Ok}
 use Rattle.disk_journal.specs.Reading.{found, reading, reading_from}
 use Rattle.journal_checkpoint.specs.declared.types.Found.{Found}
 use Rattle.journal_checkpoint.specs.declared.types.Head.TheVariants as head
-use Rattle.journal_checkpoint.specs.Pairs.{active_of, held, held_by, head_in, head_of, is_active, pair_reading, with_records}
+use Rattle.journal_checkpoint.specs.Pairs.{active_of, held_by, head_in, head_of, is_active, pair_reading, with_records}
 use Rattle.journal_checkpoint.specs.Images.{PairStandsFor}
 use Rattle.session_store.specs.Standing.{StandsForSessions}
 
