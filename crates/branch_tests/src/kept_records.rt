@@ -18,7 +18,7 @@ const OLD_READS: [u8; 29] = [
 ];
 
 // The bytes that a copy of the record of these bytes is written as: none where they are no record.
-pub fn again(alloc: Global, bytes: &[u8]) -> Option<Vec<u8>> {
+fn again(alloc: Global, bytes: &[u8]) -> Option<Vec<u8>> {
     match read_record(alloc, bytes) {
         Ok(record) => written_copy(alloc, record),
         Err(_) => None,
@@ -54,6 +54,12 @@ fn is_refused(alloc: Global, bytes: &[u8]) -> bool {
     }
 }
 
+// Whether these parts are refused as no record.
+fn is_no_record(alloc: Global, parts: &[&[u8]]) -> Result<bool, Fail> {
+    let bytes = joined(alloc, parts)?;
+    Ok(is_refused(alloc, &bytes))
+}
+
 // Whether these parts are a record that is written as the others.
 fn is_written_as(alloc: Global, read: &[&[u8]], written: &[&[u8]]) -> Result<bool, Fail> {
     let bytes = joined(alloc, read)?;
@@ -62,16 +68,6 @@ fn is_written_as(alloc: Global, read: &[&[u8]], written: &[&[u8]]) -> Result<boo
         Some(found) => found == wanted,
         None => false,
     })
-}
-
-#[test]
-fn a_record_of_a_boot(rt: HostRuntime) -> Result<(), Fail> {
-    let boot = ResourceRecord::Boot { number: 1 };
-    let Ok(bytes) = write_record(rt.alloc(), &boot) else {
-        return Err(Fail::from("no memory"));
-    };
-    assert_eq!(rt; bytes.as_slice(), [1, 0, 0, 0, 1].as_slice());
-    Ok(())
 }
 
 #[test]
@@ -133,8 +129,7 @@ fn bytes_that_are_no_record(rt: HostRuntime) -> Result<(), Fail> {
         [&[23], &LEG, &OLD_IMAGES],
         [&[7], &LEG, &IMAGES],
     ] {
-        let bytes = joined(rt.alloc(), &parts)?;
-        assert!(rt; is_refused(rt.alloc(), &bytes));
+        assert!(rt; is_no_record(rt.alloc(), &parts)?);
     }
     Ok(())
 }

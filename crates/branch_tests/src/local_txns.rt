@@ -1,19 +1,12 @@
 //! Local transactions opened, found by ticket, call and row, sent again, counted, taken out and withdrawn.
 ghost use Rattle.std.specs.Prelude.{◌≡◌, ◌≤◌, ◌+◌};
 
-use crate::samples::{insertion, nothing, tables, text};
+use crate::samples::{key, nothing, statements, tables};
+use local_tables::Tables;
 use local_txn::{ExecError, LocalTxns};
-use seata_types::{Action, List, RowKey, Ticket, Value, Xid};
+use seata_types::{Action, RowKey, Ticket, Value, Xid};
 use std::alloc::Global;
 use std::test::Fail;
-
-fn key(alloc: Global, number: i64) -> Result<RowKey, Fail> {
-    Ok(RowKey {
-        resource: 1,
-        table: text(alloc, "acc")?,
-        pk: List::of(Vec::from_array(alloc, [Value::Int(number)])?),
-    })
-}
 
 fn ticket(seq: u32) -> Ticket {
     Ticket { boot: 3, seq }
@@ -44,31 +37,35 @@ fn told(answer: &Result<Ticket, ExecError>) -> Answered {
     }
 }
 
-/// Call 1 of a transaction, which puts the rows with these keys into a table without rows.
+/// Call 1 of a transaction, which does this to a table without rows.
 fn execute(
     alloc: Global,
     txns: &mut LocalTxns,
+    tables: &Tables,
     xid: u64,
-    first: i64,
-    second: i64,
+    words: &str,
 ) -> Result<Answered, Fail>
     requires { txns.old.opened ≤ 100 }
     ensures { txns.new.opened ≤ txns.old.opened + 1 }
 {
-    let tables = tables(alloc)?;
-    let stmts = insertion(alloc, &[(first, 0), (second, 0)])?;
-    let answer = txns.execute(alloc, Xid(xid), 1, 1, stmts.as_slice(), &tables);
+    let stmts = statements(alloc, words)?;
+    let answer = txns.execute(alloc, Xid(xid), 1, 1, stmts.as_slice(), tables);
     Ok(told(&answer))
 }
 
 /// Call 1 of a transaction, whose opening is taken back at once: the number of its ticket.
-fn execute_and_withdraw(alloc: Global, txns: &mut LocalTxns, xid: u64) -> Result<u32, Fail>
+fn execute_and_withdraw(
+    alloc: Global,
+    txns: &mut LocalTxns,
+    tables: &Tables,
+    xid: u64,
+    words: &str,
+) -> Result<u32, Fail>
     requires { txns.old.opened ≤ 100 }
     ensures { txns.new.opened ≤ txns.old.opened + 1 }
 {
-    let tables = tables(alloc)?;
-    let stmts = insertion(alloc, &[(8, 0), (9, 0)])?;
-    match txns.execute(alloc, Xid(xid), 1, 1, stmts.as_slice(), &tables) {
+    let stmts = statements(alloc, words)?;
+    match txns.execute(alloc, Xid(xid), 1, 1, stmts.as_slice(), tables) {
         Ok(ticket) => {
             txns.withdraw(ticket);
             Ok(ticket.seq)
@@ -108,62 +105,186 @@ fn conflicts(txns: &LocalTxns, seq: u32) -> Option<u32> {
     }
 }
 
+/// The ticket that has the row with this key.
+fn holder(alloc: Global, txns: &LocalTxns, number: i64) -> Result<Option<Ticket>, Fail> {
+    let key = key(alloc, number)?;
+    Ok(txns.holder(&key))
+}
+
+/// Whether calls open tickets, but for the second, whose row is busy, and the third, which has no meaning.
+fn opens(alloc: Global, txns: &mut LocalTxns, tables: &Tables) -> Result<bool, Fail>
+    requires { txns.old.opened ≤ 90 }
+{
+    Ok(
+        execute(
+            alloc,
+            txns,
+            tables,
+            1,
+            "INSERT INTO acc (id, m) VALUES (1, 0), (4, 0)",
+        )? == Answered::Opened(1)
+            && execute(
+                alloc,
+                txns,
+                tables,
+                2,
+                "INSERT INTO acc (id, m) VALUES (2, 0), (4, 0)",
+            )? == Answered::Busy(4, 1)
+            && execute(
+                alloc,
+                txns,
+                tables,
+                2,
+                "INSERT INTO acc (id, m) VALUES (7, 0), (7, 0)",
+            )? == Answered::Refused(1)
+            && execute(
+                alloc,
+                txns,
+                tables,
+                2,
+                "INSERT INTO acc (id, m) VALUES (2, 0), (3, 0)",
+            )? == Answered::Opened(2)
+            && execute(
+                alloc,
+                txns,
+                tables,
+                0,
+                "INSERT INTO acc (id, m) VALUES (5, 0), (6, 0)",
+            )? == Answered::Opened(3)
+            && prepare(alloc, txns, 4)? == ticket(4),
+    )
+}
+
+/// Whether these tickets are found by rows and by calls.
+fn finds(alloc: Global, txns: &LocalTxns) -> Result<bool, Fail> {
+    Ok(
+        holder(alloc, txns, 3)? == Some(ticket(2))
+            && holder(alloc, txns, 7)?.is_none()
+            && txns.find_call(Xid(2), 1) == Some(ticket(2))
+            && txns.find_call(Xid(0), 1) == Some(ticket(3))
+            && txns.find_call(Xid(2), 2).is_none(),
+    )
+}
+
+/// Whether the ticket that was sent last, or never, is the next to be sent.
+fn sends(alloc: Global, txns: &mut LocalTxns, tables: &Tables) -> Result<bool, Fail>
+    requires { txns.old.opened ≤ 90 }
+{
+    if txns.next_to_send().is_some() {
+        return Ok(false);
+    }
+    let first = execute(
+        alloc,
+        txns,
+        tables,
+        1,
+        "INSERT INTO acc (id, m) VALUES (1, 0), (4, 0)",
+    )?;
+    let second = execute(
+        alloc,
+        txns,
+        tables,
+        2,
+        "INSERT INTO acc (id, m) VALUES (2, 0), (3, 0)",
+    )?;
+    if first != Answered::Opened(1) || second != Answered::Opened(2) {
+        return Ok(false);
+    }
+    let next = txns.next_to_send();
+    txns.sent(ticket(1));
+    Ok(next == Some(ticket(1)) && txns.next_to_send() == Some(ticket(2)))
+}
+
+/// Whether conflicts are counted for the open ticket that met them.
+fn counts(txns: &mut LocalTxns) -> bool {
+    txns.conflicted(ticket(2)) == Some(1)
+        && txns.conflicted(ticket(2)) == Some(2)
+        && txns.conflicted(ticket(3)).is_none()
+        && conflicts(txns, 1) == Some(0)
+        && conflicts(txns, 2) == Some(2)
+        && conflicts(txns, 3).is_none()
+}
+
+/// Whether the rows of a ticket that was taken out are free again, and the number of one that was withdrawn too.
+fn gives_back(alloc: Global, txns: &mut LocalTxns, tables: &Tables) -> Result<bool, Fail>
+    requires { txns.old.opened ≤ 90 }
+{
+    let first = execute(
+        alloc,
+        txns,
+        tables,
+        1,
+        "INSERT INTO acc (id, m) VALUES (1, 0), (4, 0)",
+    )?;
+    if first != Answered::Opened(1) || !take(txns, 1) || take(txns, 1) {
+        return Ok(false);
+    }
+    Ok(
+        execute(
+            alloc,
+            txns,
+            tables,
+            2,
+            "INSERT INTO acc (id, m) VALUES (4, 0), (5, 0)",
+        )? == Answered::Opened(2)
+            && execute_and_withdraw(
+                alloc,
+                txns,
+                tables,
+                3,
+                "INSERT INTO acc (id, m) VALUES (8, 0), (9, 0)",
+            )? == 3
+            && execute(
+                alloc,
+                txns,
+                tables,
+                4,
+                "INSERT INTO acc (id, m) VALUES (8, 0), (9, 0)",
+            )? == Answered::Opened(3)
+            && holder(alloc, txns, 8)? == Some(ticket(3)),
+    )
+}
+
+/// What a test is of.
+#[derive(Clone, Copy)]
+enum Case {
+    Answers,
+    Order,
+    Withdrawal,
+}
+
+/// Whether what a case is of holds.
+fn holds_in(alloc: Global, txns: &mut LocalTxns, tables: &Tables, case: Case) -> Result<bool, Fail>
+    requires { txns.old.opened ≤ 90 }
+{
+    match case {
+        Case::Answers => Ok(opens(alloc, txns, tables)? && finds(alloc, txns)?),
+        Case::Order => Ok(sends(alloc, txns, tables)? && counts(txns)),
+        Case::Withdrawal => gives_back(alloc, txns, tables),
+    }
+}
+
+/// The same from no local transactions on, and over a table without rows.
+fn holds(alloc: Global, case: Case) -> Result<bool, Fail> {
+    let tables = tables(alloc)?;
+    let mut txns = LocalTxns::new(alloc, 3);
+    holds_in(alloc, &mut txns, &tables, case)
+}
+
 #[test]
 fn answers_by_rows_calls_and_tickets(rt: HostRuntime) -> Result<(), Fail> {
-    let mut txns = LocalTxns::new(rt.alloc(), 3);
-    let first = execute(rt.alloc(), &mut txns, 1, 1, 4)?;
-    assert!(rt; first == Answered::Opened(1));
-    let busy = execute(rt.alloc(), &mut txns, 2, 2, 4)?;
-    assert!(rt; busy == Answered::Busy(4, 1));
-    let refused = execute(rt.alloc(), &mut txns, 2, 7, 7)?;
-    assert!(rt; refused == Answered::Refused(1));
-    let second = execute(rt.alloc(), &mut txns, 2, 2, 3)?;
-    assert!(rt; second == Answered::Opened(2));
-    let local = execute(rt.alloc(), &mut txns, 0, 5, 6)?;
-    assert!(rt; local == Answered::Opened(3));
-    let tried = prepare(rt.alloc(), &mut txns, 4)?;
-    assert!(rt; tried == ticket(4));
-    assert!(rt; txns.holder(&key(rt.alloc(), 3)?) == Some(ticket(2)));
-    assert!(rt; txns.holder(&key(rt.alloc(), 7)?) == None);
-    assert!(rt; txns.find_call(Xid(2), 1) == Some(ticket(2)));
-    assert!(rt; txns.find_call(Xid(0), 1) == Some(ticket(3)));
-    assert!(rt; txns.find_call(Xid(2), 2) == None);
+    assert!(rt; holds(rt.alloc(), Case::Answers)?);
     Ok(())
 }
 
 #[test]
 fn sends_and_counts_in_order(rt: HostRuntime) -> Result<(), Fail> {
-    let mut txns = LocalTxns::new(rt.alloc(), 3);
-    assert!(rt; txns.next_to_send() == None);
-    let first = execute(rt.alloc(), &mut txns, 1, 1, 4)?;
-    assert!(rt; first == Answered::Opened(1));
-    let second = execute(rt.alloc(), &mut txns, 2, 2, 3)?;
-    assert!(rt; second == Answered::Opened(2));
-    assert!(rt; txns.next_to_send() == Some(ticket(1)));
-    txns.sent(ticket(1));
-    assert!(rt; txns.next_to_send() == Some(ticket(2)));
-    assert!(rt; txns.conflicted(ticket(2)) == Some(1));
-    assert!(rt; txns.conflicted(ticket(2)) == Some(2));
-    assert!(rt; txns.conflicted(ticket(3)) == None);
-    assert!(rt; conflicts(&txns, 1) == Some(0));
-    assert!(rt; conflicts(&txns, 2) == Some(2));
-    assert!(rt; conflicts(&txns, 3) == None);
+    assert!(rt; holds(rt.alloc(), Case::Order)?);
     Ok(())
 }
 
 #[test]
 fn gives_rows_and_numbers_back(rt: HostRuntime) -> Result<(), Fail> {
-    let mut txns = LocalTxns::new(rt.alloc(), 3);
-    let first = execute(rt.alloc(), &mut txns, 1, 1, 4)?;
-    assert!(rt; first == Answered::Opened(1));
-    assert!(rt; take(&mut txns, 1));
-    assert!(rt; !take(&mut txns, 1));
-    let second = execute(rt.alloc(), &mut txns, 2, 4, 5)?;
-    assert!(rt; second == Answered::Opened(2));
-    let withdrawn = execute_and_withdraw(rt.alloc(), &mut txns, 3)?;
-    assert_eq!(rt; withdrawn, 3);
-    let again = execute(rt.alloc(), &mut txns, 4, 8, 9)?;
-    assert!(rt; again == Answered::Opened(3));
-    assert!(rt; txns.holder(&key(rt.alloc(), 8)?) == Some(ticket(3)));
+    assert!(rt; holds(rt.alloc(), Case::Withdrawal)?);
     Ok(())
 }

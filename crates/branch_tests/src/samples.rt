@@ -1,8 +1,10 @@
 //! What several tests share: branches, bytes, tables and statements.
 ghost use Rattle.std.specs.Prelude.{◌≡◌, [], length, IfOk};
+ghost use Rattle.branch_tests.specs.Accounts.{account_table, accounts};
 
 use local_tables::{ColType, Schema, TableDef, Tables};
-use seata_types::{BranchId, BranchKind, Expr, Leg, List, Stmt, Term, Text, Value, Xid};
+use seata_types::{BranchId, BranchKind, Leg, List, RowKey, Stmt, Text, Value, Xid};
+use sql_reader::read_stmt;
 use std::alloc::Global;
 use std::test::Fail;
 
@@ -36,24 +38,40 @@ pub fn joined(alloc: Global, parts: &[&[u8]]) -> Result<Vec<u8>, Fail> {
     Ok(all)
 }
 
-pub fn text(alloc: Global, word: &str) -> Result<Text, Fail> {
+pub fn text(alloc: Global, word: &str) -> Result<Text, Fail>
+    ensures { IfOk result (λ text. text ≡ word.now) }
+{
     Ok(Text::of(String::from_str(alloc, word)?))
 }
 
-/// The table acc with the columns id and m, and id as its key.
-pub fn accounts(alloc: Global) -> Result<Schema, Fail> {
-    let columns = [
-        (text(alloc, "id")?, ColType::Int),
-        (text(alloc, "m")?, ColType::Int),
-    ];
-    let table = TableDef {
+/// The key of the row with this number, of the table acc.
+pub fn key(alloc: Global, number: i64) -> Result<RowKey, Fail> {
+    Ok(RowKey {
+        resource: 1,
+        table: text(alloc, "acc")?,
+        pk: List::of(Vec::from_array(alloc, [Value::Int(number)])?),
+    })
+}
+
+fn account_table(alloc: Global) -> Result<TableDef, Fail>
+    ensures { IfOk result (λ def. def ≡ account_table) }
+{
+    let id = (text(alloc, "id")?, ColType::Int);
+    let m = (text(alloc, "m")?, ColType::Int);
+    Ok(TableDef {
         name: text(alloc, "acc")?,
         mode: BranchKind::At,
-        columns: List::of(Vec::from_array(alloc, columns)?),
+        columns: List::of(Vec::from_array(alloc, [id, m])?),
         key: List::of(Vec::from_array(alloc, [0])?),
-    };
+    })
+}
+
+/// The table acc with the columns id and m, and id as its key.
+pub fn accounts(alloc: Global) -> Result<Schema, Fail>
+    ensures { IfOk result (λ schema. schema ≡ accounts) }
+{
     Ok(Schema {
-        tables: List::of(Vec::from_array(alloc, [table])?),
+        tables: List::of(Vec::from_array(alloc, [account_table(alloc)?])?),
     })
 }
 
@@ -69,36 +87,12 @@ pub fn tables(alloc: Global) -> Result<Tables, Fail> {
     Ok(Tables::new(alloc, 1, accounts(alloc)?, nothing(alloc))?)
 }
 
-/// The statement that puts these rows of the table acc in.
-pub fn insertion(alloc: Global, rows: &[(i64, i64)]) -> Result<Vec<Stmt>, Fail>
+/// The one statement that a text is.
+pub fn statements(alloc: Global, words: &str) -> Result<Vec<Stmt>, Fail>
     ensures { IfOk result (λ stmts. length stmts.items ≡ 1) }
 {
-    let columns = [text(alloc, "id")?, text(alloc, "m")?];
-    let mut tuples = Vec::new(alloc);
-    for (id, m) in rows {
-        let cells = Vec::from_array(alloc, [Value::Int(*id), Value::Int(*m)])?;
-        tuples.push(List::of(cells))?;
+    match read_stmt(alloc, words) {
+        Ok(stmt) => Ok(Vec::from_array(alloc, [stmt])?),
+        Err(_) => Err(Fail::from("no statement")),
     }
-    let stmt = Stmt::Insert {
-        table: text(alloc, "acc")?,
-        columns: List::of(Vec::from_array(alloc, columns)?),
-        rows: List::of(tuples),
-    };
-    Ok(Vec::from_array(alloc, [stmt])?)
-}
-
-/// The statement that sets m to 900 in each row of the table acc.
-pub fn update(alloc: Global) -> Result<Vec<Stmt>, Fail>
-    ensures { IfOk result (λ stmts. length stmts.items ≡ 1) }
-{
-    let value = Expr {
-        first: Term::Lit(Value::Int(900)),
-        rest: List::of(Vec::new(alloc)),
-    };
-    let stmt = Stmt::Update {
-        table: text(alloc, "acc")?,
-        sets: List::of(Vec::from_array(alloc, [(text(alloc, "m")?, value)])?),
-        cond: None,
-    };
-    Ok(Vec::from_array(alloc, [stmt])?)
 }

@@ -1,19 +1,9 @@
 //! Entries put, found by branch and by call, listed, and taken out.
-use crate::samples::leg;
-use seata_types::{Image, Leg, List, ReadRow, Row, RowKey, Text, Value, Xid};
+use crate::samples::{key, leg};
+use seata_types::{Duplicate, Image, Leg, List, ReadRow, Row, Value, Xid};
 use std::alloc::Global;
 use std::test::Fail;
 use undo_log::{UndoEntry, UndoError, UndoLog, UndoRecord};
-
-/// The row with this number as key and only cell, of the table `acc`.
-fn key(alloc: Global, number: i64) -> Result<RowKey, Fail> {
-    let parts = Vec::from_array(alloc, [Value::Int(number)])?;
-    Ok(RowKey {
-        resource: 1,
-        table: Text::of(String::from_str(alloc, "acc")?),
-        pk: List::of(parts),
-    })
-}
 
 fn row(alloc: Global, number: i64) -> Result<Row, Fail> {
     let cells = Vec::from_array(alloc, [Value::Int(number)])?;
@@ -39,12 +29,21 @@ fn record(alloc: Global, leg: Leg, call: u16) -> Result<UndoRecord, Fail> {
     })
 }
 
-/// Branch 5 of transaction 1 is marked, and three branches have undo records of calls.
+fn copied(alloc: Global, entry: UndoEntry) -> Result<UndoEntry, Fail> {
+    Ok(entry.copy(alloc)?)
+}
+
+fn copied_record(alloc: Global, record: UndoRecord) -> Result<UndoRecord, Fail> {
+    Ok(record.copy(alloc)?)
+}
+
+/// Branch 5 of transaction 1 is marked, and three branches have undo records of calls, each a copy of a copied record.
 fn filled(alloc: Global) -> Result<UndoLog, Fail> {
     let mut log = UndoLog::new(alloc);
     for (xid, branch, call) in [(2, 4, 1), (1, 3, 2), (1, 2, 2)] {
-        let record = record(alloc, leg(xid, branch), call)?;
-        put(&mut log, leg(xid, branch), UndoEntry::Normal(record))?;
+        let record = copied_record(alloc, record(alloc, leg(xid, branch), call)?)?;
+        let entry = copied(alloc, UndoEntry::Normal(record))?;
+        put(&mut log, leg(xid, branch), entry)?;
     }
     put(&mut log, leg(1, 5), UndoEntry::Finished)?;
     Ok(log)
@@ -70,16 +69,26 @@ fn log_status(log: &UndoLog, leg: Leg) -> Option<u8> {
     }
 }
 
+/// Whether a marked branch takes neither a record nor another marker.
+fn takes_no_record(alloc: Global, log: &mut UndoLog) -> Result<bool, Fail> {
+    Ok(
+        is_taken(alloc, log, leg(1, 5))?
+            && !is_taken(alloc, log, leg(5, 1))?
+            && log_status(log, leg(1, 5)) == Some(1)
+            && log_status(log, leg(5, 1)) == Some(0)
+            && log_status(log, leg(5, 2)).is_none()
+            && log.put(leg(5, 1), UndoEntry::Finished) == Err(UndoError::Taken),
+    )
+}
+
+fn is_marked(alloc: Global) -> Result<bool, Fail> {
+    let mut log = filled(alloc)?;
+    takes_no_record(alloc, &mut log)
+}
+
 #[test]
 fn a_marked_branch_takes_no_record(rt: HostRuntime) -> Result<(), Fail> {
-    let mut log = filled(rt.alloc())?;
-    assert!(rt; is_taken(rt.alloc(), &mut log, leg(1, 5))?);
-    assert!(rt; !is_taken(rt.alloc(), &mut log, leg(5, 1))?);
-    assert_eq!(rt; log_status(&log, leg(1, 5)), Some(1));
-    assert_eq!(rt; log_status(&log, leg(5, 1)), Some(0));
-    assert_eq!(rt; log_status(&log, leg(5, 2)), None);
-    let again = log.put(leg(5, 1), UndoEntry::Finished);
-    assert!(rt; again == Err(UndoError::Taken));
+    assert!(rt; is_marked(rt.alloc())?);
     Ok(())
 }
 
@@ -91,29 +100,61 @@ fn branch_of(log: &UndoLog, xid: u64, call: u16) -> Option<u64> {
     }
 }
 
+/// The branches of call 2 of transaction 1, call 1 of 2, call 1 of 1, and call 2 of 3.
+fn branches(alloc: Global) -> Result<[Option<u64>; 4], Fail> {
+    let log = filled(alloc)?;
+    Ok([
+        branch_of(&log, 1, 2),
+        branch_of(&log, 2, 1),
+        branch_of(&log, 1, 1),
+        branch_of(&log, 3, 2),
+    ])
+}
+
 #[test]
 fn finds_the_least_branch_of_a_call(rt: HostRuntime) -> Result<(), Fail> {
-    let log = filled(rt.alloc())?;
-    assert_eq!(rt; branch_of(&log, 1, 2), Some(2));
-    assert_eq!(rt; branch_of(&log, 2, 1), Some(4));
-    assert_eq!(rt; branch_of(&log, 1, 1), None);
-    assert_eq!(rt; branch_of(&log, 3, 2), None);
+    assert!(rt; branches(rt.alloc())? == [Some(2), Some(4), None, None]);
     Ok(())
+}
+
+/// Whether a record is of this branch, and touched and read a row each.
+fn is_of(record: &UndoRecord, leg: Leg) -> bool {
+    record.leg == leg && record.images.as_slice().len() == 1 && record.reads.as_slice().len() == 1
+}
+
+fn are_of(records: &[UndoRecord], first: Leg, second: Leg) -> bool {
+    match records {
+        [one, two] => is_of(one, first) && is_of(two, second),
+        _ => false,
+    }
+}
+
+/// Whether an entry that was taken out is a record.
+fn is_record(entry: &Option<UndoEntry>) -> bool {
+    matches!(entry, Some(UndoEntry::Normal(_)))
+}
+
+/// Whether the record of a branch is taken out.
+fn removes(log: &mut UndoLog, leg: Leg) -> bool {
+    let entry = log.remove(leg);
+    is_record(&entry)
+}
+
+/// Whether records are listed without markers, and entries with them.
+fn lists(alloc: Global, log: &UndoLog) -> Result<bool, Fail> {
+    let records = log.list(alloc)?;
+    let entries = log.entries(alloc)?;
+    Ok(are_of(records.as_slice(), leg(1, 2), leg(2, 4)) && entries.as_slice().len() == 3)
+}
+
+/// Whether a branch's record is taken out once, and the others are listed.
+fn is_listed(alloc: Global) -> Result<bool, Fail> {
+    let mut log = filled(alloc)?;
+    Ok(removes(&mut log, leg(1, 3)) && !removes(&mut log, leg(1, 3)) && lists(alloc, &log)?)
 }
 
 #[test]
 fn lists_records_without_markers(rt: HostRuntime) -> Result<(), Fail> {
-    let mut log = filled(rt.alloc())?;
-    let removed = log.remove(leg(1, 3));
-    assert!(rt; matches!(&removed, Some(UndoEntry::Normal(_))));
-    let missing = log.remove(leg(1, 3));
-    assert!(rt; missing.is_none());
-    let all = log.list(rt.alloc())?;
-    assert_eq!(rt; all.as_slice().len(), 2);
-    for (record, wanted) in all.as_slice().iter().zip([leg(1, 2), leg(2, 4)].iter()) {
-        assert!(rt; record.leg == *wanted);
-        assert_eq!(rt; record.images.as_slice().len(), 1);
-        assert_eq!(rt; record.reads.as_slice().len(), 1);
-    }
+    assert!(rt; is_listed(rt.alloc())?);
     Ok(())
 }

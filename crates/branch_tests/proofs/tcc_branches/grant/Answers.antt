@@ -1,0 +1,11 @@
+use Rattle.std.proofs.Common.{◌∙◌, Option, option_map, ap, sym, refl}
+use Rattle.std.specs.Option.{option_copied}
+use Rattle.local_txn.specs.Answers.{open_of}
+use Rattle.resource_store.specs.Keeping.{known}
+use Rattle.branch_tests.proofs.KnownGrants.{may_try}
+use Rattle.branch_tests.proofs.tcc_branches.grant.Goals as goal
+
+pub on_grant-requires-clause-may : goal.on_grant-requires-clause-may
+on_grant-requires-clause-may c =
+    may_try (known c.args.store.now).tables _ _ _ (open_of c.in-Some.txn.now) _ c.args.record.now c.requires c.in-Tried.is (c.if-not-is_tried_as.ensures refl)
+    (sym (sym c.find.ensures ∙ ap (λ (o : Option _). option_map open_of (option_copied o)) c.in-Some.is))
