@@ -48,6 +48,7 @@ pub record IsNext (trace : List Entry) (stamp now : ℕ) (why : Cause) (given : 
   pub behind : All (IsBehind stamp now) trace
   pub input : IsInputOf stamp why given
 
--- a node of a run that did nothing yet
-abbrev pub IsFresh : {N : Type 0} → (N → Role → List Own → Type 0) → World → Past → N → Type 0
-IsFresh stands_for w past node = (role : Role) × (role_at w past (place_of role) ≡ Some role) × stands_for node role []
+-- a node of a run that did nothing yet; where it has disks, this is said where they tell their bytes
+abbrev pub IsFresh : {N : Type 0} → (N → Role → List Own → Type 0) → (N → Pair) → World → Past → N → Type 0
+IsFresh stands_for disks w past node =
+    (role : Role) × (role_at w past (place_of role) ≡ Some role) × ((has_disks role ≡ true → AreTold (disks node)) → stands_for node role [])

@@ -40,7 +40,7 @@ impl<N: Node, K: RunName> Seat<N, K> {
 
     /// A seat for a node of the run that did nothing yet.
     pub fn new(alloc: Global, node: N) -> Seat<N, K>
-        requires fresh { IsFresh N.stands_for K.world K.past node }
+        requires fresh { IsFresh N.stands_for N.disks K.world K.past node }
         ensures node { result.node ≡ node }
         ensures trace { result.trace ≡ [] }
     {

@@ -1,0 +1,24 @@
+mod Lists
+mod Histories
+mod Waiting
+mod Ungranted
+mod Sent
+mod Entered
+mod Ended
+mod Played
+mod Collected
+mod Made
+mod Entering
+mod Shown
+mod Begun
+pub mod Singles
+mod Chosen
+mod Making
+mod Stepping
+mod Earliest
+mod Playing
+mod Reached
+mod Finished
+mod Sound
+mod Fitting
+mod Gathered

@@ -1,0 +1,25 @@
+use Rattle.std.proofs.Common.{refl, sym, ◌∙◌}
+use Rattle.history_text.specs.declared.entries.Cause.TheVariants as cause
+use Rattle.replay_runner.proofs.Stepping.{ends_before, missed_or_ends}
+use Rattle.replay_runner.proofs.Sound.{went_missing}
+use Rattle.replay_runner.proofs.runs.Run.deliver.Goals as goal
+
+pub hear-requires-clause-sent : goal.hear-requires-clause-sent
+hear-requires-clause-sent g c = sym c.in-Ok-Some.ensures.found ∙ c.in-Ok-Some.field-0-is
+
+pub returns-in-Ok-Some-clause-made : goal.returns-in-Ok-Some-clause-made
+returns-in-Ok-Some-clause-made g c = λ names.
+    let framable = rw c.in-Ok-Some.field-0-is at c.in-Ok-Some.ensures.framable in
+    c.hear.ensures.made (record { step = names; is_found = sym c.in-Ok-Some.ensures.found ∙ c.in-Ok-Some.field-0-is; framable = framable })
+
+pub returns-in-Err-clause-made : goal.returns-in-Err-clause-made
+returns-in-Err-clause-made g c = λ names. ends_before g.D.Disk.state c.args.self.now c.args.self.now names.here refl
+
+pub returns-in-Ok-None-clause-made : goal.returns-in-Ok-None-clause-made
+returns-in-Ok-None-clause-made g c = λ names.
+    missed_or_ends g.D.Disk.state c.args.self.now c.wait.new.self c.args.stamp names (sym c.in-Ok-None.ensures.found ∙ c.in-Ok-None.field-0-is) c.wait.result c.wait.ensures.passed c.wait.ensures.fault
+    c.wait.ensures.coordinator c.wait.ensures.managers c.wait.ensures.waiting c.wait.ensures.clock
+
+pub returns-in-Ok-None-clause-went : goal.returns-in-Ok-None-clause-went
+returns-in-Ok-None-clause-went g c =
+    went_missing c.args.self.now c.wait.new.self c.requires.can.goes (cause.Missing c.args.stamp) c.wait.result c.wait.ensures.passed c.wait.ensures.coordinator c.wait.ensures.managers c.wait.ensures.waiting c.wait.ensures.clock

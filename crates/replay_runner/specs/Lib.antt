@@ -1,0 +1,10 @@
+pub mod Posts
+pub mod Letters
+pub mod Traces
+pub mod Members
+pub mod Steps
+pub mod Going
+pub mod Plays
+pub mod Ends
+pub mod Shelves
+pub mod Collecting
