@@ -1,6 +1,6 @@
 -- The lines of frames that a feed gave, and what is left of the bytes that were fed.
-use Rattle.std.proofs.Common.{◌≡◌, ◌≢◌, ℕ, ◌+◌, ◌<◌, ◌≤◌, Bool, true, false, All, List, [], ◌∷◌, ◌++◌, length, take, drop, Option, Some, None, Result, Ok, Err, inl, inr, refl, sym, ap, subst, ◌∙◌, arith, append_assoc, string_bytes}
-use Rattle.std.proofs.Math.Seq.{take_all, drop-append_seam}
+use Rattle.std.proofs.Common.{◌≡◌, ◌≢◌, ℕ, ◌+◌, ◌<◌, ◌≤◌, true, false, All, List, [], ◌∷◌, ◌++◌, length, drop, Option, Some, None, Result, Ok, Err, refl, sym, ap, subst, ◌∙◌, arith, append_assoc, string_bytes}
+use Rattle.std.proofs.Math.Seq.{drop-append_seam}
 use Rattle.std.proofs.lemmas.List.{append-nil, length-take, length-drop, length-append, drop-drop, drop_all}
 use Rattle.std.proofs.lemmas.List.Elements.{All-append, All-drop}
 use Rattle.std.proofs.lemmas.Option.{same_Some}
@@ -12,14 +12,14 @@ use Rattle.frame_codec.specs.declared.framed.Framed.{Framed}
 use Rattle.frame_codec.specs.Feeding.{FramesIn, IsShort, IsLasting, Fed, TakesPiece, BadAfter, Finishes}
 use Rattle.frame_codec.specs.declared.errors.FrameError.TheVariants as fault
 use Rattle.frame_codec.specs.Frames.{frame_bytes, decoded, checked_head}
-use Rattle.frame_codec.proofs.FrameLaws.{decoded_only, length-frame}
+use Rattle.frame_codec.proofs.FrameLaws.{decoded_only}
 use Rattle.frame_codec.proofs.LaterBytes.{bad_more}
 use Rattle.seata_lab.specs.declared.listings.Listing.{Listing}
-use Rattle.seata_lab.specs.Answers.{Answers, IsFramesAnswer, unread, over_text, frames_answer, frames_status, frames_statuses}
+use Rattle.seata_lab.specs.Answers.{Answers, IsFramesAnswer, unread, over_text, frames_statuses}
 use Rattle.seata_lab.specs.FrameLines.{frame_line, bad_frame_line, lines_from, given_lines, frames_text}
 use Rattle.seata_lab.specs.Listings.{fed, Awaits, IsReady, IsListing}
 use Rattle.seata_lab.proofs.FramesListed.{short_case, long_case}
-use Rattle.seata_lab.proofs.FrameLaws.{frame_adds_line, nothing_has_no_line, bad_frame_ends, begins_whole, frame_is_some}
+use Rattle.seata_lab.proofs.FrameLaws.{frame_adds_line, nothing_has_no_line, bad_frame_ends, begins_whole}
 
 abbrev AreBytes : List ℕ → Type 0
 AreBytes bytes = All (λ byte. byte < 256) bytes

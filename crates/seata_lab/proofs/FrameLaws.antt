@@ -1,6 +1,6 @@
 -- The lines of a frame and what is behind it, of nothing, and of a bad frame.
-use Rattle.std.proofs.Common.{◌≡◌, ◌⊎◌, inl, inr, ℕ, ◌+◌, ◌-◌, ◌<◌, ◌≤◌, List, [], ◌∷◌, ◌++◌, length, drop, Ok, Err, refl, sym, ap, ◌∙◌, arith, append_assoc, add-zero}
-use Rattle.std.proofs.lemmas.List.{take-append-drop, length-take, length-drop, nil_from_length, append-nil}
+use Rattle.std.proofs.Common.{◌≡◌, ◌⊎◌, inl, inr, ℕ, ◌+◌, ◌-◌, ◌<◌, List, [], ◌∷◌, ◌++◌, length, drop, Ok, Err, refl, sym, ap, ◌∙◌, arith, add-zero}
+use Rattle.std.proofs.lemmas.List.{take-append-drop}
 use Rattle.seata_types.specs.declared.messages.Message.{Message}
 use Rattle.frame_codec.specs.declared.errors.FrameError.{FrameError}
 use Rattle.frame_codec.specs.Frames.{Framed, HasFrame, frame_bytes, decoded, BeginsWithFrame}

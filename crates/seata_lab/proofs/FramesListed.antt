@@ -1,12 +1,12 @@
 -- What the status of a call that lists frames says.
-use Rattle.std.proofs.Common.{◌≡◌, ◌⊎◌, inl, inr, ◌<◌, ◌≤◌, ℕ, Bool, true, false, List, length, Option, Some, refl, sym, subst, ◌∙◌, arith}
+use Rattle.std.proofs.Common.{◌≡◌, ◌⊎◌, inl, inr, ◌<◌, ◌≤◌, ℕ, Bool, true, false, List, length, Some, refl, subst, ◌∙◌, arith}
 use Rattle.std.proofs.lemmas.Bool.Decides.{nat_tests}
 use Rattle.std.specs.Io.KnownBytes.{Appends}
 use Rattle.seata_types.specs.declared.limits.TheConstants.{INPUT_BYTES}
 use Rattle.seata_lab.specs.FrameLines.{frames_text}
-use Rattle.seata_lab.specs.Answers.{HasRead, IsFramesAnswer, ListsFrames, IsOver, TellsFrames, is_among, is_short, over_text, frames_answer, frames_status, frames_statuses}
+use Rattle.seata_lab.specs.Answers.{IsFramesAnswer, ListsFrames, IsOver, TellsFrames, is_among, is_short, over_text, frames_answer, frames_status, frames_statuses}
 use Rattle.seata_lab.specs.Streams.{Devices, GainsFront, IsCalm}
-use Rattle.seata_lab.proofs.Concluded.{all_read, longer, none_unread, AreTexts, Writes, Concludes, calm}
+use Rattle.seata_lab.proofs.Concluded.{none_unread, AreTexts, Writes, Concludes, calm}
 
 -- an input is short enough, and its text is the lines, or it is too long
 pub record IsListed (input : List ℕ) : Type 0 where

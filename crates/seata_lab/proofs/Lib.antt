@@ -1,15 +1,11 @@
-mod Begun
+mod Answered
 mod Built
 mod Concluded
 mod Fed
 mod Flow
 mod FrameLaws
 mod FramesListed
-mod Histories
+mod Headline
 mod Modes
-mod Played
 mod Replayed
-mod Reported
 mod Safe
-mod Stepped
-mod Ungranted

@@ -1,5 +1,5 @@
 -- What the program answers: the status, and what is written.
-use Rattle.std.specs.Prelude.{◌≡◌, ◌⊎◌, ◌+◌, ◌<◌, ◌≤◌, ◌++◌, ◌∷◌, ℕ, nat_eq, nat_le, Bool, true, false, if◌then◌else◌, List, [], length, take, drop, Option, Some, codes}
+use Rattle.std.specs.Prelude.{◌≡◌, ◌≢◌, ◌⊎◌, ◌+◌, ◌<◌, ◌≤◌, ◌++◌, ◌∷◌, ℕ, nat_eq, nat_le, Bool, true, false, if◌then◌else◌, List, [], length, take, drop, Option, Some, Result, Ok, Err, codes}
 use Rattle.std.specs.List.{list_any}
 use Rattle.std.specs.Fmt.{decimal}
 use Rattle.std.specs.Cmp.Lexicographic.{pointwise}
@@ -9,18 +9,25 @@ use Rattle.scenario_reader.specs.declared.errors.ScenarioError.TheVariants as fa
 use Rattle.scenario_reader.specs.declared.scenarios.Scenario.{Scenario}
 use Rattle.scenario_reader.specs.Reading.{IsScenario, IsFault}
 use Rattle.seata_types.specs.declared.errors.Full.{Full}
-use Rattle.seata_lab.specs.declared.runner.Run.{Run}
-use Rattle.seata_lab.specs.declared.unbuilt.Unbuilt.{Unbuilt}
-use Rattle.seata_lab.specs.Runs.{EndsFull}
-use Rattle.seata_lab.specs.Unbuilt.{path_of, first_unbuilt, IsBuilt}
+use Rattle.seata_types.specs.declared.ids.Place.{Place}
+use Rattle.seata_types.specs.declared.ids.Place.TheVariants as place
+use Rattle.node_seat.specs.declared.faults.RunFault.{RunFault}
+use Rattle.node_seat.specs.declared.faults.RunFault.TheVariants as run_fault
+use Rattle.replay_runner.specs.Shelves.{AllTell, IsGivenBack, first_name, second_name, pair_of}
+use Rattle.report_text.specs.Following.{Reports}
+use Rattle.seata_lab.specs.Unbuilt.{IsBuilt}
 use Rattle.history_rules.specs.Nodes.{no_past}
-use Rattle.history_rules.specs.Histories.{Moment}
+use Rattle.history_rules.specs.Histories.{Moment, own}
 use Rattle.history_law.specs.Safety.{IsSafeHistory}
+use Rattle.history_text.specs.declared.entries.Entry.{Entry}
+use Rattle.history_text.specs.declared.entries.Names.{Names}
+use Rattle.history_text.specs.Durable.{AreCoordinatorDisks}
 use Rattle.history_text.specs.History.{IsRun}
-use Rattle.history_text.specs.Report.{line, report}
+use Rattle.history_text.specs.Lines.{place_text}
+use Rattle.history_text.specs.Report.{line, names_of, report}
 use Rattle.history_text.specs.Worlds.{world_of}
 use Rattle.seata_lab.specs.FrameLines.{frames_text}
-use Rattle.disk_model.specs.Disk.{Rose}
+use Rattle.disk_model.specs.Disk.{DiskState, Rose}
 use Rattle.seata_lab.specs.Streams.{GainsFront, Devices, IsCalm}
 use Rattle.std.specs.Io.KnownBytes.{Appends}
 
@@ -72,104 +79,138 @@ fault_text (fault.Mode path) = codes "scenario: Mode " ++ path
 fault_text (fault.Name path) = codes "scenario: Name " ++ path
 fault_text fault.NoMemory = []
 
--- the line of a part of the scenario that can't be run yet
-abbrev pub unbuilt_text : Unbuilt → List ℕ
-unbuilt_text part = codes "scenario: Unbuilt " ++ path_of part
+-- the line of a scenario with databases, which can't be run yet
+abbrev pub unbuilt_text : List ℕ
+unbuilt_text = codes "scenario: Unbuilt /resources"
 
--- the report of a history that is legal by the rules of all nodes, follows the schedule of the scenario that the bytes
--- are, all of which can be run, and is safe
-unfoldable pub IsReportOf : List ℕ → List ℕ → Type 0
-IsReportOf bytes text = (s : Scenario) × IsScenario bytes s × IsBuilt s × (ms : List Moment) × IsRun s ms × IsSafeHistory (world_of s) no_past ms × (text ≡ report s ms)
+-- where a node's disks are told of
+abbrev pub node_text : Names → Place → List ℕ
+node_text names at = place_text names at
+
+-- the line of disks that failed
+abbrev pub store_text : Names → Place → List ℕ
+store_text names at = codes "store: " ++ node_text names at
+
+-- the line of a record that doesn't fit on a disk
+abbrev pub full_text : Names → Place → Full → List ℕ
+full_text names at full = codes "full: " ++ (node_text names at ++ (codes " needs " ++ (decimal full.needed ++ (codes " of " ++ decimal full.size))))
+
+-- the name of one of two disks
+abbrev pub disk_text : Names → Place → (second : Bool) → List ℕ
+disk_text names at false = node_text names at
+disk_text names at true = node_text names at ++ codes ".2"
+
+-- the line of bytes that are no journal
+abbrev pub damaged_text : Names → Place → (second : Bool) → ℕ → List ℕ
+damaged_text names at second offset = codes "damaged: " ++ (disk_text names at second ++ (codes " at " ++ decimal offset))
+
+-- the line of why a replay ended early, and the status; want of memory has no line
+abbrev pub end_text : Names → RunFault → List ℕ
+end_text names (run_fault.Store at) = store_text names at
+end_text names (run_fault.Full at full) = full_text names at full
+end_text names (run_fault.Damaged at second offset) = damaged_text names at second offset
+end_text names run_fault.Other = codes "scenario: Other"
+end_text names run_fault.NoMemory = []
+
+abbrev pub status_of : RunFault → ℕ
+status_of (run_fault.Store at) = 7
+status_of (run_fault.Full at full) = 8
+status_of (run_fault.Damaged at second offset) = 9
+status_of run_fault.Other = 3
+status_of run_fault.NoMemory = 6
+
+-- the text and the status of a replay that ended so: the report of its entries, or the line of its fault
+abbrev pub IsEndText : Scenario → Result (List Entry) RunFault → List ℕ → ℕ → Type 0
+IsEndText s (Ok es) text status = (status ≡ 0) × Reports s es text
+IsEndText s (Err missed) text status = (missed ≢ run_fault.NoMemory) × (status ≡ status_of missed) × (text ≡ line (end_text (names_of s) missed))
+
+-- how the replay of a scenario may end
+abbrev pub Ending : Type 1
+Ending = Scenario → Result (List Entry) RunFault → Type 0
+
+-- the text and the status of how the replay of a scenario ended, all of which can be run
+pub record IsReplayOf (ends : Ending) (s : Scenario) (text : List ℕ) (status : ℕ) : Type 0 where
+  pub is_built : IsBuilt s
+  pub ended : Result (List Entry) RunFault
+  pub has_ended : ends s ended
+  pub is_text : IsEndText s ended text status
 
 -- the line of what keeps the bytes from being a scenario
 unfoldable pub IsFaultOf : List ℕ → List ℕ → Type 0
 IsFaultOf bytes text = (e : ScenarioError) × IsFault bytes e × (text ≡ line (fault_text e))
 
--- the line of the first part that can't be run yet, of the scenario that the bytes are
+-- the line of databases, of the scenario that the bytes are
 unfoldable pub IsUnbuiltOf : List ℕ → List ℕ → Type 0
-IsUnbuiltOf bytes text = (s : Scenario) × IsScenario bytes s × (part : Unbuilt) × (first_unbuilt s ≡ Some part) × (text ≡ line (unbuilt_text part))
-
--- the line of a record of the coordinator that doesn't fit on its disk
-abbrev pub full_text : Full → List ℕ
-full_text full = codes "full: tc needs " ++ (decimal full.needed ++ (codes " of " ++ decimal full.size))
-
--- the line of the record that ends a replay of a scenario
-abbrev pub IsFullLine : Scenario → List ℕ → Type 0
-IsFullLine s text = (full : Full) × ((r : Run) × (ms : List Moment) × EndsFull s r ms full) × (text ≡ line (full_text full))
-
--- the same of the scenario that the bytes are, all of which can be run
-unfoldable pub IsFullOf : List ℕ → List ℕ → Type 0
-IsFullOf bytes text = (s : Scenario) × IsScenario bytes s × IsBuilt s × IsFullLine s text
+IsUnbuiltOf bytes text = (s : Scenario) × IsScenario bytes s × (¬ IsBuilt s) × (text ≡ line unbuilt_text)
 
 -- the line of what keeps the bytes from being replayed
 abbrev pub IsRefusalOf : List ℕ → List ℕ → Type 0
 IsRefusalOf bytes text = IsFaultOf bytes text ⊎ IsUnbuiltOf bytes text
 
--- the text of a scenario that can be run with its status
-unfoldable pub IsReplayOf : List ℕ → List ℕ → ℕ → Type 0
-IsReplayOf bytes text status = ((status ≡ 0) × IsReportOf bytes text) ⊎ ((status ≡ 8) × IsFullOf bytes text)
-
--- the text of an input with its status
-unfoldable pub IsAnswerTo : List ℕ → List ℕ → ℕ → Type 0
-IsAnswerTo bytes text status = ((status ≡ 3) × IsRefusalOf bytes text) ⊎ IsReplayOf bytes text status
+-- the text of an input with its status: it is refused, or replayed
+unfoldable pub IsAnswerTo : Ending → List ℕ → List ℕ → ℕ → Type 0
+IsAnswerTo ends bytes text status = ((status ≡ 3) × IsRefusalOf bytes text) ⊎ ((s : Scenario) × IsScenario bytes s × IsReplayOf ends s text status)
 
 -- the statuses of a replay that come with a text
 abbrev pub replay_statuses : List ℕ
-replay_statuses = 0 ∷ 3 ∷ 8 ∷ []
+replay_statuses = 0 ∷ 3 ∷ 7 ∷ 8 ∷ 9 ∷ []
 
--- at status 0: the source was read to its end, its bytes are a scenario, all of which can be run, and the sink got the
--- report of a legal history that follows its schedule; and this history is safe, at each of its points: no row has two
--- holders, what isn't undone is covered, and each finished transaction ended as it was decided
-pub record Replays (input : List ℕ) (old new : Devices) : Type 0 where
+-- where the shelf's disks tell their bytes: a legal and safe history of the whole schedule has this report, and the disks given
+-- back show it
+pub record Reported {D : Type 0} (state : D → DiskState) (s : Scenario) (first second : D) (text : List ℕ) : Type 0 where
+  pub history : List Moment
+  pub is_run : IsRun s history
+  pub is_safe : IsSafeHistory (world_of s) no_past history
+  pub is_report : text ≡ report s history
+  pub device : AreCoordinatorDisks [] (own place.Tc history) 0 (pair_of state first second)
+
+-- what a replay tells: its input was read to its end and is a scenario, all of which can be run; its disks were given back, and
+-- the sink got the text of how it ended
+pub record Replays (ends : Ending) (status : ℕ) (input : List ℕ) (old new : Devices) : Type 0 where
   pub read_to_end : new.left ≡ Some []
   pub scenario : Scenario
   pub is_scenario : IsScenario input scenario
-  pub is_built : IsBuilt scenario
-  pub history : List Moment
-  pub is_run : IsRun scenario history
-  pub is_safe : IsSafeHistory (world_of scenario) no_past history
-  pub printed : Appends old.written new.written (report scenario history)
+  pub text : List ℕ
+  pub is_replay : IsReplayOf ends scenario text status
+  pub printed : Appends old.written new.written text
+
+-- at status 0 besides: both disks were given back, and where they tell their bytes the text is the report of a safe history
+pub record Done {D : Type 0} (state : D → DiskState) (tells : Bool) (given_back : List ℕ → D → Type 0) (s : Scenario) (text : List ℕ) : Type 0 where
+  pub first : D
+  pub second : D
+  pub first_back : IsGivenBack tells given_back first_name first
+  pub second_back : IsGivenBack tells given_back second_name second
+  pub reported : AllTell state → Reported state s first second text
 
 -- at status 3: the source was read as far as inputs are, and the sink got the line of what keeps the input from being
--- a scenario, or of the first part of the scenario that it is, which can't be run yet
+-- a scenario, or of the databases of the scenario that it is
 pub record Refuses (input : List ℕ) (old new : Devices) : Type 0 where
   pub read_to_end : new.left ≡ Some (unread input)
   pub text : List ℕ
   pub is_refusal : IsRefusalOf input text
   pub printed : Appends old.written new.written text
 
--- at status 8: the source was read to its end, its bytes are a scenario, all of which can be run, and the sink got the line of
--- a record that would pass the end of the coordinator's disk: a legal history follows the schedule up to the step that asks
--- for it
-pub record FillsDisk (input : List ℕ) (old new : Devices) : Type 0 where
-  pub read_to_end : new.left ≡ Some []
-  pub scenario : Scenario
-  pub is_scenario : IsScenario input scenario
-  pub is_built : IsBuilt scenario
-  pub full : Full
-  pub run : Run
-  pub history : List Moment
-  pub ends : EndsFull scenario run history full
-  pub printed : Appends old.written new.written (line (full_text full))
-
 -- at status 5: the sink got the front of the text that another status would have
-pub record CutsShort (input : List ℕ) (old new : Devices) : Type 0 where
+pub record CutsShort (ends : Ending) (input : List ℕ) (old new : Devices) : Type 0 where
   pub text : List ℕ
   pub status : ℕ
-  pub is_answer : IsAnswerTo input text status
+  pub is_answer : IsAnswerTo ends input text status
   pub printed : GainsFront old.written new.written text
 
--- what can be run was replayed, or filled a disk, or memory was refused
-abbrev pub IsDone : ℕ → Type 0
-IsDone status = (status ≡ 0) ⊎ (status ≡ 8) ⊎ (status ≡ 6)
+-- the statuses of what can be run: it was replayed, or memory was refused
+abbrev pub is_end : ℕ → Bool
+is_end status = is_among (0 ∷ 6 ∷ 7 ∷ 8 ∷ 9 ∷ []) status
 
 -- what the status of a replay says of the input, where that is told
-pub record TellsReplay (status : ℕ) (old new : Devices) : Type 0 where
-  pub done : status ≡ 0 → (input : List ℕ) → old.left ≡ Some input → Replays input old new
-  pub refused : status ≡ 3 → (input : List ℕ) → old.left ≡ Some input → Refuses input old new
-  pub full : status ≡ 8 → (input : List ℕ) → old.left ≡ Some input → FillsDisk input old new
-  pub cut_short : status ≡ 5 → (input : List ℕ) → old.left ≡ Some input → CutsShort input old new
-  pub complete : (input : List ℕ) (scenario : Scenario) → old.left ≡ Some input → IsScenario input scenario → IsBuilt scenario → IsCalm old new → IsDone status
+pub record TellsReplay (ends : Ending) (status : ℕ) (old new : Devices) : Type 0 where
+  pub replayed : is_among (0 ∷ 7 ∷ 8 ∷ 9 ∷ []) status ≡ true → (input : List ℕ) → old.left ≡ Some input → Replays ends status input old new
+  pub refused : status ≡ 3 → (input : List ℕ) → old.left ≡ Some input → Refuses input old new ⊎ Replays ends 3 input old new
+  pub cut_short : status ≡ 5 → (input : List ℕ) → old.left ≡ Some input → CutsShort ends input old new
+  pub complete : (input : List ℕ) (scenario : Scenario) → old.left ≡ Some input → IsScenario input scenario → IsBuilt scenario → IsCalm old new → (is_end status ≡ true) ⊎ Replays ends 3 input old new
+
+-- what a replay does with a shelf, whatever the status: nothing, or a replay of a scenario that gives back what it takes
+abbrev pub Shelves : Ending → (same : Type 0) → Type 0
+Shelves ends same = same ⊎ ((s : Scenario) × (ended : Result (List Entry) RunFault) × ends s ended)
 
 -- ---- frames
 

@@ -1,5 +1,5 @@
 -- The lines of the frames that bytes are, one behind the other.
-use Rattle.std.specs.Prelude.{◌≡◌, ◌≢◌, ◌⊎◌, ℕ, zero, suc, ◌+◌, ◌-◌, ◌<◌, ◌≤◌, All, List, [], ◌∷◌, ◌++◌, length, drop, Ok, Err, codes}
+use Rattle.std.specs.Prelude.{◌≡◌, ◌≢◌, ◌⊎◌, ℕ, zero, suc, ◌+◌, ◌-◌, ◌<◌, All, List, [], ◌∷◌, ◌++◌, length, Ok, Err, codes}
 use Rattle.std.specs.Fmt.{decimal}
 use Rattle.seata_types.specs.declared.messages.Message.{Message}
 use Rattle.history_text.specs.declared.entries.Names.{Names}

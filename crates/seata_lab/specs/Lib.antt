@@ -1,8 +1,5 @@
 pub mod Unbuilt
 pub mod Streams
-pub mod Faults
-pub mod Runs
-pub mod Sessions
 pub mod FrameLines
 pub mod Listings
 pub mod Answers

@@ -1,6 +1,5 @@
 -- What a listing of frames still has to write.
-use Rattle.std.specs.Prelude.{◌≡◌, ◌+◌, ◌<◌, ◌≤◌, ℕ, true, false, All, List, ◌++◌, length, drop, Option, Some, Err, string_bytes}
-use Rattle.seata_types.specs.declared.limits.TheConstants.{INPUT_BYTES}
+use Rattle.std.specs.Prelude.{◌≡◌, ◌+◌, ◌<◌, ℕ, true, false, All, List, ◌++◌, length, drop, Option, Some, Err, string_bytes}
 use Rattle.frame_codec.specs.Frames.{decoded}
 use Rattle.frame_codec.specs.Feeding.{IsShort}
 use Rattle.seata_lab.specs.declared.listings.Listing.{Listing}

@@ -1,20 +1,21 @@
 //! What the program writes for an input.
-ghost use Rattle.std.specs.Prelude.{◌≡◌, ◌≢◌, ◌++◌, ℕ, List, true, false, codes, IfOk, OnOk, string_bytes};
+ghost use Rattle.std.specs.Prelude.{◌≡◌, ◌≢◌, ◌++◌, ℕ, List as Items, Err, true, false, codes, IfOk, OnOk, string_bytes};
 ghost use Rattle.std.specs.Fmt.{decimal};
 ghost use Rattle.history_text.specs.Report.{line};
 ghost use Rattle.scenario_reader.specs.Reading.{IsScenario};
 ghost use Rattle.scenario_reader.specs.Runnable.{IsRunnable};
-ghost use Rattle.seata_lab.specs.Unbuilt.{IsBuilt};
-ghost use Rattle.seata_lab.specs.Answers.{fault_text, unbuilt_text, full_text, IsFullLine, IsReplayOf, IsAnswerTo};
-ghost use Rattle.seata_lab.specs.Runs.{EndsBy};
-ghost use Rattle.scenario_reader.specs.declared.scenarios.Scenario.{Scenario as TheScenario};
+ghost use Rattle.disk_model.specs.Disk.{Rose};
+ghost use Rattle.replay_runner.specs.Shelves.{Replays as Replayed};
+ghost use Rattle.seata_lab.specs.Answers.{IsAnswerTo, IsEndText, Shelves, damaged_text, disk_text, end_text, fault_text, full_text, status_of, store_text, unbuilt_text};
 
-use crate::faults::RunFault;
-use crate::replays::replay;
-use crate::reports::write_report;
-use crate::unbuilt::{Unbuilt, first_unbuilt, put_path};
+use crate::names::node_names;
+use crate::unbuilt::is_built;
+use disk_model::Shelf;
+use history_text::{Entry, Names, put_place};
+use replay_runner::{RunFault, replay};
+use report_text::write_report;
 use scenario_reader::{Scenario, ScenarioError, read};
-use seata_types::{Full, NoMemory, Text};
+use seata_types::{Full, List, NoMemory, Place, Text};
 use std::alloc::{AllocError, Global};
 
 /// The text that is written, and the status once it was.
@@ -94,95 +95,165 @@ fn is_memory(error: &ScenarioError) -> bool
     matches!(error, ScenarioError::NoMemory)
 }
 
-/// The line of a part of a scenario that can't be run yet, with its line feed.
-fn unbuilt_line(alloc: Global, part: Unbuilt) -> Result<String, AllocError>
-    ensures { IfOk result (λ text. string_bytes text ≡ line (unbuilt_text part)) }
-{
-    let mut out = String::from_str(alloc, "scenario: Unbuilt ")?;
-    put_path(&mut out, part)?;
-    out.push_str("\n")?;
-    Ok(out)
-}
-
-/// The answer to a scenario with a part that can't be run yet.
-fn not_built(alloc: Global, part: Unbuilt) -> Result<Answer, NoMemory>
-    ensures text { IfOk result (λ answer. string_bytes answer.text ≡ line (unbuilt_text part)) }
+/// The answer to a scenario with databases.
+fn not_built(alloc: Global) -> Result<Answer, NoMemory>
+    ensures text { IfOk result (λ answer. string_bytes answer.text ≡ line unbuilt_text) }
     ensures status { IfOk result (λ answer. answer.status ≡ 3) }
 {
-    let text = unbuilt_line(alloc, part).map_err(|_| NoMemory)?;
+    let text = String::from_str(alloc, "scenario: Unbuilt /resources\n").map_err(|_| NoMemory)?;
     Ok(refusal(text))
 }
 
-/// The line of a record of the coordinator that doesn't fit on its disk, with its line feed.
-fn full_line(alloc: Global, full: Full) -> Result<String, AllocError>
-    ensures { IfOk result (λ text. string_bytes text ≡ line (full_text full)) }
+/// The line of disks that failed.
+fn put_store(out: &mut String, place: Place, names: &Names) -> Result<(), AllocError>
+    ensures { OnOk result (string_bytes out.new ≡ string_bytes out.old ++ store_text names.now place) }
+{
+    out.push_str("store: ")?;
+    put_place(out, place, names)
+}
+
+/// The line of a record that doesn't fit on a disk.
+fn put_full(out: &mut String, place: Place, full: Full, names: &Names) -> Result<(), AllocError>
+    ensures { OnOk result (string_bytes out.new ≡ string_bytes out.old ++ full_text names.now place full) }
 {
     let Full { needed, size } = full;
+    out.push_str("full: ")?;
+    put_place(out, place, names)?;
+    write!(out, " needs {needed} of {size}")
+}
+
+/// The name of one of the two disks of a node.
+fn put_disk(out: &mut String, place: Place, second: bool, names: &Names) -> Result<(), AllocError>
+    ensures { OnOk result (string_bytes out.new ≡ string_bytes out.old ++ disk_text names.now place second) }
+{
+    put_place(out, place, names)?;
+    if second {
+        return out.push_str(".2");
+    }
+    Ok(())
+}
+
+/// The line of bytes that are no journal.
+fn put_damaged(
+    out: &mut String,
+    place: Place,
+    second: bool,
+    at: u64,
+    names: &Names,
+) -> Result<(), AllocError>
+    ensures { OnOk result (string_bytes out.new ≡ string_bytes out.old ++ damaged_text names.now place second at) }
+{
+    out.push_str("damaged: ")?;
+    put_disk(out, place, second, names)?;
+    write!(out, " at {at}")
+}
+
+/// The line of why a replay ended early; none for want of memory.
+fn put_end(out: &mut String, fault: RunFault, names: &Names) -> Result<(), AllocError>
+    ensures { OnOk result (string_bytes out.new ≡ string_bytes out.old ++ end_text names.now fault) }
+{
+    match fault {
+        RunFault::Store { place } => put_store(out, place, names),
+        RunFault::Full { place, full } => put_full(out, place, full, names),
+        RunFault::Damaged { place, second, at } => put_damaged(out, place, second, at, names),
+        RunFault::Other => out.push_str("scenario: Other"),
+        RunFault::NoMemory => Ok(()),
+    }
+}
+
+/// The same, with its line feed.
+fn end_line(alloc: Global, fault: RunFault, names: &Names) -> Result<String, AllocError>
+    ensures { IfOk result (λ text. string_bytes text ≡ line (end_text names.now fault)) }
+{
     let mut out = String::new(alloc);
-    write!(out, "full: tc needs {needed} of {size}")?;
+    put_end(&mut out, fault, names)?;
     out.push_str("\n")?;
     Ok(out)
 }
 
-/// The answer to a replay that ended before its schedule did.
-fn filled(alloc: Global, fault: RunFault) -> Result<Answer, NoMemory>
-    ensures text { IfOk result (λ answer. (s : TheScenario) → EndsBy s fault → IsFullLine s (string_bytes answer.text)) }
-    ensures status { IfOk result (λ answer. answer.status ≡ 8) }
+/// The status of why a replay ended early.
+fn end_status(fault: RunFault) -> u8
+    ensures { result ≡ status_of fault }
 {
     match fault {
-        RunFault::Full { place: _, full } => match full_line(alloc, full) {
-            Ok(text) => Ok(Answer { text, status: 8 }),
-            Err(AllocError) => Err(NoMemory),
-        },
-        RunFault::NoMemory => Err(NoMemory),
+        RunFault::Store { .. } => 7,
+        RunFault::Full { .. } => 8,
+        RunFault::Damaged { .. } => 9,
+        RunFault::Other => 3,
+        RunFault::NoMemory => 6,
     }
 }
 
-/// The answer to a scenario that can be run.
-#[tactic(auto, unfolding(crate::specs::Answers::IsReplayOf))]
-fn replayed(alloc: Global, scenario: &Scenario) -> Result<Answer, NoMemory>
-    requires runnable { IsRunnable scenario.now }
-    requires built { IsBuilt scenario.now }
-    ensures { IfOk result (λ answer. (bytes : List ℕ) → IsScenario bytes scenario.now → IsReplayOf bytes (string_bytes answer.text) answer.status) }
+/// The answer to a replay that ended early.
+pub fn ended(alloc: Global, scenario: &Scenario, fault: RunFault) -> Result<Answer, NoMemory>
+    requires { fault ≢ RunFault.NoMemory }
+    ensures { IfOk result (λ answer. IsEndText scenario.now (Err fault) (string_bytes answer.text) answer.status) }
 {
-    match replay(alloc, scenario) {
-        Ok(run) => {
-            let text = write_report(alloc, scenario, &run)?;
+    let names = node_names(alloc, scenario)?;
+    let text = end_line(alloc, fault, &names).map_err(|_| NoMemory)?;
+    Ok(Answer {
+        text,
+        status: end_status(fault),
+    })
+}
+
+/// Whether memory was refused.
+fn is_out_of_memory(fault: RunFault) -> bool
+    ensures memory { result ≡ true → fault ≡ RunFault.NoMemory }
+    ensures other { result ≡ false → fault ≢ RunFault.NoMemory }
+{
+    matches!(fault, RunFault::NoMemory)
+}
+
+/// The answer to a scenario that was replayed.
+fn told(
+    alloc: Global,
+    scenario: &Scenario,
+    replayed: Result<List<Entry>, RunFault>,
+) -> Result<Answer, NoMemory>
+    requires runnable { IsRunnable scenario.now }
+    ensures { IfOk result (λ answer. IsEndText scenario.now replayed (string_bytes answer.text) answer.status) }
+{
+    match replayed {
+        Ok(history) => {
+            let text = write_report(alloc, scenario, history.as_slice())?;
             Ok(Answer { text, status: 0 })
         }
         Err(fault) => {
-            let answer = filled(alloc, fault)?;
-            Ok(answer)
+            if is_out_of_memory(fault) {
+                return Err(NoMemory);
+            }
+            ended(alloc, scenario, fault)
         }
     }
 }
 
 /// The answer to an input that is a scenario.
-#[tactic(auto, unfolding(crate::specs::Answers::IsAnswerTo, crate::specs::Answers::IsUnbuiltOf))]
-fn answer_of(alloc: Global, scenario: &Scenario) -> Result<Answer, NoMemory>
+fn answer_of<H: Shelf>(
+    alloc: Global,
+    scenario: &Scenario,
+    shelf: &mut H,
+) -> Result<Answer, NoMemory>
     requires { IsRunnable scenario.now }
-    ensures { IfOk result (λ answer. (bytes : List ℕ) → IsScenario bytes scenario.now → IsAnswerTo bytes (string_bytes answer.text) answer.status) }
+    ensures answer { (bytes : Items ℕ) → IsScenario bytes scenario.now → IfOk result (λ answer. IsAnswerTo (Replayed H.D.state (H.tells shelf.old) (H.given_back shelf.new) (Rose (H.faults shelf.old) (H.faults shelf.new))) bytes (string_bytes answer.text) answer.status) }
+    ensures shelf { Shelves (Replayed H.D.state (H.tells shelf.old) (H.given_back shelf.new) (Rose (H.faults shelf.old) (H.faults shelf.new))) (shelf.new ≡ shelf.old) }
 {
-    match first_unbuilt(scenario) {
-        Some(part) => {
-            let answer = not_built(alloc, part)?;
-            Ok(answer)
-        }
-        None => {
-            let answer = replayed(alloc, scenario)?;
-            Ok(answer)
-        }
+    if !is_built(scenario) {
+        return not_built(alloc);
     }
+    let replayed = replay(alloc, scenario, shelf);
+    told(alloc, scenario, replayed)
 }
 
 /// The text of an input, with its status.
 #[tactic(auto, unfolding(crate::specs::Answers::IsAnswerTo, crate::specs::Answers::IsFaultOf))]
-pub fn answer_to(alloc: Global, bytes: &[u8]) -> Result<Answer, NoMemory>
-    ensures { IfOk result (λ answer. IsAnswerTo bytes.now (string_bytes answer.text) answer.status) }
+pub fn answer_to<H: Shelf>(alloc: Global, bytes: &[u8], shelf: &mut H) -> Result<Answer, NoMemory>
+    ensures answer { IfOk result (λ answer. IsAnswerTo (Replayed H.D.state (H.tells shelf.old) (H.given_back shelf.new) (Rose (H.faults shelf.old) (H.faults shelf.new))) bytes.now (string_bytes answer.text) answer.status) }
+    ensures shelf { Shelves (Replayed H.D.state (H.tells shelf.old) (H.given_back shelf.new) (Rose (H.faults shelf.old) (H.faults shelf.new))) (shelf.new ≡ shelf.old) }
 {
     match read(alloc, bytes) {
         Ok(scenario) => {
-            let answer = answer_of(alloc, &scenario)?;
+            let answer = answer_of(alloc, &scenario, shelf)?;
             Ok(answer)
         }
         Err(error) => {

@@ -1,9 +1,11 @@
-//! Runs of `top` over a reader and over a writer that fail at their second call.
+//! Runs of `top` over a reader and over a writer that fail at their second call, and over a shelf without disks.
+ghost use Rattle.std.specs.Prelude.{◌≡◌};
 
 use crate::memory::{MemSink, MemSource};
 use crate::rows::REPEATED_MESSAGES;
 use crate::standard::{StdSink, StdSource};
 use crate::tops::top;
+use disk_model::{MemDisk, MemShelf, Shelf, ShelfError};
 use seata_types::Text;
 use std::alloc::Global;
 use std::io;
@@ -47,6 +49,42 @@ impl Write for Stuck {
     }
 }
 
+/// A shelf that gives so many disks, and fails at each later call. It keeps none that is given back.
+#[derive(Drop)]
+struct Short {
+    shelf: MemShelf,
+    disks: u32,
+    faults: u64,
+}
+
+impl Shelf for Short {
+    type D = MemDisk;
+
+    ghost use Rattle.std.specs.Prelude.{false};
+
+    ghost faults = { λ shelf. shelf.faults };
+
+    ghost tells = { λ _. false };
+
+    ghost has_place = { λ _ _. Unit {0} };
+
+    ghost given_back = { λ _ _ _. ⊥ };
+
+    fn take(&mut self, alloc: Global, name: &str, size: u64) -> Result<MemDisk, ShelfError> {
+        if self.disks == 0 {
+            self.faults = self.faults.saturating_add(1);
+            return Err(ShelfError::Failed);
+        }
+        self.disks -= 1;
+        match self.shelf.take(alloc, name, size) {
+            Ok(disk) => Ok(disk),
+            Err(_) => Err(ShelfError::NoMemory),
+        }
+    }
+
+    fn give(&mut self, _name: &str, _disk: MemDisk) {}
+}
+
 /// One word.
 fn word(alloc: Global, name: &str) -> Result<Vec<Text>, Fail> {
     let mut words = Vec::new(alloc);
@@ -62,10 +100,15 @@ fn a_failed_read_is_no_end(rt: HostRuntime) -> Result<(), Fail> {
         let Ok(mut sink) = MemSink::new(rt.alloc(), 1000, Vec::new(rt.alloc())) else {
             return Err(Fail::from("no memory"));
         };
-        assert_eq!(rt;
-            top(rt.alloc(), words.as_slice(), &mut source, &mut sink),
-            4
+        let mut shelf = MemShelf::new(rt.alloc());
+        let status = top(
+            rt.alloc(),
+            words.as_slice(),
+            &mut source,
+            &mut sink,
+            &mut shelf,
         );
+        assert_eq!(rt; status, 4);
         assert_eq!(rt; sink.written().len(), 0);
     }
     Ok(())
@@ -80,11 +123,44 @@ fn a_failed_write_is_no_text(rt: HostRuntime) -> Result<(), Fail> {
         took: Vec::new(rt.alloc()),
     };
     let mut sink = StdSink::new(&mut writer);
-    assert_eq!(rt;
-        top(rt.alloc(), words.as_slice(), &mut source, &mut sink),
-        5
+    let mut shelf = MemShelf::new(rt.alloc());
+    let status = top(
+        rt.alloc(),
+        words.as_slice(),
+        &mut source,
+        &mut sink,
+        &mut shelf,
     );
+    assert_eq!(rt; status, 5);
     drop(sink);
     assert_eq!(rt; writer.took.as_slice(), b"e".as_slice());
+    Ok(())
+}
+
+#[test]
+fn a_shelf_that_fails_is_told(rt: HostRuntime) -> Result<(), Fail> {
+    for disks in 0..2 {
+        let words = word(rt.alloc(), "replay")?;
+        let input = Vec::from_slice(rt.alloc(), REPEATED_MESSAGES[0].as_bytes())?;
+        let mut source = MemSource::new(input, Vec::new(rt.alloc()));
+        let Ok(mut sink) = MemSink::new(rt.alloc(), 1000, Vec::new(rt.alloc())) else {
+            return Err(Fail::from("no memory"));
+        };
+        let mut shelf = Short {
+            shelf: MemShelf::new(rt.alloc()),
+            disks,
+            faults: 0,
+        };
+        let status = top(
+            rt.alloc(),
+            words.as_slice(),
+            &mut source,
+            &mut sink,
+            &mut shelf,
+        );
+        assert_eq!(rt; status, 7);
+        assert_eq!(rt; shelf.faults, 1);
+        assert_eq!(rt; sink.written(), b"store: tc\n".as_slice());
+    }
     Ok(())
 }

@@ -5,18 +5,13 @@
 mod answers;
 #[cfg(test)]
 mod failing;
-mod faults;
 mod frames;
-#[cfg(test)]
-mod kept;
 mod laws;
 mod listings;
 mod memory;
-mod replays;
-mod reports;
+mod names;
 #[cfg(test)]
 mod rows;
-mod runner;
 mod standard;
 mod streams;
 #[cfg(test)]
@@ -26,6 +21,7 @@ mod transfer;
 mod unbuilt;
 mod words;
 
+use disk_model::MemShelf;
 use seata_types::Text;
 use standard::{StdSink, StdSource};
 use std::env;
@@ -53,5 +49,13 @@ fn main(rt: HostRuntime) -> ExitCode {
     }
     let mut source = StdSource::new(rt.stdin());
     let mut sink = StdSink::new(rt.stdout());
-    ExitCode::from(top(rt.alloc(), words.as_slice(), &mut source, &mut sink))
+    let mut shelf = MemShelf::new(rt.alloc());
+    let status = top(
+        rt.alloc(),
+        words.as_slice(),
+        &mut source,
+        &mut sink,
+        &mut shelf,
+    );
+    ExitCode::from(status)
 }

@@ -407,42 +407,65 @@ pub const FAULTS: [[&str; 2]; 14] = [
     ],
 ];
 
-/// Scenarios with a part that can't be run yet, with the path of the first.
-pub const UNBUILT: [[&str; 2]; 9] = [
-    [
-        r#"{"forget":1,"resources":[{"name":"A","tables":[]}],"managers":[],"schedule":[]}"#,
-        "/resources",
-    ],
-    [
-        r#"{"resources":[{"name":"A","tables":[]}],"managers":[{"name":"m1","calls":[],"end":"commit","poll":true}],"locals":[{"at":"A","do":[]}],"schedule":["local 1","outside 1"]}"#,
-        "/resources",
-    ],
-    [
-        r#"{"resources":[],"managers":[{"name":"m1","calls":[],"end":"commit","poll":true}],"schedule":["turn m1","crash tc"]}"#,
-        "/schedule/1",
-    ],
-    [
-        r#"{"resources":[],"managers":[],"locals":[],"stops":[["tc",1,0]],"schedule":["stop tc 1"]}"#,
-        "/schedule/0",
-    ],
-    [
-        r#"{"resources":[],"managers":[],"schedule":["turn tc","crash tc"]}"#,
-        "/schedule/1",
-    ],
-    [
-        r#"{"resources":[],"managers":[],"schedule":["wait 1","restart tc 1"]}"#,
-        "/schedule/1",
-    ],
-    [
-        r#"{"resources":[],"managers":[],"schedule":["restart tc 1 2"]}"#,
-        "/schedule/0",
-    ],
-    [
-        r#"{"resources":[],"managers":[],"schedule":["auto 1"]}"#,
-        "/schedule/0",
-    ],
-    [
-        r#"{"resources":[],"managers":[],"schedule":["deliver 1","wait 1","turn tc","auto 20","crash tc"]}"#,
-        "/schedule/3",
-    ],
+/// Scenarios with databases, which can't be run yet.
+pub const UNBUILT: [&str; 2] = [
+    r#"{"forget":1,"resources":[{"name":"A","tables":[]}],"managers":[],"schedule":[]}"#,
+    r#"{"resources":[{"name":"A","tables":[]}],"managers":[{"name":"m1","calls":[],"end":"commit","poll":true}],"locals":[{"at":"A","do":[]}],"schedule":["local 1","outside 1"]}"#,
+];
+
+/// A stop that falls behind the write of the gate; the restart's pick keeps the decision.
+pub const KEPT: [&str; 2] = [
+    r#"{"resources":[],"managers":[{"name":"m1","calls":[],"end":"commit"}],"schedule":["turn m1","deliver 1","deliver 2","stop tc 2","deliver 3","restart tc 1"]}"#,
+    r#"entries
+1 m1 0 turn | starts | begin m1 60000 to tc
+2 tc 0 deliver 1 m1 | begun tc:1 | begun tc:1 to m1
+3 m1 0 deliver 2 tc | goes on | commit tc:1 to tc
+4 tc 0 stop 2 | armed | -
+5 tc 0 deliver 3 m1 | down at decided tc:1 commit | -
+6 tc 0 restart 1 | restarted kept decided tc:1 commit | -
+sessions
+tc:1 m1 8 AsyncCommitting
+locks
+tables
+fences
+reads
+"#,
+];
+
+/// A message that reaches the coordinator while it is down is lost.
+pub const CRASHED: [&str; 2] = [
+    r#"{"resources":[],"managers":[{"name":"m1","calls":[],"end":"commit"}],"schedule":["deliver 9","turn m1","crash tc","deliver 2","restart tc 0"]}"#,
+    r#"entries
+1 net 0 deliver 9 | none | -
+2 m1 0 turn | starts | begin m1 60000 to tc
+3 tc 0 crash | down | -
+4 tc 0 deliver 2 m1 | lost | -
+5 tc 0 restart 0 | restarted | -
+sessions
+locks
+tables
+fences
+reads
+"#,
+];
+
+/// Steps that the replay chooses itself: a message that waits, or the node whose last turn is the earliest.
+pub const CHOSEN: [&str; 2] = [
+    r#"{"resources":[],"managers":[{"name":"m1","calls":[],"end":"commit"}],"schedule":["auto 8"]}"#,
+    r#"entries
+1 tc 0 turn | none | -
+2 m1 0 turn | starts | begin m1 60000 to tc
+3 tc 0 deliver 2 m1 | begun tc:1 | begun tc:1 to m1
+4 m1 0 deliver 3 tc | goes on | commit tc:1 to tc
+5 tc 0 deliver 4 m1 | decided tc:1 commit | commit-status tc:1 8 to m1
+6 m1 0 deliver 5 tc | closes 8 | -
+7 tc 0 turn | finished tc:1 9 | -
+8 m1 0 turn | none | -
+sessions
+tc:1 m1 9 Committed
+locks
+tables
+fences
+reads
+"#,
 ];

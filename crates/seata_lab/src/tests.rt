@@ -1,13 +1,17 @@
 //! Whole runs of `top` over memory: the words, the input, what is written, and the status.
-ghost use Rattle.std.specs.Prelude.{◌<◌, ◌≤◌};
+ghost use Rattle.std.specs.Prelude.{◌<◌, ◌≤◌, ◌≢◌};
 
+use crate::answers::ended;
 use crate::memory::{MemSink, MemSource};
 use crate::rows::{
-    COMMIT_IN_TIME, FAULTS, FORGOTTEN, FRAMES, LATE_ONES, NOTHING, POLLED, REPEATED_MESSAGES,
-    ROLLBACK, TIMEOUT, UNBUILT,
+    CHOSEN, COMMIT_IN_TIME, CRASHED, FAULTS, FORGOTTEN, FRAMES, KEPT, LATE_ONES, NOTHING, POLLED,
+    REPEATED_MESSAGES, ROLLBACK, TIMEOUT, UNBUILT,
 };
 use crate::tops::top;
-use seata_types::Text;
+use disk_model::MemShelf;
+use replay_runner::RunFault;
+use scenario_reader::{Scenario, read};
+use seata_types::{Full, NoMemory, Place, Text};
 use std::alloc::Global;
 use std::process::Abort;
 use std::test::Fail;
@@ -45,7 +49,8 @@ fn run(alloc: Global, words: &[&str], input: &[u8], devices: Devices) -> Result<
     let Ok(mut sink) = MemSink::new(alloc, devices.room, failing) else {
         return Err(Fail::from("no memory"));
     };
-    let status = top(alloc, all.as_slice(), &mut source, &mut sink);
+    let mut shelf = MemShelf::new(alloc);
+    let status = top(alloc, all.as_slice(), &mut source, &mut sink, &mut shelf);
     let written = Vec::from_slice(alloc, sink.written())?;
     Ok(Ran { status, written })
 }
@@ -67,6 +72,9 @@ fn replays(rt: HostRuntime) -> Result<(), Fail> {
         LATE_ONES,
         POLLED,
         FORGOTTEN,
+        KEPT,
+        CRASHED,
+        CHOSEN,
     ] {
         let ran = run(rt.alloc(), &["replay"], input.as_bytes(), SOUND)?;
         expect(&rt, &ran, 0, output);
@@ -104,6 +112,65 @@ fn fills_a_disk(rt: HostRuntime) -> Result<(), Fail> {
     let ran = run(rt.alloc(), &["replay"], crowded.as_bytes(), SOUND)?;
     expect(&rt, &ran, 8, "full: tc needs 4106 of 4096\n");
     Ok(())
+}
+
+/// A scenario, as it is read.
+fn scenario(alloc: Global, input: &str) -> Result<Scenario, Fail> {
+    match read(alloc, input.as_bytes()) {
+        Ok(scenario) => Ok(scenario),
+        Err(_) => Err(Fail::from("no scenario")),
+    }
+}
+
+/// The text and the status of a fault of the coordinator's disks.
+fn expect_fault(
+    rt: &impl Abort,
+    alloc: Global,
+    fault: RunFault,
+    status: u8,
+    text: &str,
+) -> Result<(), Fail>
+    requires { fault ≢ RunFault.NoMemory }
+{
+    let scenario = scenario(alloc, NOTHING[0])?;
+    match ended(alloc, &scenario, fault) {
+        Ok(answer) => {
+            assert_eq!(rt; answer.status, status);
+            assert_eq!(rt; answer.text.as_str(), text);
+            Ok(())
+        }
+        Err(NoMemory) => Err(Fail::from("no memory")),
+    }
+}
+
+#[test]
+fn tells_why_a_replay_ended(rt: HostRuntime) -> Result<(), Fail> {
+    let place = Place::Tc;
+    expect_fault(&rt, rt.alloc(), RunFault::Store { place }, 7, "store: tc\n")?;
+    let full = Full {
+        needed: 4106,
+        size: 4096,
+    };
+    expect_fault(
+        &rt,
+        rt.alloc(),
+        RunFault::Full { place, full },
+        8,
+        "full: tc needs 4106 of 4096\n",
+    )?;
+    let first = RunFault::Damaged {
+        place,
+        second: false,
+        at: 24,
+    };
+    expect_fault(&rt, rt.alloc(), first, 9, "damaged: tc at 24\n")?;
+    let second = RunFault::Damaged {
+        place,
+        second: true,
+        at: 0,
+    };
+    expect_fault(&rt, rt.alloc(), second, 9, "damaged: tc.2 at 0\n")?;
+    expect_fault(&rt, rt.alloc(), RunFault::Other, 3, "scenario: Other\n")
 }
 
 /// The number that a hexadecimal digit stands for.
@@ -153,10 +220,9 @@ fn refuses(rt: HostRuntime) -> Result<(), Fail> {
         let ran = run(alloc, &["replay"], input.as_bytes(), SOUND)?;
         expect(&rt, &ran, 3, line.as_str());
     }
-    for [input, path] in UNBUILT {
-        let line = format!(in alloc; "scenario: Unbuilt {path}\n")?;
+    for input in UNBUILT {
         let ran = run(alloc, &["replay"], input.as_bytes(), SOUND)?;
-        expect(&rt, &ran, 3, line.as_str());
+        expect(&rt, &ran, 3, "scenario: Unbuilt /resources\n");
     }
     Ok(())
 }

@@ -1,8 +1,9 @@
 //! The calls at the top: one replay, and the program's words.
-ghost use Rattle.std.specs.Prelude.{◌≡◌, ◌≢◌, ◌⊎◌, true, false, List, ◌∷◌, IfOk, IfErr, string_bytes};
+ghost use Rattle.std.specs.Prelude.{◌≡◌, ◌≢◌, ◌⊎◌, ℕ, true, false, List as Items, ◌∷◌, Some, IfOk, IfErr, string_bytes};
 ghost use Rattle.std.specs.Io.KnownBytes.{Appends};
 ghost use Rattle.disk_model.specs.Disk.{Rose};
-ghost use Rattle.seata_lab.specs.Answers.{Answers, IsAnswerTo, IsFramesAnswer, TellsReplay, TellsFrames, TellsUsage, TellsFaults, is_replay, is_frames, replay_statuses, frames_statuses, with_failures};
+ghost use Rattle.replay_runner.specs.Shelves.{Replays as Replayed};
+ghost use Rattle.seata_lab.specs.Answers.{Answers, Done, IsAnswerTo, IsFramesAnswer, Replays, Shelves, TellsReplay, TellsFrames, TellsUsage, TellsFaults, is_replay, is_frames, replay_statuses, frames_statuses, with_failures};
 ghost use Rattle.seata_lab.specs.Streams.{GainsFront, devices};
 
 use crate::answers::{Answer, answer_to};
@@ -10,6 +11,7 @@ use crate::frames::list_frames;
 use crate::streams::{Failed, Sink, Source};
 use crate::transfer::{ReadFault, read_all, write_all};
 use crate::words;
+use disk_model::Shelf;
 use seata_types::{NoMemory, Text};
 use std::alloc::Global;
 
@@ -49,8 +51,13 @@ fn fault_status(fault: ReadFault) -> u8
 }
 
 /// Reads an input and replays it: the text with its status, or the status of what kept it from being answered.
-fn replay_input<S: Source>(alloc: Global, source: &mut S) -> Result<Answer, u8>
-    ensures answer { IfOk result (λ a. Answers IsAnswerTo replay_statuses (S.left source.old) (S.left source.new) (string_bytes a.text) a.status) }
+fn replay_input<S: Source, H: Shelf>(
+    alloc: Global,
+    source: &mut S,
+    shelf: &mut H,
+) -> Result<Answer, u8>
+    ensures answer { IfOk result (λ a. Answers (IsAnswerTo (Replayed H.D.state (H.tells shelf.old) (H.given_back shelf.new) (Rose (H.faults shelf.old) (H.faults shelf.new)))) replay_statuses (S.left source.old) (S.left source.new) (string_bytes a.text) a.status) }
+    ensures shelf { Shelves (Replayed H.D.state (H.tells shelf.old) (H.given_back shelf.new) (Rose (H.faults shelf.old) (H.faults shelf.new))) (shelf.new ≡ shelf.old) }
     ensures statuses { IfErr result (λ status. (status ≡ 4) ⊎ (status ≡ 6)) }
     ensures failed { IfErr result (λ status. status ≡ 4 → Rose (S.faults source.old) (S.faults source.new)) }
 {
@@ -58,7 +65,7 @@ fn replay_input<S: Source>(alloc: Global, source: &mut S) -> Result<Answer, u8>
         Ok(bytes) => bytes,
         Err(fault) => return Err(fault_status(fault)),
     };
-    match answer_to(alloc, bytes.as_slice()) {
+    match answer_to(alloc, bytes.as_slice(), shelf) {
         Ok(answer) => Ok(answer),
         Err(NoMemory) => Err(MEMORY),
     }
@@ -88,14 +95,24 @@ fn write_answer<K: Sink>(sink: &mut K, answer: Result<Answer, u8>) -> u8
     }
 }
 
-/// Replays the scenario of a source once, and writes the report of its history. The status is 0 where that is done, 3
-/// where the input is no scenario, 4 where the source failed, 5 where the sink did, 6 where memory was refused, and 8 where
-/// the coordinator's next record would pass the end of its disk.
-pub fn replay_once<S: Source, K: Sink>(alloc: Global, source: &mut S, sink: &mut K) -> u8
-    ensures replay { TellsReplay result (devices S.left S.faults K.written K.faults source.old sink.old) (devices S.left S.faults K.written K.faults source.new sink.new) }
+/// Replays the scenario of a source once, with the coordinator on two disks of the shelf, and writes the report of its
+/// history. The status is 0 where that is done, 3 where the input is no scenario, 4 where the source failed, 5 where the sink
+/// did, 6 where memory was refused, 7 where a disk couldn't be had or its opening or restart failed, 8 where the
+/// coordinator's next record would pass the end of its disk, and 9 where a disk has bytes that are no journal. At each status
+/// the disks that were taken are given back.
+pub fn replay_once<S: Source, K: Sink, H: Shelf>(
+    alloc: Global,
+    source: &mut S,
+    sink: &mut K,
+    shelf: &mut H,
+) -> u8
+    ensures replay { TellsReplay (Replayed H.D.state (H.tells shelf.old) (H.given_back shelf.new) (Rose (H.faults shelf.old) (H.faults shelf.new))) result (devices S.left S.faults K.written K.faults source.old sink.old) (devices S.left S.faults K.written K.faults source.new sink.new) }
+    ensures done { result ≡ 0 → (input : Items ℕ) → S.left source.old ≡ Some input
+        → (r : Replays (Replayed H.D.state (H.tells shelf.old) (H.given_back shelf.new) (Rose (H.faults shelf.old) (H.faults shelf.new))) 0 input (devices S.left S.faults K.written K.faults source.old sink.old) (devices S.left S.faults K.written K.faults source.new sink.new)) × Done H.D.state (H.tells shelf.old) (H.given_back shelf.new) r.scenario r.text }
+    ensures shelf { Shelves (Replayed H.D.state (H.tells shelf.old) (H.given_back shelf.new) (Rose (H.faults shelf.old) (H.faults shelf.new))) (shelf.new ≡ shelf.old) }
     ensures faults { TellsFaults (with_failures replay_statuses) result (devices S.left S.faults K.written K.faults source.old sink.old) (devices S.left S.faults K.written K.faults source.new sink.new) }
 {
-    write_answer(sink, replay_input(alloc, source))
+    write_answer(sink, replay_input(alloc, source, shelf))
 }
 
 /// Reads frames, one behind the other, and writes a line for each, up to the first bad one, whose line is the last. The
@@ -113,19 +130,28 @@ const USAGE: &str = "usage: seata_lab replay | run | make | stress | frames | au
 
 /// Does what the words ask for: `replay` replays the scenario of the source and writes the report, `frames` writes a line
 /// for each frame of the source. Other words are answered with the usage line and status 2.
-pub fn top<S: Source, K: Sink>(alloc: Global, words: &[Text], source: &mut S, sink: &mut K) -> u8
+pub fn top<S: Source, K: Sink, H: Shelf>(
+    alloc: Global,
+    words: &[Text],
+    source: &mut S,
+    sink: &mut K,
+    shelf: &mut H,
+) -> u8
     ensures words { result ≡ 2 → (is_replay words.now ≡ false) × (is_frames words.now ≡ false) }
     ensures unread { result ≡ 2 → source.new ≡ source.old }
     ensures usage { is_replay words.now ≡ false → is_frames words.now ≡ false
         → TellsUsage result (devices S.left S.faults K.written K.faults source.old sink.old) (devices S.left S.faults K.written K.faults source.new sink.new) }
     ensures replay { is_replay words.now ≡ true
-        → TellsReplay result (devices S.left S.faults K.written K.faults source.old sink.old) (devices S.left S.faults K.written K.faults source.new sink.new) }
+        → TellsReplay (Replayed H.D.state (H.tells shelf.old) (H.given_back shelf.new) (Rose (H.faults shelf.old) (H.faults shelf.new))) result (devices S.left S.faults K.written K.faults source.old sink.old) (devices S.left S.faults K.written K.faults source.new sink.new) }
+    ensures done { is_replay words.now ≡ true → result ≡ 0 → (input : Items ℕ) → S.left source.old ≡ Some input
+        → (r : Replays (Replayed H.D.state (H.tells shelf.old) (H.given_back shelf.new) (Rose (H.faults shelf.old) (H.faults shelf.new))) 0 input (devices S.left S.faults K.written K.faults source.old sink.old) (devices S.left S.faults K.written K.faults source.new sink.new)) × Done H.D.state (H.tells shelf.old) (H.given_back shelf.new) r.scenario r.text }
+    ensures shelf { Shelves (Replayed H.D.state (H.tells shelf.old) (H.given_back shelf.new) (Rose (H.faults shelf.old) (H.faults shelf.new))) (shelf.new ≡ shelf.old) }
     ensures frames { is_frames words.now ≡ true
         → TellsFrames result (devices S.left S.faults K.written K.faults source.old sink.old) (devices S.left S.faults K.written K.faults source.new sink.new) }
     ensures faults { TellsFaults (2 ∷ with_failures replay_statuses) result (devices S.left S.faults K.written K.faults source.old sink.old) (devices S.left S.faults K.written K.faults source.new sink.new) }
 {
     if words::are(words, "replay") {
-        return replay_once(alloc, source, sink);
+        return replay_once(alloc, source, sink, shelf);
     }
     if words::are(words, "frames") {
         return frames_once(alloc, source, sink);

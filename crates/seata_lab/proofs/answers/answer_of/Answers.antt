@@ -1,12 +1,10 @@
-use Rattle.std.proofs.Common.{inl, inr, sym, ◌∙◌}
-use Rattle.seata_lab.specs.Answers.{IsAnswerTo, IsUnbuiltOf}
+use Rattle.std.proofs.Common.{refl}
+use Rattle.seata_lab.proofs.Answered.{replayed_answer, unbuilt_answer}
 use Rattle.seata_lab.proofs.answers.answer_of.Goals as goal
 
-pub returns-in_ok-answer-in-Some : goal.returns-in_ok-answer-in-Some
-unfolding IsAnswerTo IsUnbuiltOf
-returns-in_ok-answer-in-Some c =
-    λ bytes is. inl (c.in_ok-answer-in-Some.ensures.status, inr (c.args.scenario.now, is, c.in-Some.part, sym c.first_unbuilt.ensures ∙ c.in-Some.is, c.in_ok-answer-in-Some.ensures.text))
+pub returns-then-not-is_built-clause-answer : goal.returns-then-not-is_built-clause-answer
+returns-then-not-is_built-clause-answer g c = unbuilt_answer _ c.args.scenario.now c.not_built.result (c.if-not-is_built.ensures.unbuilt refl) c.not_built.ensures.text c.not_built.ensures.status
 
-pub returns-in_ok-answer-in-None : goal.returns-in_ok-answer-in-None
-unfolding IsAnswerTo
-returns-in_ok-answer-in-None c = λ bytes is. inr (c.in_ok-answer-in-None.ensures bytes is)
+pub returns-clause-answer : goal.returns-clause-answer
+returns-clause-answer g c =
+    replayed_answer _ c.args.scenario.now c.told.result c.replay-replayed.result (c.if-not-is_built.ensures.built refl) c.replay-replayed.ensures c.told.ensures

@@ -1,4 +1,4 @@
-use Rattle.std.proofs.Common.{sym, ap, subst, ◌∙◌, ◌+◌, ◌<◌, ◌≤◌, ◌≡◌, ℕ, List, [], take, length, arith, string_bytes}
+use Rattle.std.proofs.Common.{sym, subst, ◌<◌, ◌≤◌, ◌≡◌, [], take, length, arith, string_bytes}
 use Rattle.std.proofs.lemmas.Grind.{common_steps}
 use Rattle.std.proofs.lemmas.List.{length-take-le}
 use Rattle.std.specs.Io.KnownBytes.{Consumes}
