@@ -347,38 +347,41 @@ module _ (w : World) (rs : List SessionRecord) (mem : ℕ → Setup → Memory) 
   abbrev Is : ℕ → Type 0
   Is x = Owns rs k x
 
-  of_manager : (to : Place) (msg : Message) → SaysCall w rs mem (place.Man k) to msg → ManagerIs settings Is msg
+  abbrev AnyNumber : ℕ → Type 0
+  AnyNumber n = Unit {0}
+
+  of_manager : (to : Place) (msg : Message) → SaysCall w rs mem (place.Man k) to msg → ManagerIs settings Is AnyNumber msg
   of_manager to (message.GlobalCommit xid) said = said k refl
   of_manager to (message.Call xid manager r d wk) said =
       let same : said.manager ≡ k = man_number said.manager k (sym said.at) in
       let one : said.settings ≡ settings = one_settings_by said.settings (sym said.known ∙ ap (counted_at w.managers) same ∙ known) in
-      (subst (λ z. Owns rs z xid.0) same said.owns, subst (λ z. SlotIs z r d wk) one said.slot)
+      (subst (λ z. Owns rs z xid.0) same said.owns, tt, subst (λ z. SlotIs z r d wk) one said.slot)
   of_manager to _ said = tt
 
-  newest : (sent : Option Outgoing) → OnSent (SaysCalls w rs mem) (place.Man k) sent → (before : Option Message) → LastIs settings Is before → LastIs settings Is (sent_after sent before)
+  newest : (sent : Option Outgoing) → OnSent (SaysCalls w rs mem) (place.Man k) sent → (before : Option Message) → LastIs settings Is AnyNumber before → LastIs settings Is AnyNumber (sent_after sent before)
   newest None said before last = last
   newest (Some out) said before last = of_manager out.to out.message said
 
   newest_by : (m : Moment) (event : Option Event) (b : Bool) → (b ≡ true → place.Man k ≡ m.place) → OnSent (SaysCalls w rs mem) m.place m.step.sent → (ms : List Moment)
-      → LastIs settings Is (last_sent (own (place.Man k) ms)) → LastIs settings Is (last_sent (own_if b event m (own (place.Man k) ms)))
+      → LastIs settings Is AnyNumber (last_sent (own (place.Man k) ms)) → LastIs settings Is AnyNumber (last_sent (own_if b event m (own (place.Man k) ms)))
   newest_by m (Some event) true here said ms last = newest m.step.sent (subst (λ p. OnSent (SaysCalls w rs mem) p m.step.sent) (sym (here refl)) said) (last_sent (own (place.Man k) ms)) last
   newest_by m None true here said ms last = last
   newest_by m (Some event) false here said ms last = last
   newest_by m None false here said ms last = last
 
-  last_said : (ms : List Moment) → EachSent (SaysCalls w rs mem) ms → LastIs settings Is (last_sent (own (place.Man k) ms))
+  last_said : (ms : List Moment) → EachSent (SaysCalls w rs mem) ms → LastIs settings Is AnyNumber (last_sent (own (place.Man k) ms))
   last_said [] each = tt
   last_said (m ∷ ms) each = newest_by m m.event (same_place (place.Man k) m.place) (one_place (place.Man k) m.place) each.1 ms (last_said ms each.0)
 
-  as_said : (to : Place) (msg : Message) → IsManagers msg → ManagerIs settings Is msg → to ≡ receiver msg → SaysCall w rs mem (place.Man k) to msg
+  as_said : (to : Place) (msg : Message) → IsManagers msg → ManagerIs settings Is AnyNumber msg → to ≡ receiver msg → SaysCall w rs mem (place.Man k) to msg
   as_said to (message.GlobalCommit xid) kind is at = λ j e. subst (λ z. Owns rs z xid.0) (man_number k j e) is
-  as_said to (message.Call xid manager r d wk) kind is at = record { manager = k; at = refl; owns = is.0; settings = settings; known = known; slot = is.1; reaches = at }
+  as_said to (message.Call xid manager r d wk) kind is at = record { manager = k; at = refl; owns = is.0; settings = settings; known = known; slot = is.2; reaches = at }
   as_said to (message.Begin number timeout) kind is at = tt
   as_said to (message.GlobalRollback xid) kind is at = tt
   as_said to (message.GlobalStatus xid) kind is at = tt
   as_said to _ kind is at = absurd kind
 
-  sent_said : (o : Option Outgoing) → SendsManagers o → SentIs settings Is o → OnSent (SaysCalls w rs mem) (place.Man k) o
+  sent_said : (o : Option Outgoing) → SendsManagers o → SentIs settings Is AnyNumber o → OnSent (SaysCalls w rs mem) (place.Man k) o
   sent_said None kind is = tt
   sent_said (Some out) kind is = as_said out.to out.message kind is.0 is.1
 
@@ -386,7 +389,7 @@ module _ (w : World) (past : Past) (ms : List Moment) (m : Moment) (c : Covers w
   pub calls_at_man : CallsBy w (coordinator_left past ms) (memory_of past ms) (m ∷ ms)
   calls_at_man =
       let rs = (coordinator_left past ms).records in
-      let is = manager_is t.settings (λ x. Owns (coordinator_left past ms).records t.k x) (own (place.Man t.k) ms) (last_said w (coordinator_left past ms).records (memory_of past ms) t.k t.settings t.known ms i.said)
+      let is = manager_is t.settings (λ x. Owns (coordinator_left past ms).records t.k x) (λ n. Unit {0}) tt (own (place.Man t.k) ms) (last_said w (coordinator_left past ms).records (memory_of past ms) t.k t.settings t.known ms i.said)
       t.event m.now m.step (λ from xid e. t.heard (SaysCalls w (coordinator_left past ms).records (memory_of past ms)) i.said from (message.Begun xid) e t.k refl) t.happens in
       record {
         ends = (endings_keep w past).at_man ms m c i.ends t;

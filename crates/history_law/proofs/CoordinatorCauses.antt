@@ -116,24 +116,39 @@ pub record TellsFree (rs : List SessionRecord) (event : Event) (to : Place) (t :
   pub is : event ≡ Given (input.Message to (message.LockQuery resource t check))
   pub free : first_held rs 0 check ≡ None
 
--- a Begun goes to the manager of the transaction
-pub record TellsBegun (rs : List SessionRecord) (to : Place) (x : ℕ) : Type 0 where
+-- a Begun goes to the manager of the transaction, the one that a Begin names
+pub record TellsBegun (rs : List SessionRecord) (event : Event) (to : Place) (x : ℕ) : Type 0 where
   pub of : Session
   pub there : In of (sessions rs)
   pub xid : of.xid ≡ x
   pub manager : to ≡ place.Man of.manager
+  pub from : Place
+  pub timeout : ℕ
+  pub is : event ≡ Given (input.Message from (message.Begin of.manager timeout))
+
+-- an answer to a Register that isn't granted goes to the resource that it names
+pub record TellsResource (event : Event) (to : Place) : Type 0 where
+  pub from : Place
+  pub ask : Request
+  pub is : event ≡ Given (input.Message from (message.Register (xid_of ask.xid) ask.resource ask.call ask.ticket ask.kind ask.hold ask.check))
+  pub to_resource : to ≡ place.Res ask.resource
+
+-- any other answer goes to the sender
+pub record TellsSender (event : Event) (to : Place) : Type 0 where
+  pub asked : Message
+  pub is : event ≡ Given (input.Message to asked)
 
 abbrev pub Tells : List SessionRecord → Event → Place → Message → Type 0
 Tells rs event to (message.RegisterAnswer t xid (registered.Granted b)) = TellsGrant rs event to t b.0
-Tells rs event to (message.RegisterAnswer t xid _) = Unit {0}
+Tells rs event to (message.RegisterAnswer t xid _) = TellsResource event to
 Tells rs event to (message.BranchCommit xid b k m c) = TellsBranch rs to xid.0 b.0 k c × (is_commit (decided rs xid.0) ≡ true)
 Tells rs event to (message.BranchRollback xid b k m c) = TellsBranch rs to xid.0 b.0 k c × (is_rollback (decided rs xid.0) ≡ true)
 Tells rs event to (message.LockAnswer t None) = TellsFree rs event to t
-Tells rs event to (message.LockAnswer t (Some held)) = Unit {0}
-Tells rs event to (message.Begun xid) = TellsBegun rs to xid.0
-Tells rs event to (message.CommitStatus xid st) = Unit {0}
-Tells rs event to (message.RollbackStatus xid st) = Unit {0}
-Tells rs event to (message.StatusAnswer xid st) = Unit {0}
+Tells rs event to (message.LockAnswer t (Some held)) = TellsSender event to
+Tells rs event to (message.Begun xid) = TellsBegun rs event to xid.0
+Tells rs event to (message.CommitStatus xid st) = TellsSender event to
+Tells rs event to (message.RollbackStatus xid st) = TellsSender event to
+Tells rs event to (message.StatusAnswer xid st) = TellsSender event to
 Tells rs event to _ = ⊥
 
 abbrev pub TellsOf : List SessionRecord → Event → Option Outgoing → Type 0
@@ -149,14 +164,17 @@ abbrev SaysStep : List SessionRecord → ℕ → Event → Step → Type 0
 SaysStep rs now event step = OnAct (CausedBy rs event) now event step.act × TellsOf (added (asked_for now event step.act) rs) event step.sent
 
 module _ (rs : List SessionRecord) (now : ℕ) (event : Event) where
-  commit_says : (from : Place) (xid : Xid) (may late : Bool) → event ≡ Given (input.Message from (message.GlobalCommit xid)) → SaysStep rs now event (commit_answer rs from xid may late)
-  commit_says from xid false late is = (tt, tt)
-  commit_says from xid true false is = (record { from = from; is = is }, tt)
-  commit_says from xid true true is = (tt, tt)
+  sender : (from : Place) (asked : Message) → event ≡ Given (input.Message from asked) → TellsSender event from
+  sender from asked is = record { asked = asked; is = is }
 
-  rollback_says : (from : Place) (xid : Xid) (may : Bool) → SaysStep rs now event (rollback_answer rs from xid may)
-  rollback_says from xid false = (tt, tt)
-  rollback_says from xid true = (tt, tt)
+  commit_says : (from : Place) (xid : Xid) (may late : Bool) → event ≡ Given (input.Message from (message.GlobalCommit xid)) → SaysStep rs now event (commit_answer rs from xid may late)
+  commit_says from xid false late is = (tt, sender from (message.GlobalCommit xid) is)
+  commit_says from xid true false is = (record { from = from; is = is }, sender from (message.GlobalCommit xid) is)
+  commit_says from xid true true is = (tt, sender from (message.GlobalCommit xid) is)
+
+  rollback_says : (from : Place) (xid : Xid) (may : Bool) → event ≡ Given (input.Message from (message.GlobalRollback xid)) → SaysStep rs now event (rollback_answer rs from xid may)
+  rollback_says from xid false is = (tt, sender from (message.GlobalRollback xid) is)
+  rollback_says from xid true is = (tt, sender from (message.GlobalRollback xid) is)
 
   retry_says : (xid : Xid) (b : BranchId) (changes : Bool) → SaysStep rs now event (retry_answer rs xid b changes)
   retry_says xid b true = (tt, tt)
@@ -238,16 +256,20 @@ module _ (rs : List SessionRecord) (now : ℕ) (from : Place) where
   begin_says : (m timeout : ℕ) (known : Option Session) → session_for rs m ≡ known → SaysStep rs now (Given (input.Message from (message.Begin m timeout))) (begin_answer rs m known)
   begin_says m timeout (Some s) e =
       let f = found_in (has_manager m) (sessions rs) s e in
-      (tt, record { of = s; there = f.0; xid = refl; manager = ap place.Man (sym (same_nat s.manager m f.1)) })
+      let same : m ≡ s.manager = sym (same_nat s.manager m f.1) in
+      (tt, record { of = s; there = f.0; xid = refl; manager = ap place.Man same; from = from; timeout = timeout; is = ap (λ k. Given (input.Message from (message.Begin k timeout))) same })
   begin_says m timeout None e =
-      (tt, record { of = record { xid = next_xid rs; manager = m; begun = now; timeout = timeout }; there = inl refl; xid = refl; manager = refl })
+      (tt, record { of = record { xid = next_xid rs; manager = m; begun = now; timeout = timeout }; there = inl refl; xid = refl; manager = refl; from = from; timeout = timeout; is = refl })
 
   abbrev asking : Request → Event
   asking q = Given (input.Message from (message.Register (xid_of q.xid) q.resource q.call q.ticket q.kind q.hold q.check))
 
+  asker : (q : Request) → TellsResource (asking q) (place.Res q.resource)
+  asker q = record { from = from; ask = q; is = refl; to_resource = refl }
+
   module _ (q : Request) (fresh : granted rs q.xid q.resource q.call q.ticket q.kind ≡ None) where
     hold_says : (held : Option (RowKey × Grant)) → first_held rs q.xid (q.hold ++ q.check) ≡ held → SaysStep rs now (asking q) (hold_answer rs now q held)
-    hold_says (Some (k, g)) e = (tt, tt)
+    hold_says (Some (k, g)) e = (tt, asker q)
     hold_says None e = (
       record { from = from; xid = xid_of q.xid; same = refl; check = q.check; free = e; is = refl; fresh = fresh },
       record {
@@ -267,12 +289,12 @@ module _ (rs : List SessionRecord) (now : ℕ) (from : Place) where
     )
 
     timely_says : (past : Bool) → SaysStep rs now (asking q) (timely_answer rs now q past)
-    timely_says true = (tt, tt)
+    timely_says true = (tt, asker q)
     timely_says false = hold_says (first_held rs q.xid (q.hold ++ q.check)) refl
 
     open_says : (may : Bool) → SaysStep rs now (asking q) (open_answer rs now q may)
     open_says true = timely_says (is_past (session rs q.xid) now)
-    open_says false = (tt, tt)
+    open_says false = (tt, asker q)
 
   register_says : (q : Request) (known : Option Grant) → granted rs q.xid q.resource q.call q.ticket q.kind ≡ known → SaysStep rs now (asking q) (register_answer rs now q known)
   register_says q (Some g) e =
@@ -284,7 +306,7 @@ module _ (rs : List SessionRecord) (now : ℕ) (from : Place) where
   query_says : (resource : ℕ) (t : Ticket) (check : List RowKey) (held : Option (RowKey × Grant)) → first_held rs 0 check ≡ held
       → SaysStep rs now (Given (input.Message from (message.LockQuery resource t check))) (query_answer rs from t held)
   query_says resource t check None e = (tt, record { resource = resource; check = check; is = refl; free = e })
-  query_says resource t check (Some (key, g)) e = (tt, tt)
+  query_says resource t check (Some (key, g)) e = (tt, record { asked = message.LockQuery resource t check; is = refl })
 
   message_says : (heard : Message) → SaysStep rs now (Given (input.Message from heard)) (message_answer rs now from heard)
   message_says (message.Begin m timeout) = begin_says m timeout (session_for rs m) refl
@@ -292,8 +314,8 @@ module _ (rs : List SessionRecord) (now : ℕ) (from : Place) where
       register_says (record { xid = xid.0; resource = resource; call = call; ticket = ticket; kind = kind; hold = hold; check = check })
       (granted rs xid.0 resource call ticket kind) refl
   message_says (message.GlobalCommit xid) = commit_says rs now (Given (input.Message from (message.GlobalCommit xid))) from xid (may_decide rs xid.0) (is_past (session rs xid.0) now) refl
-  message_says (message.GlobalRollback xid) = rollback_says rs now (Given (input.Message from (message.GlobalRollback xid))) from xid (may_decide rs xid.0)
-  message_says (message.GlobalStatus xid) = (tt, tt)
+  message_says (message.GlobalRollback xid) = rollback_says rs now (Given (input.Message from (message.GlobalRollback xid))) from xid (may_decide rs xid.0) refl
+  message_says (message.GlobalStatus xid) = (tt, record { asked = message.GlobalStatus xid; is = refl })
   message_says (message.LockQuery resource ticket check) = query_says resource ticket check (first_held rs 0 check) refl
   message_says (message.BranchCommitted xid b st stmt) =
       branch_says rs now (Given (input.Message from (message.BranchCommitted xid b st stmt))) (is_commit (decided rs xid.0)) xid b st stmt (λ e. inl (e, from, refl)) _ refl

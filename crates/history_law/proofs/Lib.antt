@@ -48,3 +48,5 @@ pub mod WorkOnce
 pub mod OnceHistory
 pub mod SafetyHistory
 pub mod Finishes
+pub mod ResourceSends
+pub mod MessageHistory

@@ -27,11 +27,12 @@ use Rattle.history_law.proofs.Tests.{and_left, same_nat}
 abbrev pub SlotIs : Settings → (r c : ℕ) → Work → Type 0
 SlotIs m r c w = (d : ℕ) × (c ≡ d + 1) × (slice_get m.calls d ≡ Some (r, w))
 
--- what the messages of a manager say, where `Is x` says that x is its own
-module _ (m : Settings) (Is : ℕ → Type 0) where
+-- what the messages of a manager say, where `Is x` says that x is its own, and `Number n` holds of its number
+module _ (m : Settings) (Is Number : ℕ → Type 0) where
   abbrev pub ManagerIs : Message → Type 0
+  ManagerIs (message.Begin number timeout) = Number number
   ManagerIs (message.GlobalCommit xid) = Is xid.0
-  ManagerIs (message.Call xid k r c w) = Is xid.0 × SlotIs m r c w
+  ManagerIs (message.Call xid k r c w) = Is xid.0 × Number k × SlotIs m r c w
   ManagerIs _ = Unit {0}
 
   abbrev pub SentIs : Option Outgoing → Type 0
@@ -42,7 +43,7 @@ module _ (m : Settings) (Is : ℕ → Type 0) where
   LastIs None = Unit {0}
   LastIs (Some msg) = ManagerIs msg
 
-  module _ (count busy : ℕ) where
+  module _ (mine : Number m.number) (count busy : ℕ) where
     speaks_by : (silent : Bool) (done : Act) (out : Message) → ManagerIs out → SentIs (if silent then still act.Silent else sends done (receiver out) out).sent
     speaks_by true done out is = tt
     speaks_by false done out is = (is, refl)
@@ -57,7 +58,7 @@ module _ (m : Settings) (Is : ℕ → Type 0) where
 
     turn_is : (closed : Bool) (last : Option Message) → LastIs last → SentIs (ManagerRules.turn_answer m count busy closed last).sent
     turn_is true last is = closed_turn_is m.poll (ended_by last)
-    turn_is false None is = speaks_is act.Starts (message.Begin m.number m.timeout) tt
+    turn_is false None is = speaks_is act.Starts (message.Begin m.number m.timeout) mine
     turn_is false (Some msg) is = speaks_is act.Repeats msg is
 
     end_is : (e : Ending) (xid : Xid) → Is xid.0 → ManagerIs (end_message e xid)
@@ -66,7 +67,7 @@ module _ (m : Settings) (Is : ℕ → Type 0) where
 
     next_is : (xid : Xid) (done : ℕ) → Is xid.0 → (o : Option (ℕ × Work)) → slice_get m.calls done ≡ o → SentIs (ManagerRules.next_answer m count busy xid (done + 1) o).sent
     next_is xid done own None e = speaks_is act.GoesOn (end_message m.ending xid) (end_is m.ending xid own)
-    next_is xid done own (Some (r, w)) e = speaks_is act.GoesOn (message.Call xid m.number r (done + 1) w) (own, (done, refl, e))
+    next_is xid done own (Some (r, w)) e = speaks_is act.GoesOn (message.Call xid m.number r (done + 1) w) (own, mine, (done, refl, e))
 
     gives_up_is : (xid : Xid) → SentIs (ManagerRules.gives_up m count busy xid).sent
     gives_up_is xid = speaks_is act.GivesUp (message.GlobalRollback xid) tt
@@ -101,15 +102,15 @@ module _ (m : Settings) (Is : ℕ → Type 0) where
   IsTold : Event → Type 0
   IsTold event = (from : Place) (xid : Xid) → event ≡ Given (input.Message from (message.Begun xid)) → Is xid.0
 
-  module _ (os : List Own) (last : LastIs (last_sent os)) (now : ℕ) (fault keeps : Bool) where
+  module _ (mine : Number m.number) (os : List Own) (last : LastIs (last_sent os)) (now : ℕ) (fault keeps : Bool) where
     message_is : (closed : Bool) (heard : Message) → ((xid : Xid) → heard ≡ message.Begun xid → Is xid.0)
         → SentIs (ManagerRules.message_answer m (sent_count os) (busy_count os) closed (last_sent os) heard).sent
-    message_is true heard begun = closed_is (sent_count os) (busy_count os) (ended_by (last_sent os)) heard
-    message_is false heard begun = waiting_is (sent_count os) (busy_count os) (last_sent os) last heard begun
+    message_is true heard begun = closed_is mine (sent_count os) (busy_count os) (ended_by (last_sent os)) heard
+    message_is false heard begun = waiting_is mine (sent_count os) (busy_count os) (last_sent os) last heard begun
 
     answer_is : (given : Input) → IsTold (Given given) → SentIs (manager_answer m os given).sent
     unfolding IsTold
-    answer_is input.Turn told = turn_is (sent_count os) (busy_count os) (is_closed os) (last_sent os) last
+    answer_is input.Turn told = turn_is mine (sent_count os) (busy_count os) (is_closed os) (last_sent os) last
     answer_is (input.Message from heard) told = message_is (is_closed os) heard (λ xid e. told from xid (ap (λ q. Given (input.Message from q)) e))
     answer_is (input.Local k) told = tt
     answer_is (input.Outside k) told = tt
@@ -137,8 +138,8 @@ module _ (m : Settings) (Is : ℕ → Type 0) where
     happens_is event told true e = rw e (down_is event)
     happens_is event told false e = rw e (up_is event told)
 
-  pub manager_is : (os : List Own) → LastIs (last_sent os) → (event : Event) (now : ℕ) (step : Step)
+  pub manager_is : Number m.number → (os : List Own) → LastIs (last_sent os) → (event : Event) (now : ℕ) (step : Step)
       → ((from : Place) (xid : Xid) → event ≡ Given (input.Message from (message.Begun xid)) → Is xid.0)
       → Happens (Manager m) os now event step → SentIs step.sent
   unfolding IsTold
-  manager_is os last event now step told h = subst (λ (st : Step). SentIs st.sent) (sym h.done) (happens_is os last now h.fault h.keeps event told (is_down os) refl)
+  manager_is mine os last event now step told h = subst (λ (st : Step). SentIs st.sent) (sym h.done) (happens_is mine os last now h.fault h.keeps event told (is_down os) refl)

@@ -56,6 +56,7 @@ module _ (w : World) (past : Past) (ms : List Moment) (m : Moment) where
     pub event : Event
     pub at : m.place ≡ place.Res k
     pub heard : Heard ms (place.Res k) event
+    pub happens : Happens (Resource s (past.resource k)) (own (place.Res k) ms) m.now event m.step
     pub moves : ResourceMoves s (memory_of past ms k s) event m.now m.step
     pub after : ℕ → Setup → Memory
     pub here : after k s ≡ memory_by s (memory_of past ms k s) event m.now m.step
@@ -126,6 +127,7 @@ module _ (w : World) (past : Past) (numbered : AreNumbered w) (I : Left SessionR
           event = event;
           at = sym at;
           heard = heard_at (place.Res k) event at same;
+          happens = d;
           moves = resource_moves s (past.resource k) (own (place.Res k) ms) event m.now m.step (c.at k s known).tickets d;
           after = mem_by (place.Res k) (Some event);
           here = ap (λ b. memory s (past.resource k) (own_if b (Some event) m (own (place.Res k) ms))) (nat_same k k refl);

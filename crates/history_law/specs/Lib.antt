@@ -9,6 +9,7 @@ pub mod WorkSafety
 pub mod CallSafety
 pub mod OrderSafety
 pub mod FinishSafety
+pub mod MessageSafety
 pub mod ValueSafety
 pub mod OnceSafety
 pub mod Safety

@@ -5,6 +5,7 @@ ghost use Rattle.history_law.specs.EndingSafety.{EndingsLaw, EndingsOfChains};
 ghost use Rattle.history_law.specs.WorkSafety.{CommitsLaw, CommitsOfChains};
 ghost use Rattle.history_law.specs.OrderSafety.{RowsLaw, RowsOfChains, FreeLaw, FreeOfChains};
 ghost use Rattle.history_law.specs.FinishSafety.{FinishesLaw};
+ghost use Rattle.history_law.specs.MessageSafety.{MessagesLaw};
 ghost use Rattle.history_law.specs.OnceSafety.{OnceLaw, OnceOfChains};
 ghost use Rattle.history_law.specs.Safety.{SafetyLaw, SafetyOfChains};
 ghost use Rattle.history_law.specs.ValueSafety.{ValuesLaw, ValuesOfChains, DirtyLaw, DirtyOfChains};
@@ -117,6 +118,12 @@ pub fn rows_of_chains_are_free_from_the_grant_on()
 /// rolled back by the timeout after that.
 pub fn finishes_tell_the_decision()
     ensures { FinishesLaw }
+{}
+
+/// Each message of a legal history over disks without records goes from a node to a node; a Begin names a manager, and a Register a
+/// resource and rows of resources.
+pub fn messages_reach_nodes()
+    ensures { MessagesLaw }
 {}
 
 /// At each point of a legal history over disks without records, where AT calls name AT tables and TCC actions TCC tables, for each
