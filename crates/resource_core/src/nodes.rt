@@ -51,7 +51,7 @@ impl<D: Disk> Resource<D> {
     ghost use Rattle.resource_core.specs.NodeStanding.{StandsOver, IsSound, serves};
     ghost use Rattle.resource_core.specs.NodeMoving.{kept_of, Misses, Arms, ArmsWith, Boots};
     ghost use Rattle.resource_core.specs.NodeStepping.{StepsBy, RestartsBy};
-    ghost use Rattle.resource_core.specs.Shown.{store_of, steps_left, is_down};
+    ghost use Rattle.resource_core.specs.Shown.{store_of, stands_at, steps_left, is_down};
 
     /// Opens two disks of one size, of the resource with this number, and writes the record of one more boot. The disks come
     /// back where it fails.
@@ -66,6 +66,7 @@ impl<D: Disk> Resource<D> {
         requires second { IsSettled (D.state second) }
         requires setup { IsSetupWithin place setup }
         ensures opened { IfOk result (IsOpened D.state first second place setup) }
+        ensures at { IfOk result (λ r. stands_at r ≡ Place.Res place) }
         ensures refused { IfErr result (HandsBack D.state first second place setup) }
     {
         let Setup {
