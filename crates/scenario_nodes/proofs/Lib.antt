@@ -1,0 +1,11 @@
+mod Blank
+mod OpenedCoordinator
+mod OpenedResource
+mod NotOpened
+mod Made
+mod Passes
+mod ReadParts
+mod Tables
+mod Framable
+mod OnShelf
+mod SetupWithin

@@ -1,0 +1,16 @@
+-- A node that wasn't opened: its disks were given back.
+use Rattle.std.proofs.Common.{◌≡◌, ℕ, Bool, List, sym, subst}
+use Rattle.disk_model.specs.Disk.{DiskState}
+use Rattle.history_rules.specs.Nodes.{Role}
+use Rattle.node_seat.specs.declared.faults.RunFault.{RunFault}
+use Rattle.scenario_nodes.specs.Opening.{GivesBack, IsUnopened}
+use Rattle.scenario_nodes.specs.Shelves.{AllTell, AreGivenBack, KeepsOthers, Showing, pair_of}
+
+pub handed_back : {D : Type 0} (state : D → DiskState) (before after : Showing D) (role : Role) (called name : List ℕ) (bytes : ℕ) (missed told : RunFault) (a b : D) → called ≡ name
+    → KeepsOthers called before after → AreGivenBack before.tells after.given_back called (a, b) → told ≡ missed → (AllTell state → IsUnopened role bytes (pair_of state (a, b)) missed)
+    → GivesBack state after role name bytes told
+handed_back state before after role called name bytes missed told a b named keeps given is unopened = record {
+  disks = (a, b);
+  back = subst (λ (n : List ℕ). AreGivenBack after.tells after.given_back n (a, b)) named (subst (λ (t : Bool). AreGivenBack t after.given_back called (a, b)) (sym keeps.tells) given);
+  unopened = λ all. subst (λ (f : RunFault). IsUnopened role bytes (pair_of state (a, b)) f) (sym is) (unopened all);
+}

@@ -1,0 +1,25 @@
+use Rattle.std.proofs.Common.{inr, ◌≡◌, ℕ, length, refl, ap, subst}
+use Rattle.scenario_nodes.specs.Nodes.{IsNewCoordinator, coordinator_role}
+use Rattle.scenario_nodes.specs.Shelves.{coordinator_name}
+use Rattle.scenario_nodes.proofs.NotOpened.{handed_back}
+use Rattle.scenario_nodes.proofs.OpenedCoordinator.{opened, unopened}
+use Rattle.scenario_nodes.proofs.coordinators.open_coordinator.Goals as goal
+
+pub returns-in-Ok-opened-clause-new : goal.returns-in-Ok-opened-clause-new
+returns-in-Ok-opened-clause-new g c =
+    let s = c.args.scenario.now in
+    let managed : length c.as_slice.result.now ≡ length s.managers = ap length c.as_slice.ensures in
+    let served : length c.as_slice-2.result.now ≡ length s.resources = ap length c.as_slice-2.ensures in
+    subst (λ (n : ℕ). IsNewCoordinator g.H.D.Disk.state s n (length s.resources) c.in-Ok-opened.coordinator) managed
+    (subst (λ (n : ℕ). IsNewCoordinator g.H.D.Disk.state s (length c.as_slice.result.now) n c.in-Ok-opened.coordinator) served
+    (opened g.H.D.Disk.state s c.in-Ok.disks.0 c.in-Ok.disks.1 c.in-Ok.ensures.first c.in-Ok.ensures.second c.requires.set.disk.0 (length c.as_slice.result.now) (length c.as_slice-2.result.now)
+    c.in-Ok-opened.coordinator c.in-Ok-opened.ensures.times c.in-Ok-opened.ensures.opened))
+
+pub returns-in-Err-opened-clause-refused : goal.returns-in-Err-opened-clause-refused
+returns-in-Err-opened-clause-refused g c =
+    let s = c.args.scenario.now in
+    let e = c.in-Err-opened in
+    inr (handed_back g.H.D.Disk.state _ _ (coordinator_role s) coordinator_name coordinator_name s.disk _ c.open_fault.result e.first e.second refl c.give_disks.ensures.keeps c.give_disks.ensures.back
+    c.open_fault.ensures
+    (unopened g.H.D.Disk.state s c.in-Ok.disks.0 c.in-Ok.disks.1 c.in-Ok.ensures.first c.in-Ok.ensures.second c.requires.set.disk.0 (length c.as_slice.result.now) (length c.as_slice-2.result.now)
+    (e.error, e.first, e.second) e.ensures.refused))

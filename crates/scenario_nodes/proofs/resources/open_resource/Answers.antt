@@ -1,0 +1,22 @@
+use Rattle.std.proofs.Common.{inr}
+use Rattle.scenario_nodes.specs.Nodes.{resource_role}
+use Rattle.scenario_nodes.proofs.NotOpened.{handed_back}
+use Rattle.scenario_nodes.proofs.OpenedResource.{opened, unopened}
+use Rattle.scenario_nodes.proofs.resources.open_resource.Goals as goal
+
+pub returns-in-Ok-open-clause-new : goal.returns-in-Ok-open-clause-new
+returns-in-Ok-open-clause-new g c =
+    let d = c.in-Ok-take_disks in
+    opened g.H.D.Disk.state c.args.scenario.now d.disks.0 d.disks.1 d.ensures.first d.ensures.second c.requires.runnable.set.disk.0 c.args.number c.args.def.now c.in-Ok.setup c.in-Ok.ensures.setup
+    c.in-Ok.ensures.within c.in-Ok-open.resource c.in-Ok-open.ensures.opened c.in-Ok-open.ensures.at
+
+pub returns-in-Err-open-clause-refused : goal.returns-in-Err-open-clause-refused
+returns-in-Err-open-clause-refused g c =
+    let s = c.args.scenario.now in
+    let def = c.args.def.now in
+    let d = c.in-Ok-take_disks in
+    let e = c.in-Err-open in
+    inr (handed_back g.H.D.Disk.state _ _ (resource_role s c.args.number def) c.as_str-name.result.now def.name s.disk _ c.open_fault.result e.first e.other c.as_str-name.ensures
+    c.give_disks.ensures.keeps c.give_disks.ensures.back c.open_fault.ensures
+    (unopened g.H.D.Disk.state s d.disks.0 d.disks.1 d.ensures.first d.ensures.second c.requires.runnable.set.disk.0 c.args.number def c.in-Ok.setup c.in-Ok.ensures.setup c.in-Ok.ensures.within
+    (e.error, e.first, e.other) e.ensures.refused))

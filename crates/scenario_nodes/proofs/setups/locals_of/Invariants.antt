@@ -1,0 +1,11 @@
+use Rattle.std.proofs.Common.{◌≡◌, ◌+◌, ◌++◌, drop}
+use Rattle.std.specs.List.{AllByRecursion}
+use Rattle.history_text.specs.Worlds.{locals_at}
+use Rattle.resource_core.specs.Ready.{HasStmtsWithin}
+use Rattle.scenario_nodes.proofs.setups.locals_of.Given as goal
+
+abbrev pub invariant-loop-k : goal.invariant-loop-k
+invariant-loop-k l = record {
+  made : l.made.items ++ locals_at l.resource (l.k + 1) (drop l.k l.locals) ≡ locals_at l.resource 1 l.locals;
+  within : AllByRecursion HasStmtsWithin l.made.items;
+}

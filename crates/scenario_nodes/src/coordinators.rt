@@ -1,0 +1,71 @@
+//! The coordinator of a scenario on two disks of a shelf.
+ghost use Rattle.std.specs.Prelude.{◌≡◌, length, IfOk, IfErr, OnOk};
+ghost use Rattle.scenario_reader.specs.Runnable.{IsRunnable};
+ghost use Rattle.scenario_nodes.specs.Shelves.{AreGivenBack, HasBoth, KeepsOthers, coordinator_name};
+ghost use Rattle.scenario_nodes.specs.Nodes.{IsNewCoordinator, coordinator_disks, coordinator_role};
+ghost use Rattle.scenario_nodes.specs.Opening.{IsNotOpened};
+
+use crate::disks::{FIRST_DISK, SECOND_DISK, give_disks, take_disks};
+use coordinator_core::Coordinator;
+use disk_model::Shelf;
+use node_seat::{RunFault, open_fault};
+use scenario_reader::Scenario;
+use seata_types::Place;
+use std::alloc::Global;
+
+/// Takes the coordinator's two disks from the shelf and opens it on them. Where it isn't opened they are given back.
+pub fn open_coordinator<H: Shelf>(
+    alloc: Global,
+    scenario: &Scenario,
+    shelf: &mut H,
+) -> Result<Coordinator<H::D>, RunFault>
+    requires { IsRunnable scenario.now }
+    ensures new { IfOk result (IsNewCoordinator H.D.state scenario.now (length scenario.now.managers) (length scenario.now.resources)) }
+    ensures both { OnOk result (HasBoth (H.has_place shelf.new) coordinator_name) }
+    ensures refused { IfErr result (IsNotOpened H.D.state
+        (record { has_place = H.has_place shelf.old; given_back = H.given_back shelf.old; faults = H.faults shelf.old; tells = H.tells shelf.old })
+        (record { has_place = H.has_place shelf.new; given_back = H.given_back shelf.new; faults = H.faults shelf.new; tells = H.tells shelf.new })
+        (coordinator_role scenario.now) coordinator_name scenario.now.disk) }
+    ensures keeps { KeepsOthers coordinator_name
+        (record { has_place = H.has_place shelf.old; given_back = H.given_back shelf.old; faults = H.faults shelf.old; tells = H.tells shelf.old })
+        (record { has_place = H.has_place shelf.new; given_back = H.given_back shelf.new; faults = H.faults shelf.new; tells = H.tells shelf.new }) }
+{
+    let (first, second) = match take_disks(
+        alloc,
+        shelf,
+        Place::Tc,
+        FIRST_DISK,
+        SECOND_DISK,
+        scenario.disk,
+    ) {
+        Ok(disks) => disks,
+        Err(fault) => return Err(fault),
+    };
+    let opened = Coordinator::open(
+        alloc,
+        first,
+        second,
+        scenario.retry,
+        scenario.forget,
+        scenario.managers.as_slice().len() as u16,
+        scenario.resources.as_slice().len() as u16,
+    );
+    match opened {
+        Ok(coordinator) => Ok(coordinator),
+        Err((error, first, second)) => {
+            give_disks(shelf, FIRST_DISK, SECOND_DISK, (first, second));
+            Err(open_fault(Place::Tc, error))
+        }
+    }
+}
+
+/// Gives the coordinator's two disks back.
+pub fn close_coordinator<H: Shelf>(shelf: &mut H, coordinator: Coordinator<H::D>)
+    requires { HasBoth (H.has_place shelf.old) coordinator_name }
+    ensures back { AreGivenBack (H.tells shelf.old) (H.given_back shelf.new) coordinator_name (coordinator_disks coordinator) }
+    ensures keeps { KeepsOthers coordinator_name
+        (record { has_place = H.has_place shelf.old; given_back = H.given_back shelf.old; faults = H.faults shelf.old; tells = H.tells shelf.old })
+        (record { has_place = H.has_place shelf.new; given_back = H.given_back shelf.new; faults = H.faults shelf.new; tells = H.tells shelf.new }) }
+{
+    give_disks(shelf, FIRST_DISK, SECOND_DISK, coordinator.into_disks());
+}

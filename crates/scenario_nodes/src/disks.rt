@@ -1,0 +1,83 @@
+//! The two disks of a node, from the shelf and back.
+ghost use Rattle.std.specs.Prelude.{◌≡◌, ◌<◌, ◌^◌, IfOk, IfErr, OnOk, string_bytes};
+ghost use Rattle.disk_model.specs.Disk.{Rose};
+ghost use Rattle.disk_model.specs.Shelf.{IsBlank};
+ghost use Rattle.scenario_nodes.specs.Shelves.{AreGivenBack, HasBoth, KeepsOthers};
+ghost use Rattle.scenario_nodes.specs.Shelves.{second_name as name_of_second};
+ghost use Rattle.scenario_nodes.specs.Opening.{IsShelfFault};
+
+use disk_model::{Shelf, ShelfError};
+use node_seat::RunFault;
+use seata_types::{NoMemory, Place};
+use std::alloc::Global;
+
+/// The name of the coordinator's first disk, and of its second one.
+pub(crate) const FIRST_DISK: &str = "tc";
+
+pub(crate) const SECOND_DISK: &str = "tc.2";
+
+/// The name of the second disk of a node with this name.
+pub fn second_name(alloc: Global, name: &str) -> Result<String, NoMemory>
+    ensures { IfOk result (λ second. string_bytes second ≡ name_of_second name.now) }
+{
+    let mut second = String::from_str(alloc, name).map_err(|_| NoMemory)?;
+    second.push_str(".2").map_err(|_| NoMemory)?;
+    Ok(second)
+}
+
+/// The fault of a shelf that gives no disk for the node at a place.
+fn shelf_fault(place: Place, error: ShelfError) -> RunFault
+    ensures store { error ≡ ShelfError.Failed → result ≡ RunFault.Store place }
+    ensures memory { error ≡ ShelfError.NoMemory → result ≡ RunFault.NoMemory }
+{
+    match error {
+        ShelfError::Failed => RunFault::Store { place },
+        ShelfError::NoMemory => RunFault::NoMemory,
+    }
+}
+
+/// Takes both disks of the node at a place. Where the second can't be had the first is given back.
+pub(crate) fn take_disks<H: Shelf>(
+    alloc: Global,
+    shelf: &mut H,
+    place: Place,
+    first: &str,
+    second: &str,
+    size: u64,
+) -> Result<(H::D, H::D), RunFault>
+    requires size { size < 2 ^ 32 }
+    requires second { second.now ≡ name_of_second first.now }
+    ensures first { IfOk result (λ disks. IsBlank size (H.D.state disks.0)) }
+    ensures second { IfOk result (λ disks. IsBlank size (H.D.state disks.1)) }
+    ensures both { OnOk result (HasBoth (H.has_place shelf.new) first.now) }
+    ensures fault { IfErr result (IsShelfFault place (Rose (H.faults shelf.old) (H.faults shelf.new))) }
+    ensures keeps { KeepsOthers first.now
+        (record { has_place = H.has_place shelf.old; given_back = H.given_back shelf.old; faults = H.faults shelf.old; tells = H.tells shelf.old })
+        (record { has_place = H.has_place shelf.new; given_back = H.given_back shelf.new; faults = H.faults shelf.new; tells = H.tells shelf.new }) }
+{
+    let taken = match shelf.take(alloc, first, size) {
+        Ok(disk) => disk,
+        Err(error) => return Err(shelf_fault(place, error)),
+    };
+    match shelf.take(alloc, second, size) {
+        Ok(other) => Ok((taken, other)),
+        Err(error) => {
+            shelf.give(first, taken);
+            Err(shelf_fault(place, error))
+        }
+    }
+}
+
+/// Gives both disks of a node back under its name.
+pub(crate) fn give_disks<H: Shelf>(shelf: &mut H, first: &str, second: &str, disks: (H::D, H::D))
+    requires second { second.now ≡ name_of_second first.now }
+    requires both { HasBoth (H.has_place shelf.old) first.now }
+    ensures back { AreGivenBack (H.tells shelf.old) (H.given_back shelf.new) first.now disks }
+    ensures keeps { KeepsOthers first.now
+        (record { has_place = H.has_place shelf.old; given_back = H.given_back shelf.old; faults = H.faults shelf.old; tells = H.tells shelf.old })
+        (record { has_place = H.has_place shelf.new; given_back = H.given_back shelf.new; faults = H.faults shelf.new; tells = H.tells shelf.new }) }
+{
+    let (a, b) = disks;
+    shelf.give(first, a);
+    shelf.give(second, b);
+}
