@@ -13,7 +13,8 @@ use Rattle.replay_runner.specs.declared.messages.Letter.{Letter}
 use Rattle.replay_runner.specs.declared.messages.Messages.{Messages}
 use Rattle.replay_runner.specs.declared.runs.Run.{Run}
 use Rattle.replay_runner.specs.Letters.{AreMessages, letters, the_letter, waits}
-use Rattle.replay_runner.specs.Plays.{IsAt, IsEarliest, Names, Ready}
+use Rattle.replay_runner.specs.Entering.{IsEarliest}
+use Rattle.replay_runner.specs.Plays.{IsAt, Names, Ready}
 use Rattle.replay_runner.proofs.Histories.{Found, letters_from, length-letters}
 use Rattle.replay_runner.proofs.Lists.{drop_below}
 use Rattle.replay_runner.proofs.Singles.{length-singles}
@@ -32,6 +33,7 @@ short_at state r item ready =
 abbrev pub ready_at : {D K : Type 0} (state : D → DiskState) (r : Run D K) (item : Item) → Ready state r (item ∷ []) → IsAt state r
 ready_at state r item ready = record {
   s = ready.s;
+  runnable = ready.runnable;
   ms = ready.ms;
   plays = ready.plays;
   short = short_at state r item ready;
@@ -113,7 +115,7 @@ module _ {D K : Type 0} (state : D → DiskState) (r : Run D K) (n : ℕ) (names
 
 -- a replay with more known of its messages
 abbrev pub moved : {D K : Type 0} → Run D K → Messages → Run D K
-moved r kept = record { coordinator = r.coordinator; managers = r.managers; network = r.network; places = r.places; messages = kept; clock = r.clock }
+moved r kept = record { nodes = r.nodes; network = r.network; places = r.places; messages = kept; clock = r.clock }
 
 module _ {D K : Type 0} (state : D → DiskState) (old : Run D K) (kept : Messages) (n : Names state old (Auto 1)) (sent : kept.letters ≡ old.messages.letters) (taken : kept.taken ≡ old.messages.taken)
     (within : kept.waiting ≤ length old.messages.letters.items) (none : (k : ℕ) → old.messages.waiting ≤ k → k < kept.waiting → waits old.messages.letters.items old.messages.taken.items k ≡ false) where
@@ -126,6 +128,7 @@ module _ {D K : Type 0} (state : D → DiskState) (old : Run D K) (kept : Messag
   looked = record {
     here = record {
       s = n.here.s;
+      runnable = n.here.runnable;
       ms = n.here.ms;
       plays = record {
         nodes = n.here.plays.nodes;
@@ -136,7 +139,6 @@ module _ {D K : Type 0} (state : D → DiskState) (old : Run D K) (kept : Messag
         slow = n.here.plays.slow;
         legal = n.here.plays.legal;
         follows = n.here.plays.follows;
-        post = n.here.plays.post;
       };
       short = n.here.short;
       item = n.here.item;
@@ -155,6 +157,6 @@ module _ {D K : Type 0} (state : D → DiskState) (old : Run D K) (kept : Messag
       (ap (λ v. waits v.items kept.taken.items kept.waiting) sent ∙ ap (λ v. waits old.messages.letters.items v.items kept.waiting) taken ∙ waiting)
 
   -- where none waits a turn is given
-  abbrev pub looked_turns : (p : Place) → kept.waiting ≡ length old.messages.letters.items → IsEarliest state (moved old kept) p → Names state (moved old kept) (TurnOf p)
+  abbrev pub looked_turns : (p : Place) → kept.waiting ≡ length old.messages.letters.items → IsEarliest state old.nodes p → Names state (moved old kept) (TurnOf p)
   looked_turns p all earliest =
-      auto_turns state (moved old kept) 1 looked p (all ∙ ap (λ v. length v.items) (sym sent)) (earliest n.here.s n.here.ms n.here.plays.nodes).0
+      auto_turns state (moved old kept) 1 looked p (all ∙ ap (λ v. length v.items) (sym sent)) (earliest n.here.s n.here.ms n.here.plays.nodes)

@@ -1,112 +1,228 @@
 -- The node whose last turn is the earliest.
-use Rattle.std.proofs.Common.{◌≡◌, ◌+◌, ◌<◌, ◌≤◌, ℕ, zero, suc, nat_lt, Bool, true, false, if◌then◌else◌, List, [], ◌∷◌, drop, length, map, slice_get, Some, None, refl, ap, sym, subst, ◌∙◌, arith}
+use Rattle.std.proofs.Common.{◌≡◌, ◌+◌, ◌<◌, ◌≤◌, ℕ, zero, suc, nat_lt, Bool, true, false, if◌then◌else◌, List, [], ◌∷◌, ◌++◌, drop, length, map, slice_get, Some, option_map, refl, ap, sym, subst, ◌∙◌, arith}
 use Rattle.std.proofs.lemmas.Bool.Decides.{nat_tests}
 use Rattle.std.proofs.lemmas.Option.{same_Some, slice_get_within}
 use Rattle.disk_model.specs.Disk.{DiskState}
 use Rattle.seata_types.specs.declared.ids.Place.{Place}
 use Rattle.seata_types.specs.declared.ids.Place.TheVariants as place
 use Rattle.scenario_reader.specs.declared.scenarios.ManagerDef.{ManagerDef}
+use Rattle.scenario_reader.specs.declared.scenarios.ResourceDef.{ResourceDef}
 use Rattle.scenario_reader.specs.declared.scenarios.Scenario.{Scenario}
+use Rattle.scenario_reader.specs.Runnable.{IsPlaceAmong}
 use Rattle.history_rules.specs.ManagerRules.{Settings}
-use Rattle.history_rules.specs.Nodes.{Manager as ManagerRole}
+use Rattle.history_rules.specs.ResourceMemory.{Setup}
+use Rattle.history_rules.specs.Nodes.{Coordinator as CoordinatorRole, Manager as ManagerRole, Resource as ResourceRole}
 use Rattle.history_rules.specs.Histories.{Moment, own}
 use Rattle.history_rules.specs.Schedules.{earliest, last_turn, places}
-use Rattle.history_text.specs.Worlds.{managers_from, settings_of, world_of}
-use Rattle.coordinator_core.specs.declared.nodes.Coordinator.{Coordinator}
+use Rattle.history_text.proofs.Worlds.{slice_get-managers}
+use Rattle.history_text.specs.Worlds.{managers_from, resources_of, settings_of, setup_of, times_of, world_of}
+use Rattle.resource_core.specs.declared.nodes.Resource.{Resource}
+use Rattle.resource_core.specs.NodeLaws.{places as resource_places}
+use Rattle.resource_core.specs.Shown as shown
 use Rattle.manager_core.specs.declared.nodes.Manager.{Manager}
-use Rattle.manager_core.specs.Laws.{places as stands_by}
-use Rattle.manager_core.specs.Standing.{settings}
+use Rattle.manager_core.specs.Laws.{places as manager_places}
 use Rattle.replay_runner.specs.declared.members.Member.{Member}
-use Rattle.replay_runner.specs.Ends.{coordinator_role}
-use Rattle.replay_runner.specs.Plays.{Nodes}
-use Rattle.replay_runner.specs.Posts.{IsNode}
-use Rattle.replay_runner.proofs.Lists.{drop_past, member_at}
-use Rattle.replay_runner.proofs.Sent.{role_of_manager}
+use Rattle.replay_runner.specs.declared.nodes.Nodes.{Nodes}
+use Rattle.replay_runner.specs.Going.{NodesGo}
+use Rattle.replay_runner.specs.Members.{earliest_of, turn_of}
+use Rattle.replay_runner.specs.Standing.{AreNodes}
+use Rattle.replay_runner.proofs.Counted.{counted_next}
+use Rattle.replay_runner.proofs.Lists.{drop_get, drop_past, member_at}
+use Rattle.replay_runner.proofs.Making.{manager_at}
+use Rattle.replay_runner.proofs.Roles.{from_map, length-managers, length-resources, resource_there, role_of_manager, role_of_resource}
 
--- where the managers of a scenario stand
-abbrev places_from : (tries n : ℕ) → List ManagerDef → List Place
-places_from tries n defs = map (λ (m : Settings). place.Man m.number) (managers_from tries n defs)
+get_map : {A B : Type 0} (f : A → B) (xs : List A) (k : ℕ) → slice_get (map f xs) k ≡ option_map f (slice_get xs k)
+get_map f [] k = refl
+get_map f (x ∷ xs) zero = refl
+get_map f (x ∷ xs) (suc k) = get_map f xs k
 
-abbrev pub manager_places : Scenario → List Place
-manager_places s = places_from s.lock_tries 1 s.managers
+length_map : {A B : Type 0} (f : A → B) (xs : List A) → length (map f xs) ≡ length xs
+length_map f [] = refl
+length_map f (x ∷ xs) = let rest = length_map f xs in omega (arith, rest)
 
-length-places_from : (tries n : ℕ) (defs : List ManagerDef) → length (places_from tries n defs) ≡ length defs
-length-places_from tries n [] = refl
-length-places_from tries n (d ∷ defs) = let rest = length-places_from tries (n + 1) defs in omega (arith, rest)
+-- ---- one node after the other
 
-next_place : (tries n : ℕ) (defs : List ManagerDef) (k : ℕ) (def : ManagerDef) → slice_get defs k ≡ Some def
-    → drop k (places_from tries n defs) ≡ place.Man (n + k) ∷ drop (k + 1) (places_from tries n defs)
-next_place tries n [] k def e = absurd (let no : None ≡ Some def = e in cc)
-next_place tries n (d ∷ defs) zero def e = ap (λ i. place.Man i ∷ places_from tries (n + 1) defs) (let same : n ≡ n + 0 = omega arith in same)
-next_place tries n (d ∷ defs) (suc k) def e =
-    next_place tries (n + 1) defs k def e ∙ ap (λ i. place.Man i ∷ drop (k + 1) (places_from tries (n + 1) defs)) (let same : n + 1 + k ≡ n + suc k = omega arith in same)
-    ∙ ap (λ j. place.Man (n + suc k) ∷ drop j (places_from tries n (d ∷ defs))) (let more : suc (k + 1) ≡ suc k + 1 = omega arith in more)
+abbrev turns : {N K : Type 0} → (N → Place) → List (Member N K) → List (Place × ℕ)
+turns at members = map (turn_of at) members
 
--- of the first managers up to a number, and the coordinator, this node's last turn is the earliest
-abbrev pub IsFirst : Scenario → List Moment → (first : Place) → (turned number : ℕ) → Type 0
-IsFirst s ms first turned k = (earliest ms first (drop k (manager_places s)) ≡ earliest ms place.Tc (places (world_of s))) × (turned ≡ last_turn ms first) × IsNode s first
+abbrev stamped_at : Place → ℕ → Place × ℕ
+stamped_at p t = (p, t)
 
-pub first_as : (s : Scenario) (ms : List Moment) (first p : Place) (turned t k : ℕ) → IsFirst s ms p t k → first ≡ p → turned ≡ t → IsFirst s ms first turned k
-first_as s ms first p turned t k is same time = subst (λ q. IsFirst s ms q turned k) (sym same) (subst (λ n. IsFirst s ms p n k) (sym time) is)
+module _ {N K : Type 0} (at : N → Place) (members : List (Member N K)) (k : ℕ) (m : Member N K) (here : slice_get members k ≡ Some m) (p : Place) (turned : ℕ) where
+  next_turn : turns at (drop k members) ≡ turn_of at m ∷ turns at (drop (k + 1) members)
+  next_turn = ap (turns at) (drop_get members k m here)
+
+  -- its last turn is earlier, or not
+  pub takes_over : m.turned < turned → earliest_of (stamped_at p turned) (turns at (drop k members)) ≡ earliest_of (turn_of at m) (turns at (drop (k + 1) members))
+  takes_over earlier =
+      let test : nat_lt m.turned turned ≡ true = grind (arith, nat_tests, earlier) in
+      ap (earliest_of (stamped_at p turned)) next_turn ∙ ap (λ b. earliest_of (if b then turn_of at m else stamped_at p turned) (turns at (drop (k + 1) members))) test
+
+  pub stays_first : turned ≤ m.turned → earliest_of (stamped_at p turned) (turns at (drop k members)) ≡ earliest_of (stamped_at p turned) (turns at (drop (k + 1) members))
+  stays_first later =
+      let test : nat_lt m.turned turned ≡ false = grind (arith, nat_tests, later) in
+      ap (earliest_of (stamped_at p turned)) next_turn ∙ ap (λ b. earliest_of (if b then turn_of at m else stamped_at p turned) (turns at (drop (k + 1) members))) test
+
+-- the same of equal places and stamps
+pub next_first : {N K : Type 0} (at : N → Place) (members : List (Member N K)) (k : ℕ) (p q : Place) (turned earlier : ℕ) (answer : Place × ℕ) → p ≡ q → turned ≡ earlier
+    → earliest_of (stamped_at q earlier) (turns at (drop k members)) ≡ answer → earliest_of (stamped_at p turned) (turns at (drop k members)) ≡ answer
+next_first at members k p q turned earlier answer places stamps e =
+    ap (λ (r : Place). earliest_of (stamped_at r turned) (turns at (drop k members))) places ∙ ap (λ (t : ℕ). earliest_of (stamped_at q t) (turns at (drop k members))) stamps ∙ e
+
+-- all were looked at
+pub all_looked : {N K : Type 0} (at : N → Place) (members : List (Member N K)) (k : ℕ) → length members ≤ k → (first : Place × ℕ) → first ≡ earliest_of first (turns at (drop k members))
+all_looked at members k past first = ap (λ l. earliest_of first (turns at l)) (sym (drop_past members k past))
+
+-- it is one of them
+pub earliest_among : (P : Place → Type 0) (first : Place × ℕ) (others : List (Place × ℕ)) → P first.0 → ((k : ℕ) (turn : Place × ℕ) → slice_get others k ≡ Some turn → P turn.0) → P (earliest_of first others).0
+earliest_among P first [] one each = one
+earliest_among P first (turn ∷ others) one each = earliest_among P (if nat_lt turn.1 first.1 then turn else first) others (by (nat_lt turn.1 first.1)) (λ k t at. each (suc k) t at)
+  where
+    by : (b : Bool) → P (if b then turn else first).0
+    by true = each zero turn refl
+    by false = one
+
+-- ---- the places of a history
+
+abbrev timed : List Moment → Place → Place × ℕ
+timed ms p = (p, last_turn ms p)
+
+timed_either : (ms : List Moment) (b : Bool) (p q : Place) → (if b then timed ms p else timed ms q) ≡ timed ms (if b then p else q)
+timed_either ms true p q = refl
+timed_either ms false p q = refl
+
+earliest_is : (ms : List Moment) (first : Place) (ps : List Place) → earliest_of (timed ms first) (map (timed ms) ps) ≡ timed ms (earliest ms first ps)
+earliest_is ms first [] = refl
+earliest_is ms first (p ∷ ps) =
+    ap (λ t. earliest_of t (map (timed ms) ps)) (timed_either ms (nat_lt (last_turn ms p) (last_turn ms first)) p first)
+    ∙ earliest_is ms (if nat_lt (last_turn ms p) (last_turn ms first) then p else first) ps
+
+earliest_both : (ms : List Moment) (first : Place) (ps qs : List Place) → earliest ms first (ps ++ qs) ≡ earliest ms (earliest ms first ps) qs
+earliest_both ms first [] qs = refl
+earliest_both ms first (p ∷ ps) qs = earliest_both ms (if nat_lt (last_turn ms p) (last_turn ms first) then p else first) ps qs
+
+-- the nodes stand at these places, with the stamps of their last turns
+turns_are : {N K : Type 0} (at : N → Place) (ms : List Moment) (members : List (Member N K)) (ps : List Place) → length members ≡ length ps
+    → ((k : ℕ) (m : Member N K) → slice_get members k ≡ Some m → (slice_get ps k ≡ Some (at m.seat.node)) × (m.turned ≡ last_turn ms (at m.seat.node)))
+    → turns at members ≡ map (timed ms) ps
+turns_are at ms [] [] size each = refl
+turns_are at ms [] (p ∷ ps) size each = absurd (omega (arith, size))
+turns_are at ms (m ∷ members) [] size each = absurd (omega (arith, size))
+turns_are at ms (m ∷ members) (p ∷ ps) size each =
+    let (stands, turned) = each zero m refl in
+    let same : p ≡ at m.seat.node = same_Some p (at m.seat.node) stands in
+    let head : turn_of at m ≡ timed ms p = ap (stamped_at (at m.seat.node)) turned ∙ ap (timed ms) (sym same) in
+    let rest = turns_are at ms members ps (omega (arith, size)) (λ k n there. each (suc k) n there) in
+    ap (λ t. t ∷ turns at members) head ∙ ap (λ ts. timed ms p ∷ ts) rest
 
 either_is : {A : Type 0} (b : Bool) (a : A) → (if b then a else a) ≡ a
 either_is true a = refl
 either_is false a = refl
 
-module _ {D K : Type 0} (state : D → DiskState) (s : Scenario) (ms : List Moment) (c : Member (Coordinator D) K) (managers : List (Member Manager K)) (nodes : Nodes state s c managers ms) where
-  -- the coordinator is the first of all places
-  pub begins : earliest ms place.Tc (manager_places s) ≡ earliest ms place.Tc (places (world_of s))
-  begins = rw nodes.alone (ap (λ p. earliest ms p (manager_places s)) (sym (either_is (nat_lt (last_turn ms place.Tc) (last_turn ms place.Tc)) place.Tc)))
+-- ---- all nodes
 
-  -- the k-th manager stands next
-  module _ (k : ℕ) (m : Member Manager K) (here : slice_get managers k ≡ Some m) where
-    number : (def : ManagerDef) × (slice_get s.managers k ≡ Some def)
-    number = member_at s.managers k (let within = slice_get_within managers k m here in let count = nodes.count in omega (arith, within, count))
+abbrev resource_place : Setup → Place
+resource_place setup = place.Res setup.number
 
-    turned_at : m.turned ≡ last_turn ms (place.Man (k + 1))
-    turned_at =
-        let (n, there, is) = nodes.managed k number.0 number.1 in
-        ap (λ (x : Member Manager K). x.turned) (same_Some m n (sym here ∙ there)) ∙ is.turned
+abbrev manager_place : Settings → Place
+manager_place settings = place.Man settings.number
 
-    next_is : drop k (manager_places s) ≡ place.Man (k + 1) ∷ drop (k + 1) (manager_places s)
-    next_is = next_place s.lock_tries 1 s.managers k number.0 number.1 ∙ ap (λ i. place.Man i ∷ drop (k + 1) (manager_places s)) (let same : 1 + k ≡ k + 1 = omega arith in same)
+-- the node that waits longest
+abbrev pub longest : {D K : Type 0} → Nodes D K → Place × ℕ
+longest n = earliest_of (earliest_of (stamped_at place.Tc n.coordinator.turned) (turns shown.stands_at n.resources.items)) (turns manager_at n.managers.items)
 
-    pub is_manager : IsNode s (place.Man (k + 1))
-    is_manager = (ManagerRole (settings_of s.lock_tries (k + 1) number.0), role_of_manager s k number.0 number.1)
+-- out of two looks
+pub longest_is : {D K : Type 0} (n : Nodes D K) (resources : List (Member (Resource D) K)) (managers : List (Member Manager K)) (first second : Place × ℕ) → resources ≡ n.resources.items → managers ≡ n.managers.items
+    → first ≡ earliest_of (stamped_at place.Tc n.coordinator.turned) (turns shown.stands_at resources) → second ≡ earliest_of first (turns manager_at managers) → second.0 ≡ (longest n).0
+longest_is {D} {K} n resources managers first second servers users one two =
+    ap (λ (t : Place × ℕ). t.0)
+    (two ∙ ap (λ (l : List (Member Manager K)). earliest_of first (turns manager_at l)) users
+    ∙ ap (λ (t : Place × ℕ). earliest_of t (turns manager_at n.managers.items)) (one ∙ ap (λ (l : List (Member (Resource D) K)). earliest_of (stamped_at place.Tc n.coordinator.turned) (turns shown.stands_at l)) servers))
 
-    -- its last turn is earlier, or not
-    pub takes_over : (first : Place) → m.turned < last_turn ms first → earliest ms first (drop k (manager_places s)) ≡ earliest ms (place.Man (k + 1)) (drop (k + 1) (manager_places s))
-    takes_over first earlier =
-        let test : nat_lt (last_turn ms (place.Man (k + 1))) (last_turn ms first) ≡ true = let turned = turned_at in grind (arith, nat_tests, turned, earlier) in
-        ap (earliest ms first) next_is ∙ ap (λ b. earliest ms (if b then place.Man (k + 1) else first) (drop (k + 1) (manager_places s))) test
+module _ {D K : Type 0} (state : D → DiskState) (s : Scenario) (n : Nodes D K) (ms : List Moment) (t : AreNodes state s n ms) where
+  module _ (k : ℕ) (m : Member (Resource D) K) (here : slice_get n.resources.items k ≡ Some m) where
+    resource_def : (def : ResourceDef) × (slice_get s.resources k ≡ Some def)
+    resource_def = member_at s.resources k (let within = slice_get_within n.resources.items k m here in let count = t.resources in omega (arith, within, count))
 
-    pub stays_first : (first : Place) → last_turn ms first ≤ m.turned → earliest ms first (drop k (manager_places s)) ≡ earliest ms first (drop (k + 1) (manager_places s))
-    stays_first first later =
-        let test : nat_lt (last_turn ms (place.Man (k + 1))) (last_turn ms first) ≡ false = let turned = turned_at in grind (arith, nat_tests, turned, later) in
-        ap (earliest ms first) next_is ∙ ap (λ b. earliest ms (if b then place.Man (k + 1) else first) (drop (k + 1) (manager_places s))) test
+    resource_turn : (slice_get (map resource_place (resources_of s)) k ≡ Some (shown.stands_at m.seat.node)) × (m.turned ≡ last_turn ms (shown.stands_at m.seat.node))
+    resource_turn =
+        let (def, there) = resource_def in
+        let (x, found, is) = t.each (place.Res (k + 1)) (ResourceRole (setup_of s (k + 1) def) []) (role_of_resource s k def there) in
+        let same : x ≡ m = same_Some x m (sym found ∙ counted_next n.resources.items k ∙ here) in
+        let stands : shown.stands_at m.seat.node ≡ place.Res (k + 1) =
+        ap (λ (y : Member (Resource D) K). shown.stands_at y.seat.node) (sym same)
+        ∙ resource_places state x.seat.node (ResourceRole (setup_of s (k + 1) def) []) (own (place.Res (k + 1)) ms) is.member.stands in
+        let listed : slice_get (map resource_place (resources_of s)) k ≡ Some (place.Res (k + 1)) =
+        get_map resource_place (resources_of s) k ∙ ap (option_map resource_place) (resource_there s k ∙ ap (option_map (setup_of s (k + 1))) there) in
+        (listed ∙ ap (λ p. Some p) (sym stands), ap (λ (y : Member (Resource D) K). y.turned) (sym same) ∙ is.member.turned ∙ ap (last_turn ms) (sym stands))
 
-    -- where it stands
-    stands_there : (p : Place) → p ≡ place.Man (settings m.seat.node).number → p ≡ place.Man (k + 1)
-    stands_there p is =
-        let (n, there, kept) = nodes.managed k number.0 number.1 in
-        let same : m ≡ n = same_Some m n (sym here ∙ there) in
-        is ∙ ap (λ (x : Member Manager K). place.Man (settings x.seat.node).number) same
-        ∙ stands_by n.seat.node (ManagerRole (settings_of s.lock_tries (k + 1) number.0)) (own (place.Man (k + 1)) ms) kept.stands
+  module _ (k : ℕ) (m : Member Manager K) (here : slice_get n.managers.items k ≡ Some m) where
+    manager_def : (def : ManagerDef) × (slice_get s.managers k ≡ Some def)
+    manager_def = member_at s.managers k (let within = slice_get_within n.managers.items k m here in let count = t.managers in omega (arith, within, count))
 
-    pub waits_longer : (first : Place) (turned : ℕ) → IsFirst s ms first turned k → m.turned < turned → (p : Place) → p ≡ place.Man (settings m.seat.node).number → IsFirst s ms p m.turned (k + 1)
-    waits_longer first turned (before, is, node) earlier p at =
-        subst (λ q. IsFirst s ms q m.turned (k + 1)) (sym (stands_there p at)) (sym (takes_over first (omega (arith, is, earlier))) ∙ before, turned_at, is_manager)
+    manager_turn : (slice_get (map manager_place (managers_from s.lock_tries 1 s.managers)) k ≡ Some (manager_at m.seat.node)) × (m.turned ≡ last_turn ms (manager_at m.seat.node))
+    manager_turn =
+        let (def, there) = manager_def in
+        let (x, found, is) = t.each (place.Man (k + 1)) (ManagerRole (settings_of s.lock_tries (k + 1) def)) (role_of_manager s k def there) in
+        let same : x ≡ m = same_Some x m (sym found ∙ counted_next n.managers.items k ∙ here) in
+        let stands : manager_at m.seat.node ≡ place.Man (k + 1) =
+        ap (λ (y : Member Manager K). manager_at y.seat.node) (sym same)
+        ∙ manager_places x.seat.node (ManagerRole (settings_of s.lock_tries (k + 1) def)) (own (place.Man (k + 1)) ms) is.stands in
+        let listed : slice_get (map manager_place (managers_from s.lock_tries 1 s.managers)) k ≡ Some (place.Man (k + 1)) =
+        get_map manager_place (managers_from s.lock_tries 1 s.managers) k ∙ ap (option_map manager_place) (slice_get-managers s.lock_tries 1 s.managers k
+        ∙ ap (λ j. option_map (settings_of s.lock_tries j) (slice_get s.managers k)) (let same_number : 1 + k ≡ k + 1 = omega arith in same_number) ∙ ap (option_map (settings_of s.lock_tries (k + 1))) there) in
+        (listed ∙ ap (λ p. Some p) (sym stands), ap (λ (y : Member Manager K). y.turned) (sym same) ∙ is.turned ∙ ap (last_turn ms) (sym stands))
 
-    pub waits_less : (first : Place) (turned : ℕ) → IsFirst s ms first turned k → turned ≤ m.turned → IsFirst s ms first turned (k + 1)
-    waits_less first turned (before, is, node) later = (sym (stays_first first (omega (arith, is, later))) ∙ before, is, node)
+  resource_turns : turns shown.stands_at n.resources.items ≡ map (timed ms) (map resource_place (resources_of s))
+  resource_turns =
+      turns_are shown.stands_at ms n.resources.items (map resource_place (resources_of s)) (t.resources ∙ sym (length-resources s) ∙ sym (length_map resource_place (resources_of s))) resource_turn
 
-  -- the coordinator is the first that is looked at
-  pub first_of_all : IsFirst s ms place.Tc c.turned 0
-  first_of_all = (begins, nodes.coordinated.member.turned, (coordinator_role s, refl))
+  manager_turns : turns manager_at n.managers.items ≡ map (timed ms) (map manager_place (managers_from s.lock_tries 1 s.managers))
+  manager_turns =
+      turns_are manager_at ms n.managers.items (map manager_place (managers_from s.lock_tries 1 s.managers))
+      (t.managers ∙ sym (length-managers s.lock_tries 1 s.managers) ∙ sym (length_map manager_place (managers_from s.lock_tries 1 s.managers))) manager_turn
 
-  -- all were looked at
-  pub all_waited : (k : ℕ) → length managers ≤ k → (first : Place) (turned : ℕ) → IsFirst s ms first turned k → (first ≡ earliest ms place.Tc (places (world_of s))) × IsNode s first
-  all_waited k past first turned (before, is, node) =
-      let count = nodes.count in
-      let size = length-places_from s.lock_tries 1 s.managers in
-      (sym (ap (earliest ms first) (drop_past (manager_places s) k (omega (arith, past, count, size)))) ∙ before, node)
+  pub waits_longest : (longest n).0 ≡ earliest ms place.Tc (places (world_of s))
+  waits_longest =
+      let rs = map resource_place (resources_of s) in
+      let users = map manager_place (managers_from s.lock_tries 1 s.managers) in
+      let first : stamped_at place.Tc n.coordinator.turned ≡ timed ms place.Tc = ap (stamped_at place.Tc) coordinator_turned in
+      let of_resources : earliest_of (stamped_at place.Tc n.coordinator.turned) (turns shown.stands_at n.resources.items) ≡ timed ms (earliest ms place.Tc rs) =
+      ap (λ f. earliest_of f (turns shown.stands_at n.resources.items)) first ∙ ap (earliest_of (timed ms place.Tc)) resource_turns ∙ earliest_is ms place.Tc rs in
+      let of_all : longest n ≡ timed ms (earliest ms (earliest ms place.Tc rs) users) =
+      ap (λ f. earliest_of f (turns manager_at n.managers.items)) of_resources ∙ ap (earliest_of (timed ms (earliest ms place.Tc rs))) manager_turns ∙ earliest_is ms (earliest ms place.Tc rs) users in
+      ap (λ (turn : Place × ℕ). turn.0) of_all ∙ sym (earliest_both ms place.Tc rs users)
+      ∙ ap (λ p. earliest ms p (rs ++ users)) (sym (either_is (nat_lt (last_turn ms place.Tc) (last_turn ms place.Tc)) place.Tc))
+    where
+      coordinator_turned : n.coordinator.turned ≡ last_turn ms place.Tc
+      coordinator_turned = (t.each place.Tc (CoordinatorRole (times_of s) []) refl).member.turned
+
+-- it stands at one of the places
+module _ {D K : Type 0} (n : Nodes D K) (stamp now : ℕ) (g : NodesGo (length n.managers.items) (length n.resources.items) stamp now n) where
+  abbrev Among : Place → Type 0
+  Among p = IsPlaceAmong (length n.resources.items) (length n.managers.items) p
+
+  resource_among : (k : ℕ) (turn : Place × ℕ) → slice_get (turns shown.stands_at n.resources.items) k ≡ Some turn → Among turn.0
+  resource_among k turn here =
+      let (m, there, is) = from_map (turn_of shown.stands_at) (slice_get n.resources.items k) turn (sym (get_map (turn_of shown.stands_at) n.resources.items k) ∙ here) in
+      let within = slice_get_within n.resources.items k m there in
+      let stands : turn.0 ≡ place.Res (k + 1) = ap (λ (u : Place × ℕ). u.0) is ∙ (g.each_resource k m there).at in
+      let low : 1 ≤ k + 1 = omega arith in
+      let high : k + 1 ≤ length n.resources.items = omega (arith, within) in
+      subst Among (sym stands) (low, high)
+
+  manager_among : (k : ℕ) (turn : Place × ℕ) → slice_get (turns manager_at n.managers.items) k ≡ Some turn → Among turn.0
+  manager_among k turn here =
+      let (m, there, is) = from_map (turn_of manager_at) (slice_get n.managers.items k) turn (sym (get_map (turn_of manager_at) n.managers.items k) ∙ here) in
+      let within = slice_get_within n.managers.items k m there in
+      let stands : turn.0 ≡ place.Man (k + 1) = ap (λ (u : Place × ℕ). u.0) is ∙ ap (λ j. place.Man j) (g.each_manager k m there).number in
+      let low : 1 ≤ k + 1 = omega arith in
+      let high : k + 1 ≤ length n.managers.items = omega (arith, within) in
+      subst Among (sym stands) (low, high)
+
+  pub longest_among : (p : Place) → p ≡ (longest n).0 → Among p
+  longest_among p is = subst Among (sym is) among
+    where
+      among : Among (longest n).0
+      among = earliest_among Among (earliest_of (stamped_at place.Tc n.coordinator.turned) (turns shown.stands_at n.resources.items)) (turns manager_at n.managers.items)
+          (earliest_among Among (stamped_at place.Tc n.coordinator.turned) (turns shown.stands_at n.resources.items) tt resource_among) manager_among

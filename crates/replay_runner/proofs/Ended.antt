@@ -1,68 +1,30 @@
 -- What an entry adds to a history, and how the replay ends where one isn't made.
-use Rattle.std.proofs.Common.{◌≡◌, ◌+◌, ◌≤◌, ℕ, Bool, true, false, List, ◌∷◌, length, slice_get, Option, Some, None, refl, ap, sym, subst, ◌∙◌, arith}
+use Rattle.std.proofs.Common.{inl, inr, ◌≡◌, ◌⊎◌, ◌+◌, ◌≤◌, ℕ, List, ◌∷◌, length, slice_get, Option, Some, Err, refl, ap, sym, subst, ◌∙◌, arith}
 use Rattle.disk_model.specs.Disk.{DiskState}
-use Rattle.disk_model.specs.Stop.{state_of}
-use Rattle.disk_journal.specs.Journals.{end_of}
-use Rattle.journal_checkpoint.specs.Keeping.{active_disk, other_disk}
-use Rattle.journal_checkpoint.specs.Pairs.{chosen}
 use Rattle.seata_types.specs.declared.ids.Place.{Place}
 use Rattle.seata_types.specs.declared.ids.Place.TheVariants as place
 use Rattle.seata_types.specs.declared.messages.Input.{Input}
 use Rattle.seata_types.specs.declared.messages.Step.{Step}
 use Rattle.scenario_reader.specs.declared.scenarios.Scenario.{Scenario}
-use Rattle.session_store.specs.Keeping.{twin}
-use Rattle.history_rules.specs.Own.{Event, Given, Stopped, Crashed, Restarted, Own}
-use Rattle.history_rules.specs.ManagerRules.{Settings}
-use Rattle.history_rules.specs.Nodes.{no_past, role_at}
-use Rattle.history_rules.specs.Nodes.{Manager as ManagerRole}
+use Rattle.history_rules.specs.Own.{Event}
+use Rattle.history_rules.specs.Nodes.{Happens, no_past}
 use Rattle.history_rules.specs.Histories.{Moment, HappensAt, IsDone, ReceivesLater, Stands, brings, own}
 use Rattle.history_rules.specs.Histories.{Cause as Reason}
 use Rattle.history_rules.specs.Schedules.{IsStep, singles}
 use Rattle.history_text.specs.declared.entries.Cause.{Cause}
-use Rattle.history_text.specs.Durable.{own_faults}
 use Rattle.history_text.specs.Worlds.{items_of, world_of}
-use Rattle.coordinator_core.specs.declared.nodes.Coordinator.{Coordinator}
-use Rattle.coordinator_core.specs.Standing.{StandsAs, disks_of, needs, sessions_of, size_of}
-use Rattle.node_seat.specs.Entering.{room}
-use Rattle.node_seat.specs.Faults.{Blames, Room}
+use Rattle.node_seat.specs.Faults.{Blames}
 use Rattle.node_seat.specs.declared.faults.RunFault.{RunFault}
 use Rattle.node_seat.specs.declared.faults.RunFault.TheVariants as fault
 use Rattle.replay_runner.specs.declared.runs.Run.{Run}
-use Rattle.replay_runner.specs.Ends.{Ends, IsCause, IsRoom, StopsAt, coordinator_role}
-use Rattle.replay_runner.specs.Plays.{Comes, HaveSize, IsFitting, Plays, moment_by}
+use Rattle.replay_runner.specs.Ends.{IsCause, IsRoom, StopsAt}
+use Rattle.replay_runner.specs.Entering.{Comes, Entered, Unmade}
+use Rattle.replay_runner.specs.Plays.{Brings, Ends, Plays, moment_made}
+use Rattle.replay_runner.specs.Standing.{AllStand, counted_on}
 use Rattle.replay_runner.specs.Steps.{IsNextEvent, next}
 use Rattle.replay_runner.proofs.Histories.{last_now-le, rises_after}
 use Rattle.replay_runner.proofs.Lists.{drop_first}
-
--- ---- the coordinator's disk
-
-size_active : {D : Type 0} (b : Bool) (f : D → DiskState) (active other : D) (n : ℕ) → (f (chosen b active other)).size ≡ n → (f (chosen b other active)).size ≡ n → (f active).size ≡ n
-size_active true f active other n one two = two
-size_active false f active other n one two = one
-
-pub room_is : {D : Type 0} (state : D → DiskState) (s : Scenario) (c : Coordinator D) → HaveSize s.disk (disks_of state c) → IsRoom s (room needs (size_of state) c)
-room_is state s c sized = record {
-  size = size_active (twin (sessions_of c)).second (state_of state) (active_disk (twin (sessions_of c))) (other_disk (twin (sessions_of c))) s.disk sized.first sized.second;
-  end = end_of (twin (sessions_of c)).journal;
-  needs = λ body. refl;
-}
-
--- ---- a manager alone
-
-man_tc : {A : Type 0} (n : ℕ) → place.Man n ≡ place.Tc → A
-man_tc n e = absurd cc
-
--- a manager makes no entry for want of memory alone
-pub only_memory : (s : Scenario) (m : Settings) (n : ℕ) (at : Place) (owns : List Own) (now : ℕ) (event : Event) (counted : ℕ) (before after : Room) (missed : RunFault)
-    → IsFitting s (place.Man n) event → Blames at (ManagerRole m) owns now event counted before after missed → missed ≡ fault.NoMemory
-only_memory s m n at owns now (Given given) counted before after (fault.Store q) fits b = absurd b.2
-only_memory s m n at owns now (Given given) counted before after (fault.Full q full) fits b = absurd (let no : None ≡ Some b.1.0 = b.1.1 in cc)
-only_memory s m n at owns now (Given given) counted before after (fault.Damaged q second offset) fits b = absurd b
-only_memory s m n at owns now (Given given) counted before after fault.Other fits b = absurd b
-only_memory s m n at owns now (Given given) counted before after fault.NoMemory fits b = refl
-only_memory s m n at owns now (Stopped calls) counted before after missed fits b = man_tc n fits
-only_memory s m n at owns now Crashed counted before after missed fits b = man_tc n fits
-only_memory s m n at owns now (Restarted pick calls) counted before after missed fits b = man_tc n fits.0
+use Rattle.replay_runner.proofs.Printed.{length-places}
 
 -- ---- one moment more
 
@@ -78,55 +40,94 @@ module _ {D K : Type 0} (state : D → DiskState) (s : Scenario) (r : Run D K) (
     done = done;
   }
 
-module _ {D K : Type 0} (state : D → DiskState) (r : Run D K) (p : Place) (printed : Cause) (given : Option Input) (c : Comes state r p printed given) where
+-- a cause that stops the replay
+cause_is : (s : Scenario) (ms : List Moment) (counted : Place → ℕ) (missed : RunFault) → StopsAt s ms counted missed → IsCause s ms counted missed
+cause_is s ms counted fault.NoMemory stops = tt
+cause_is s ms counted (fault.Store q) stops = stops
+cause_is s ms counted (fault.Full q full) stops = stops
+cause_is s ms counted (fault.Damaged q second offset) stops = stops
+cause_is s ms counted fault.Other stops = stops
+
+-- want of memory is free
+pub memory_ends : (s : Scenario) (ms : List Moment) (counted : Place → ℕ) (missed : RunFault) → missed ≡ fault.NoMemory → IsCause s ms counted missed
+memory_ends s ms counted missed is = subst (IsCause s ms counted) (sym is) tt
+
+module _ {D K : Type 0} (state : D → DiskState) (r : Run D K) (p : Place) (printed : Cause) (given : Option Input) (b : Brings state r p printed given) where
   abbrev history : List Moment
-  history = c.here.ms
+  history = b.here.ms
 
-  is_item : slice_get (singles (items_of c.here.s)) (length history) ≡ Some c.here.item
-  is_item = drop_first (singles (items_of c.here.s)) (length history) c.here.item c.here.rest c.here.is_next
+  is_item : slice_get (singles (items_of b.here.s)) (length history) ≡ Some b.here.item
+  is_item = drop_first (singles (items_of b.here.s)) (length history) b.here.item b.here.rest b.here.is_next
 
-  pub stands_next : (step : Step) → HappensAt (role_at (world_of c.here.s) no_past p) (own p history) r.clock c.event step
-      → Stands (world_of c.here.s) no_past history (moment_by state r p printed given c step)
-  stands_next step happens = rising state c.here.s r history c.here.plays p r.clock c.why (Some c.event) step (omega arith) c.later c.brought happens
+  pub stands_next : (step : Step) → Happens b.role (own p history) r.clock b.event step → Stands (world_of b.here.s) no_past history (moment_made state r p printed given b step)
+  stands_next step happens =
+      rising state b.here.s r history b.here.plays p r.clock b.why (Some b.event) step (omega arith) b.later b.brought
+      (subst (λ o. HappensAt o (own p history) r.clock b.event step) (sym b.there) happens)
 
-  pub is_step_next : (step : Step) → IsStep (world_of c.here.s) no_past history (moment_by state r p printed given c step) (slice_get (singles (items_of c.here.s)) (length history))
+  pub is_step_next : (step : Step) → IsStep (world_of b.here.s) no_past history (moment_made state r p printed given b step) (slice_get (singles (items_of b.here.s)) (length history))
   is_step_next step =
-      subst (IsStep (world_of c.here.s) no_past history (moment_by state r p printed given c step)) (sym is_item)
-      (refl, (let now_is = c.here.plays.clocked in let still = c.still in omega (arith, now_is, still)), sym c.names)
+      subst (IsStep (world_of b.here.s) no_past history (moment_made state r p printed given b step)) (sym is_item)
+      (refl, (let now_is = b.here.plays.clocked in let still = b.still in omega (arith, now_is, still)), sym b.names)
 
-  next_event : p ≡ place.Tc → IsNextEvent c.here.s history place.Tc r.clock c.event
-  next_event at = record {
-    item = c.here.item;
+  next_event : IsNextEvent b.here.s history p r.clock b.event
+  next_event = record {
+    item = b.here.item;
     is_next = is_item;
-    why = c.why;
-    names = ap (λ q. (q, c.why)) (sym at) ∙ sym c.names;
-    brought = c.brought ∙ ap (λ q. brings history q c.why) at;
-    moment = let now_is = c.here.plays.clocked in let still = c.still in omega (arith, now_is, still);
+    why = b.why;
+    names = sym b.names;
+    brought = b.brought;
+    moment = let now_is = b.here.plays.clocked in let still = b.still in omega (arith, now_is, still);
   }
 
-  module _ (at : p ≡ place.Tc) (counted : ℕ) (before after : Room) (had : IsRoom c.here.s before) (has : IsRoom c.here.s after) where
-    stops_at : (missed : RunFault) → Blames place.Tc (coordinator_role c.here.s) (own place.Tc history) r.clock c.event counted before after missed → StopsAt c.here.s history counted missed
-    stops_at missed b = record { now = r.clock; event = c.event; is_next = next_event at; before = before; after = after; had = had; has = has; blames = b }
-
-    pub cause_is : (missed : RunFault) → Blames place.Tc (coordinator_role c.here.s) (own place.Tc history) r.clock c.event counted before after missed → IsCause c.here.s history counted missed
-    cause_is fault.NoMemory b = tt
-    cause_is (fault.Store q) b = stops_at (fault.Store q) b
-    cause_is (fault.Full q full) b = stops_at (fault.Full q full) b
-    cause_is (fault.Damaged q second offset) b = stops_at (fault.Damaged q second offset) b
-    cause_is fault.Other b = stops_at fault.Other b
+  -- the same among the nodes
+  abbrev pub among_nodes : (stamp : ℕ) → stamp ≡ length r.places.items + 1 → Comes state r.nodes stamp p printed given
+  among_nodes stamp is = record {
+    s = b.here.s;
+    ms = history;
+    nodes = b.here.plays.nodes;
+    stamped = let size = ap length b.here.plays.standing ∙ length-places history in omega (arith, size, is);
+    role = b.role;
+    there = b.there;
+    why = b.why;
+    is_printed = b.is_printed;
+    event = b.event;
+    is_event = b.is_event;
+    fits = b.fits;
+  }
 
   -- no entry was made
-  pub ends_here : (n : Coordinator D) (missed : RunFault) → StandsAs state n (coordinator_role c.here.s) (own place.Tc history) → IsCause c.here.s history (own_faults (disks_of state n)) missed
-      → Ends state c.here.s n missed
-  ends_here n missed stands cause = record { history = history; legal = c.here.plays.legal; follows = c.here.plays.follows; stands = stands; cause = cause }
+  ends_here : (new : Run D K) (missed : RunFault) → Unmade state b.here.s new.nodes history p b.role r.clock b.event missed → Ends state b.here.s new missed
+  ends_here new missed u = record { history = history; legal = b.here.plays.legal; follows = b.here.plays.follows; stands = u.stands; cause = by u.cause }
+    where
+      by : (missed ≡ fault.NoMemory) ⊎ (IsRoom b.here.s u.before × IsRoom b.here.s u.after × Blames p b.role (own p history) r.clock b.event (counted_on state new.nodes p) u.before u.after missed) → IsCause b.here.s history (counted_on state new.nodes) missed
+      by (inl is) = memory_ends b.here.s history (counted_on state new.nodes) missed is
+      by (inr (had, has, blames)) = cause_is b.here.s history (counted_on state new.nodes) missed (record {
+        at = p;
+        role = b.role;
+        there = b.there;
+        now = r.clock;
+        event = b.event;
+        is_next = next_event;
+        before = u.before;
+        after = u.after;
+        had = had;
+        has = has;
+        blames = blames;
+      })
 
   -- one was made, and memory was refused
-  pub ends_later : (n : Coordinator D) (missed : RunFault) (step : Step) → HappensAt (role_at (world_of c.here.s) no_past p) (own p history) r.clock c.event step
-      → StandsAs state n (coordinator_role c.here.s) (own place.Tc (moment_by state r p printed given c step ∷ history)) → missed ≡ fault.NoMemory → Ends state c.here.s n missed
-  ends_later n missed step happens stands is = record {
-    history = moment_by state r p printed given c step ∷ history;
-    legal = (c.here.plays.legal, stands_next step happens);
-    follows = (c.here.plays.follows, is_step_next step);
+  pub ends_later : (new : Run D K) (missed : RunFault) (step : Step) → Happens b.role (own p history) r.clock b.event step → AllStand state b.here.s new.nodes (moment_made state r p printed given b step ∷ history)
+      → missed ≡ fault.NoMemory → Ends state b.here.s new missed
+  ends_later new missed step happens stands is = record {
+    history = moment_made state r p printed given b step ∷ history;
+    legal = (b.here.plays.legal, stands_next step happens);
+    follows = (b.here.plays.follows, is_step_next step);
     stands = stands;
-    cause = subst (IsCause c.here.s (moment_by state r p printed given c step ∷ history) (own_faults (disks_of state n))) (sym is) tt;
+    cause = memory_ends b.here.s (moment_made state r p printed given b step ∷ history) (counted_on state new.nodes) missed is;
   }
+
+  -- either
+  pub ends_unentered : (new : Run D K) (missed : RunFault) (stamp : ℕ) (is : stamp ≡ length r.places.items + 1) → Entered state r.nodes new.nodes stamp r.clock p printed given (among_nodes stamp is) (Err missed)
+      → Ends state b.here.s new missed
+  ends_unentered new missed stamp is (inl u) = ends_here new missed u
+  ends_unentered new missed stamp is (inr u) = ends_later new missed u.step u.happens u.stands u.memory

@@ -1,44 +1,59 @@
--- What the nodes of a replay are after an entry.
-use Rattle.std.proofs.Common.{◌≡◌, ◌≢◌, ◌+◌, ◌≤◌, ℕ, nat_eq, Bool, true, false, List, [], ◌∷◌, ◌++◌, length, length-set, set, slice_get, Option, Some, None, Result, Ok, refl, ap, sym, subst, ◌∙◌, arith}
+-- What the nodes of a replay stand for after an entry.
+use Rattle.std.proofs.Common.{◌≡◌, ◌≢◌, ◌+◌, ◌-◌, ℕ, nat_eq, Bool, true, false, List, [], ◌∷◌, ◌++◌, length, length-set, set, Option, Some, None, Result, Ok, refl, ap, sym, subst, ◌∙◌, arith}
 use Rattle.std.proofs.lemmas.Bool.Decides.{nat_tests}
 use Rattle.std.proofs.lemmas.Option.{same_Some}
+use Rattle.std.specs.Prelude.{Vec}
+use Rattle.std.specs.declared.alloc.Global.{Global}
 use Rattle.disk_model.specs.Disk.{DiskState}
 use Rattle.journal_checkpoint.specs.Images.{Pair}
 use Rattle.seata_types.specs.declared.ids.Place.{Place}
 use Rattle.seata_types.specs.declared.ids.Place.TheVariants as place
+use Rattle.seata_types.specs.declared.messages.Input.{Input}
 use Rattle.seata_types.specs.declared.messages.Step.{Step}
-use Rattle.scenario_reader.specs.declared.scenarios.ManagerDef.{ManagerDef}
 use Rattle.scenario_reader.specs.declared.scenarios.Scenario.{Scenario}
 use Rattle.history_rules.specs.Own.{Event, Own}
-use Rattle.history_rules.specs.Nodes.{Role, Happens}
-use Rattle.history_rules.specs.Nodes.{Manager as ManagerRole}
+use Rattle.history_rules.specs.Devices.{last_pick}
+use Rattle.history_rules.specs.Nodes.{Role, Happens, counted_at, no_past, role_at}
 use Rattle.history_rules.specs.Histories.{Moment, own, same_place, Turn, Deliver, Missing, Wait, Stop, Crash, Restart, Local, Outside}
 use Rattle.history_rules.specs.Histories.{Cause as Reason}
-use Rattle.history_rules.specs.Schedules.{turn_at}
+use Rattle.history_rules.specs.Schedules.{last_turn, turn_at}
 use Rattle.history_text.specs.History.{cause_of, entries}
-use Rattle.history_text.specs.Promises.{AreTold, StaysItself}
-use Rattle.history_text.specs.Worlds.{settings_of}
+use Rattle.history_text.specs.Promises.{StaysItself, own_entry}
+use Rattle.history_text.specs.Worlds.{world_of}
 use Rattle.coordinator_core.specs.declared.nodes.Coordinator.{Coordinator}
-use Rattle.coordinator_core.specs.declared.nodes.TheConstants.{NODE_STEPS}
-use Rattle.coordinator_core.specs.Standing.{StandsAs, disks_of, serves, steps_left}
-use Rattle.coordinator_core.specs.Stepping.{stands_at}
+use Rattle.coordinator_core.specs.Standing as coordinator
+use Rattle.resource_core.specs.declared.nodes.Resource.{Resource}
+use Rattle.resource_core.specs.NodeStanding as resource
+use Rattle.resource_core.specs.Shown as shown
 use Rattle.manager_core.specs.declared.nodes.Manager.{Manager}
-use Rattle.manager_core.specs.declared.nodes.TheConstants.{NODE_STEPS as MANAGER_STEPS}
-use Rattle.manager_core.specs.Standing.{StandsAs as StandsAsManager, steps_of}
-use Rattle.node_seat.specs.Entering.{IsTold, entry_at}
+use Rattle.manager_core.specs.Standing as manager
+use Rattle.node_seat.specs.Entering.{HaveLast, IsTold, entry_at}
 use Rattle.node_seat.specs.declared.faults.RunFault.{RunFault}
+use Rattle.node_seat.proofs.Kept.{told_all}
 use Rattle.replay_runner.specs.declared.members.Member.{Member}
 use Rattle.replay_runner.specs.declared.messages.Letter.{Letter}
-use Rattle.replay_runner.specs.Ends.{coordinator_role}
+use Rattle.replay_runner.specs.declared.nodes.Nodes.{Nodes}
 use Rattle.replay_runner.specs.Members.{IsMember, Makes, turned_by}
-use Rattle.replay_runner.specs.Plays.{HasManager, IsCoordinator, IsManager, Nodes}
-use Rattle.replay_runner.specs.Posts.{RegistersNothing}
+use Rattle.replay_runner.specs.Standing.{AllStand, AreNodes, HasNode, IsServer, StandsAt}
 use Rattle.replay_runner.specs.Steps.{next}
 use Rattle.replay_runner.specs.Traces.{at}
+use Rattle.replay_runner.proofs.Counted.{counted_elsewhere, counted_low, counted_set}
 use Rattle.replay_runner.proofs.Histories.{same_place-refl}
-use Rattle.replay_runner.proofs.Lists.{slice_get-set_other, slice_get-set_same}
+use Rattle.replay_runner.proofs.Printed.{printed_here, printed_there}
 
--- ---- one node
+-- ---- what a moment adds to a place
+
+pub own_there : (p : Place) (m : Moment) (ms : List Moment) → same_place p m.place ≡ false → own p (m ∷ ms) ≡ own p ms
+own_there p m ms away = rw away refl
+
+turn_there : (p : Place) (m : Moment) (ms : List Moment) → same_place p m.place ≡ false → last_turn (m ∷ ms) p ≡ last_turn ms p
+turn_there p m ms away = rw away refl
+
+pub own_next : (p : Place) (ms : List Moment) (now : ℕ) (why : Reason) (event : Event) (step : Step) → own p (next ms p now why (Some event) step ∷ ms) ≡ own_entry event now step ∷ own p ms
+own_next p ms now why event step = rw (same_place-refl p) refl
+
+turn_next : (p : Place) (ms : List Moment) (now : ℕ) (why : Reason) (event : Option Event) (step : Step) → last_turn (next ms p now why event step ∷ ms) p ≡ turn_at true why (length ms + 1) (last_turn ms p)
+turn_next p ms now why event step = rw (same_place-refl p) refl
 
 -- the stamp of the last turn
 turned_is : (why : Reason) (stamp before : ℕ) → turned_by (cause_of why) stamp before ≡ turn_at true why stamp before
@@ -52,129 +67,242 @@ turned_is (Restart pick calls) stamp before = refl
 turned_is (Local number) stamp before = refl
 turned_is (Outside number) stamp before = refl
 
-module _ {N K : Type 0} (stands_for : N → Role → List Own → Type 0) (left : N → ℕ) (steps : ℕ) (p : Place) (role : Role) where
+-- ---- one node
+
+module _ {N K : Type 0} (stands_for : N → Role → List Own → Type 0) (p : Place) (role : Role) where
   -- an entry elsewhere
-  pub member_stays : (member : Member N K) (ms : List Moment) (m : Moment) → same_place p m.place ≡ false → IsMember stands_for left steps p role member ms
-      → IsMember stands_for left steps p role member (m ∷ ms)
+  pub member_stays : (member : Member N K) (ms : List Moment) (m : Moment) → same_place p m.place ≡ false → IsMember stands_for p role member ms → IsMember stands_for p role member (m ∷ ms)
   member_stays member ms m away k = record {
-    stands = rw away k.stands;
-    traced = rw away k.traced;
-    turned = rw away k.turned;
-    able = let able = k.able in omega (arith, able);
+    stands = subst (stands_for member.seat.node role) (sym (own_there p m ms away)) k.stands;
+    traced = k.traced ∙ sym (printed_there p m ms away);
+    turned = k.turned ∙ sym (turn_there p m ms away);
   }
 
   -- its own entry
   module _ (place_at : N → Place) (disks : N → Pair) (old new : Member N K) (ms : List Moment) (now : ℕ) (why : Reason) (event : Event) (step : Step) (r : Result (Option Letter) RunFault)
-      (k : IsMember stands_for left steps p role old ms) (here : place_at old.seat.node ≡ p) (told : IsTold (disks old.seat.node) event)
-      (counted : left old.seat.node ≤ left new.seat.node + 1)
+      (stood : stands_for old.seat.node role (own p ms)) (told : IsTold (disks old.seat.node) event)
       (e : Makes stands_for place_at disks old new (length ms + 1) now (cause_of why) event step r) where
     pub member_happens : Happens role (own p ms) now event step
-    member_happens = (e.does.reacts told role (own p ms) k.stands).0
+    member_happens = (e.does.reacts told role (own p ms) stood).0
 
     pub member_stands : stands_for new.seat.node role (own p (next ms p now why (Some event) step ∷ ms))
-    member_stands = rw (same_place-refl p) ((e.does.reacts told role (own p ms) k.stands).1)
+    member_stands = subst (stands_for new.seat.node role) (sym (own_next p ms now why event step)) (e.does.reacts told role (own p ms) stood).1
 
-    member_traced : new.seat.trace ≡ entries (at p (next ms p now why (Some event) step ∷ ms))
-    member_traced = rw (same_place-refl p) (e.printed ∙ ap (λ t. t ++ entry_at (length ms + 1) (place_at old.seat.node) now (cause_of why) step ∷ []) k.traced
-        ∙ ap (λ q. entries (at p ms) ++ entry_at (length ms + 1) q now (cause_of why) step ∷ []) here)
-
-    pub member_enters : new.turned ≡ turned_by (cause_of why) (length ms + 1) old.turned → IsMember stands_for left steps p role new (next ms p now why (Some event) step ∷ ms)
-    member_enters turned = record {
-      stands = member_stands;
-      traced = member_traced;
-      turned = rw (same_place-refl p) (turned ∙ turned_is why (length ms + 1) old.turned ∙ ap (turn_at true why (length ms + 1)) k.turned);
-      able = let able = k.able in omega (arith, able, counted);
+  module _ (place_at : N → Place) (disks : N → Pair) (old new : Member N K) (ms : List Moment) (now : ℕ) (why : Reason) (event : Event) (step : Step) (letter : Option Letter)
+      (k : IsMember stands_for p role old ms) (here : place_at old.seat.node ≡ p) (told : IsTold (disks old.seat.node) event)
+      (e : Makes stands_for place_at disks old new (length ms + 1) now (cause_of why) event step (Ok letter)) where
+    pub member_enters : IsMember stands_for p role new (next ms p now why (Some event) step ∷ ms)
+    member_enters = record {
+      stands = member_stands place_at disks old new ms now why event step (Ok letter) k.stands told e;
+      traced = e.printed ∙ ap (λ t. t ++ entry_at (length ms + 1) (place_at old.seat.node) now (cause_of why) step ∷ []) k.traced
+          ∙ ap (λ q. entries (at p ms) ++ entry_at (length ms + 1) q now (cause_of why) step ∷ []) here
+          ∙ sym (printed_here p (next ms p now why (Some event) step) ms (same_place-refl p));
+      turned = e.turned ∙ turned_is why (length ms + 1) old.turned ∙ ap (turn_at true why (length ms + 1)) k.turned ∙ sym (turn_next p ms now why (Some event) step);
     }
+
+-- ---- a node with disks
+
+module _ {N K : Type 0} (stands_for : N → Role → List Own → Type 0) (disks : N → Pair) (p : Place) (role : Role) (bytes : ℕ) where
+  pub server_stays : (member : Member N K) (ms : List Moment) (m : Moment) → same_place p m.place ≡ false → IsServer stands_for disks p role bytes member ms
+      → IsServer stands_for disks p role bytes member (m ∷ ms)
+  server_stays member ms m away k = record {
+    member = member_stays stands_for p role member ms m away k.member;
+    told = k.told;
+    picked = subst (λ os. HaveLast (last_pick os) (disks member.seat.node)) (sym (own_there p m ms away)) k.picked;
+    sized = k.sized;
+  }
+
+  pub server_enters : (place_at : N → Place) (serves : N → Input → Type 0) (old new : Member N K) (ms : List Moment) (now : ℕ) (why : Reason) (event : Event) (step : Step) (letter : Option Letter)
+      → IsServer stands_for disks p role bytes old ms → place_at old.seat.node ≡ p → StaysItself place_at serves disks old.seat.node new.seat.node
+      → Makes stands_for place_at disks old new (length ms + 1) now (cause_of why) event step (Ok letter) → IsServer stands_for disks p role bytes new (next ms p now why (Some event) step ∷ ms)
+  server_enters place_at serves old new ms now why event step letter k here same e =
+      let told = told_all (disks old.seat.node) event k.told in
+      record {
+        member = member_enters stands_for p role place_at disks old new ms now why event step letter k.member here told e;
+        told = record { first = same.first.tells_images ∙ k.told.first; second = same.second.tells_images ∙ k.told.second };
+        picked = subst (λ os. HaveLast (last_pick os) (disks new.seat.node)) (sym (own_next p ms now why event step)) (e.does.picked told role (own p ms) k.member.stands k.picked);
+        sized = record { first = same.first.size ∙ k.sized.first; second = same.second.size ∙ k.sized.second };
+      }
 
 -- ---- all nodes
 
-told_on : {D : Type 0} (state : D → DiskState) (old new : Coordinator D) → StaysItself stands_at serves (disks_of state) old new → AreTold (disks_of state old) → AreTold (disks_of state new)
-told_on state old new same told = record { first = same.first.tells_images ∙ told.first; second = same.second.tells_images ∙ told.second }
+no_role : (role : Role) → None ≡ Some role → ⊥
+no_role role e = let no : None ≡ Some role = e in cc
 
-module _ {D K : Type 0} (state : D → DiskState) (s : Scenario) where
-  -- the coordinator after an entry elsewhere
-  coordinator_stays : (c : Member (Coordinator D) K) (ms : List Moment) (m : Moment) → same_place place.Tc m.place ≡ false → IsCoordinator state s c ms → IsCoordinator state s c (m ∷ ms)
-  coordinator_stays c ms m away k = record {
-    member = member_stays (StandsAs state) steps_left NODE_STEPS place.Tc (coordinator_role s) c ms m away k.member;
-    told = k.told;
-    picked = rw away k.picked;
-    sized = k.sized;
-    serving = k.serving;
-    unregistered = rw away k.unregistered;
-  }
+-- they stand for their own entries
+pub all_stand : {D K : Type 0} (state : D → DiskState) (s : Scenario) (n : Nodes D K) (ms : List Moment) → AreNodes state s n ms → AllStand state s n ms
+all_stand state s n ms t place.Net role e = absurd (no_role role e)
+all_stand state s n ms t place.Tc role e = (t.each place.Tc role e).member.stands
+all_stand state s n ms t (place.Res k) role e = let (m, there, is) = t.each (place.Res k) role e in (m, there, is.member.stands)
+all_stand state s n ms t (place.Man k) role e = let (m, there, is) = t.each (place.Man k) role e in (m, there, is.stands)
 
-  managers_stay : (managers : List (Member Manager K)) (ms : List Moment) (m : Moment) → ((n : ℕ) → same_place (place.Man n) m.place ≡ false) → ((k : ℕ) → HasManager s managers ms k)
-      → (k : ℕ) → HasManager s managers (m ∷ ms) k
-  managers_stay managers ms m away each k def found =
-      let (member, there, is) = each k def found in
-      (member, there, member_stays StandsAsManager steps_of MANAGER_STEPS (place.Man (k + 1)) (ManagerRole (settings_of s.lock_tries (k + 1) def)) member ms m (away (k + 1)) is)
+-- an entry elsewhere
+pub nodes_net : {D K : Type 0} (state : D → DiskState) (s : Scenario) (n : Nodes D K) (ms : List Moment) (m : Moment) → m.place ≡ place.Net → AreNodes state s n ms → AreNodes state s n (m ∷ ms)
+nodes_net {D} {K} state s n ms m here t = record { resources = t.resources; managers = t.managers; each = by }
+  where
+    by : (p : Place) (role : Role) → role_at (world_of s) no_past p ≡ Some role → HasNode state s.disk n (m ∷ ms) p role
+    by place.Net role e = absurd (no_role role e)
+    by place.Tc role e = server_stays (coordinator.StandsAs state) (coordinator.disks_of state) place.Tc role s.disk n.coordinator ms m (ap (same_place place.Tc) here) (t.each place.Tc role e)
+    by (place.Res k) role e =
+        let (x, there, is) = t.each (place.Res k) role e in
+        (x, there, server_stays (resource.StandsAs state) (shown.disks_of state) (place.Res k) role s.disk x ms m (ap (same_place (place.Res k)) here) is)
+    by (place.Man k) role e =
+        let (x, there, is) = t.each (place.Man k) role e in
+        (x, there, member_stays manager.StandsAs (place.Man k) role x ms m (ap (same_place (place.Man k)) here) is)
 
-  -- an entry of the network
-  pub nodes_net : (c : Member (Coordinator D) K) (managers : List (Member Manager K)) (ms : List Moment) (now : ℕ) (why : Reason) (step : Step) → Nodes state s c managers ms
-      → Nodes state s c managers (next ms place.Net now why None step ∷ ms)
-  nodes_net c managers ms now why step t = record {
-    alone = t.alone;
-    uncalled = t.uncalled;
-    coordinated = coordinator_stays c ms (next ms place.Net now why None step) refl t.coordinated;
-    count = t.count;
-    managed = managers_stay managers ms (next ms place.Net now why None step) (λ n. refl) t.managed;
-  }
+-- ---- the coordinator's entry
 
-  -- an entry of the coordinator
-  module _ (old new : Member (Coordinator D) K) (managers : List (Member Manager K)) (ms : List Moment) (now : ℕ) (why : Reason) (event : Event) (step : Step) (letter : Option Letter)
-      (t : Nodes state s old managers ms) (same : StaysItself stands_at serves (disks_of state) old.seat.node new.seat.node)
-      (counted : steps_left old.seat.node ≤ steps_left new.seat.node + 1) (fresh : RegistersNothing event) (told : IsTold (disks_of state old.seat.node) event)
-      (e : Makes (StandsAs state) stands_at (disks_of state) old new (length ms + 1) now (cause_of why) event step (Ok letter)) where
-    coordinator_enters : IsCoordinator state s new (next ms place.Tc now why (Some event) step ∷ ms)
-    coordinator_enters = record {
-      member = member_enters (StandsAs state) steps_left NODE_STEPS place.Tc (coordinator_role s) stands_at (disks_of state) old new ms now why event step (Ok letter)
-          t.coordinated.member refl told counted e e.turned;
-      told = told_on state old.seat.node new.seat.node same t.coordinated.told;
-      picked = e.does.picked told (coordinator_role s) (own place.Tc ms) t.coordinated.member.stands t.coordinated.picked;
-      sized = record { first = same.first.size ∙ t.coordinated.sized.first; second = same.second.size ∙ t.coordinated.sized.second };
-      serving = λ other is framable. same.same_inputs other (t.coordinated.serving other is framable);
-      unregistered = (t.coordinated.unregistered, fresh);
-    }
+abbrev pub with_coordinator : {D K : Type 0} → Nodes D K → Member (Coordinator D) K → Nodes D K
+with_coordinator n new = record { coordinator = new; resources = n.resources; managers = n.managers }
 
-    pub nodes_coordinator : Nodes state s new managers (next ms place.Tc now why (Some event) step ∷ ms)
-    nodes_coordinator = record {
-      alone = t.alone;
-      uncalled = t.uncalled;
-      coordinated = coordinator_enters;
-      count = t.count;
-      managed = managers_stay managers ms (next ms place.Tc now why (Some event) step) (λ n. refl) t.managed;
-    }
+module _ {D K : Type 0} (state : D → DiskState) (s : Scenario) (old : Nodes D K) (new : Member (Coordinator D) K) (role : Role) (there : role_at (world_of s) no_past place.Tc ≡ Some role) where
+  pub nodes_coordinator : (ms : List Moment) (m : Moment) → m.place ≡ place.Tc → AreNodes state s old ms
+      → IsServer (coordinator.StandsAs state) (coordinator.disks_of state) place.Tc role s.disk new (m ∷ ms) → AreNodes state s (with_coordinator old new) (m ∷ ms)
+  nodes_coordinator ms m here t made = record { resources = t.resources; managers = t.managers; each = by }
+    where
+      by : (p : Place) (other : Role) → role_at (world_of s) no_past p ≡ Some other → HasNode state s.disk (with_coordinator old new) (m ∷ ms) p other
+      by place.Net other e = absurd (no_role other e)
+      by place.Tc other e = subst (λ r. IsServer (coordinator.StandsAs state) (coordinator.disks_of state) place.Tc r s.disk new (m ∷ ms)) (same_Some role other (sym there ∙ e)) made
+      by (place.Res k) other e =
+          let (x, placed, is) = t.each (place.Res k) other e in
+          (x, placed, server_stays (resource.StandsAs state) (shown.disks_of state) (place.Res k) other s.disk x ms m (ap (same_place (place.Res k)) here) is)
+      by (place.Man k) other e =
+          let (x, placed, is) = t.each (place.Man k) other e in
+          (x, placed, member_stays manager.StandsAs (place.Man k) other x ms m (ap (same_place (place.Man k)) here) is)
 
-  -- an entry of the k-th manager, counted from 0
-  module _ (c : Member (Coordinator D) K) (managers : List (Member Manager K)) (ms : List Moment) (k : ℕ) (def : ManagerDef) (old new : Member Manager K) (now : ℕ) (why : Reason) (event : Event) (step : Step)
-      (t : Nodes state s c managers ms) (here : slice_get s.managers k ≡ Some def) (there : slice_get managers k ≡ Some old)
-      (made : IsManager s (k + 1) def new (next ms (place.Man (k + 1)) now why (Some event) step ∷ ms)) where
-    abbrev whole : List Moment
-    whole = next ms (place.Man (k + 1)) now why (Some event) step ∷ ms
+  pub stand_coordinator : (ms os : List Moment) → ((p : Place) → same_place p place.Tc ≡ false → own p os ≡ own p ms) → AreNodes state s old ms
+      → coordinator.StandsAs state new.seat.node role (own place.Tc os) → AllStand state s (with_coordinator old new) os
+  stand_coordinator ms os elsewhere t made place.Net other e = absurd (no_role other e)
+  stand_coordinator ms os elsewhere t made place.Tc other e = subst (λ r. coordinator.StandsAs state new.seat.node r (own place.Tc os)) (same_Some role other (sym there ∙ e)) made
+  stand_coordinator ms os elsewhere t made (place.Res k) other e =
+      let (x, placed, is) = t.each (place.Res k) other e in
+      (x, placed, subst (resource.StandsAs state x.seat.node other) (sym (elsewhere (place.Res k) refl)) is.member.stands)
+  stand_coordinator ms os elsewhere t made (place.Man k) other e =
+      let (x, placed, is) = t.each (place.Man k) other e in
+      (x, placed, subst (manager.StandsAs x.seat.node other) (sym (elsewhere (place.Man k) refl)) is.stands)
 
-    this : (j : ℕ) (other : ManagerDef) → slice_get s.managers j ≡ Some other → j ≡ k → (n : Member Manager K) × (slice_get (set managers k new) j ≡ Some n) × IsManager s (j + 1) other n whole
-    this j other found e =
-        let defs : def ≡ other = same_Some def other (sym here ∙ ap (slice_get s.managers) (sym e) ∙ found) in
-        subst (λ i. (n : Member Manager K) × (slice_get (set managers k new) i ≡ Some n) × IsManager s (i + 1) other n whole) (sym e)
-        (new, slice_get-set_same managers k new old there, subst (λ d. IsManager s (k + 1) d new whole) defs made)
+-- ---- the entry of a resource
 
-    by : (j : ℕ) (other : ManagerDef) → slice_get s.managers j ≡ Some other → (b : Bool) → nat_eq j k ≡ b
-        → (n : Member Manager K) × (slice_get managers j ≡ Some n) × IsManager s (j + 1) other n ms
-        → (n : Member Manager K) × (slice_get (set managers k new) j ≡ Some n) × IsManager s (j + 1) other n whole
-    by j other found true e before = this j other found (grind (arith, nat_tests))
-    by j other found false e (n, placed, was) =
-        let apart : j ≢ k = grind (arith, nat_tests) in
-        let away : nat_eq (j + 1) (k + 1) ≡ false = grind (arith, nat_tests) in (
-          n,
-          slice_get-set_other managers k j new apart ∙ placed,
-          member_stays StandsAsManager steps_of MANAGER_STEPS (place.Man (j + 1)) (ManagerRole (settings_of s.lock_tries (j + 1) other)) n ms (next ms (place.Man (k + 1)) now why (Some event) step) away was,
-        )
+abbrev pub with_resources : {D K : Type 0} → Nodes D K → Vec (Member (Resource D) K) Global → Nodes D K
+with_resources n resources = record { coordinator = n.coordinator; resources = resources; managers = n.managers }
 
-    pub nodes_manager : Nodes state s c (set managers k new) whole
-    nodes_manager = record {
-      alone = t.alone;
-      uncalled = t.uncalled;
-      coordinated = coordinator_stays c ms (next ms (place.Man (k + 1)) now why (Some event) step) refl t.coordinated;
-      count = length-set managers k new ∙ t.count;
-      managed = λ j other found. by j other found (nat_eq j k) refl (t.managed j other found);
-    }
+module _ {D K : Type 0} (state : D → DiskState) (s : Scenario) (old : Nodes D K) (n : ℕ) (before new : Member (Resource D) K) (resources : Vec (Member (Resource D) K) Global)
+    (placed : counted_at old.resources.items n ≡ Some before) (changed : resources.items ≡ set old.resources.items (n - 1) new)
+    (role : Role) (there : role_at (world_of s) no_past (place.Res n) ≡ Some role) where
+  same_there : counted_at resources.items n ≡ Some new
+  same_there = ap (λ l. counted_at l n) changed ∙ counted_set old.resources.items n new before placed
+
+  other_there : (k : ℕ) → k ≢ n → counted_at resources.items k ≡ counted_at old.resources.items k
+  other_there k apart = ap (λ l. counted_at l k) changed ∙ counted_elsewhere old.resources.items n k new (counted_low old.resources.items n before placed) apart
+
+  pub nodes_resource : (ms : List Moment) (m : Moment) → m.place ≡ place.Res n → AreNodes state s old ms
+      → IsServer (resource.StandsAs state) (shown.disks_of state) (place.Res n) role s.disk new (m ∷ ms) → AreNodes state s (with_resources old resources) (m ∷ ms)
+  nodes_resource ms m here t made = record { resources = ap length changed ∙ length-set old.resources.items (n - 1) new ∙ t.resources; managers = t.managers; each = by }
+    where
+      this : (other : Role) → role_at (world_of s) no_past (place.Res n) ≡ Some other → HasNode state s.disk (with_resources old resources) (m ∷ ms) (place.Res n) other
+      this other e = (new, same_there, subst (λ r. IsServer (resource.StandsAs state) (shown.disks_of state) (place.Res n) r s.disk new (m ∷ ms)) (same_Some role other (sym there ∙ e)) made)
+
+      at_number : (k : ℕ) (b : Bool) → nat_eq k n ≡ b → (other : Role) → role_at (world_of s) no_past (place.Res k) ≡ Some other
+          → HasNode state s.disk (with_resources old resources) (m ∷ ms) (place.Res k) other
+      at_number k true is other e =
+          let same : n ≡ k = grind (arith, nat_tests) in
+          subst (λ j. (o : Role) → role_at (world_of s) no_past (place.Res j) ≡ Some o → HasNode state s.disk (with_resources old resources) (m ∷ ms) (place.Res j) o) same this other e
+      at_number k false is other e =
+          let apart : k ≢ n = grind (arith, nat_tests) in
+          let (x, found, kept) = t.each (place.Res k) other e in
+          (x, other_there k apart ∙ found, server_stays (resource.StandsAs state) (shown.disks_of state) (place.Res k) other s.disk x ms m (ap (same_place (place.Res k)) here ∙ is) kept)
+
+      by : (p : Place) (other : Role) → role_at (world_of s) no_past p ≡ Some other → HasNode state s.disk (with_resources old resources) (m ∷ ms) p other
+      by place.Net other e = absurd (no_role other e)
+      by place.Tc other e = server_stays (coordinator.StandsAs state) (coordinator.disks_of state) place.Tc other s.disk old.coordinator ms m (ap (same_place place.Tc) here) (t.each place.Tc other e)
+      by (place.Res k) other e = at_number k (nat_eq k n) refl other e
+      by (place.Man k) other e =
+          let (x, found, kept) = t.each (place.Man k) other e in
+          (x, found, member_stays manager.StandsAs (place.Man k) other x ms m (ap (same_place (place.Man k)) here) kept)
+
+  pub stand_resource : (ms os : List Moment) → ((p : Place) → same_place p (place.Res n) ≡ false → own p os ≡ own p ms) → AreNodes state s old ms
+      → resource.StandsAs state new.seat.node role (own (place.Res n) os) → AllStand state s (with_resources old resources) os
+  stand_resource ms os elsewhere t made = by
+    where
+      this : (other : Role) → role_at (world_of s) no_past (place.Res n) ≡ Some other → StandsAt state (with_resources old resources) (place.Res n) other (own (place.Res n) os)
+      this other e = (new, same_there, subst (λ r. resource.StandsAs state new.seat.node r (own (place.Res n) os)) (same_Some role other (sym there ∙ e)) made)
+
+      at_number : (k : ℕ) (b : Bool) → nat_eq k n ≡ b → (other : Role) → role_at (world_of s) no_past (place.Res k) ≡ Some other → StandsAt state (with_resources old resources) (place.Res k) other (own (place.Res k) os)
+      at_number k true is other e =
+          let same : n ≡ k = grind (arith, nat_tests) in
+          subst (λ j. (o : Role) → role_at (world_of s) no_past (place.Res j) ≡ Some o → StandsAt state (with_resources old resources) (place.Res j) o (own (place.Res j) os)) same this other e
+      at_number k false is other e =
+          let apart : k ≢ n = grind (arith, nat_tests) in
+          let (x, found, kept) = t.each (place.Res k) other e in
+          (x, other_there k apart ∙ found, subst (resource.StandsAs state x.seat.node other) (sym (elsewhere (place.Res k) is)) kept.member.stands)
+
+      by : (p : Place) (other : Role) → role_at (world_of s) no_past p ≡ Some other → StandsAt state (with_resources old resources) p other (own p os)
+      by place.Net other e = absurd (no_role other e)
+      by place.Tc other e = subst (coordinator.StandsAs state old.coordinator.seat.node other) (sym (elsewhere place.Tc refl)) (t.each place.Tc other e).member.stands
+      by (place.Res k) other e = at_number k (nat_eq k n) refl other e
+      by (place.Man k) other e =
+          let (x, found, kept) = t.each (place.Man k) other e in
+          (x, found, subst (manager.StandsAs x.seat.node other) (sym (elsewhere (place.Man k) refl)) kept.stands)
+
+-- ---- the entry of a manager
+
+abbrev pub with_managers : {D K : Type 0} → Nodes D K → Vec (Member Manager K) Global → Nodes D K
+with_managers n managers = record { coordinator = n.coordinator; resources = n.resources; managers = managers }
+
+module _ {D K : Type 0} (state : D → DiskState) (s : Scenario) (old : Nodes D K) (n : ℕ) (before new : Member Manager K) (managers : Vec (Member Manager K) Global)
+    (placed : counted_at old.managers.items n ≡ Some before) (changed : managers.items ≡ set old.managers.items (n - 1) new)
+    (role : Role) (there : role_at (world_of s) no_past (place.Man n) ≡ Some role) where
+  same_man : counted_at managers.items n ≡ Some new
+  same_man = ap (λ l. counted_at l n) changed ∙ counted_set old.managers.items n new before placed
+
+  other_man : (k : ℕ) → k ≢ n → counted_at managers.items k ≡ counted_at old.managers.items k
+  other_man k apart = ap (λ l. counted_at l k) changed ∙ counted_elsewhere old.managers.items n k new (counted_low old.managers.items n before placed) apart
+
+  pub nodes_manager : (ms : List Moment) (m : Moment) → m.place ≡ place.Man n → AreNodes state s old ms
+      → IsMember manager.StandsAs (place.Man n) role new (m ∷ ms) → AreNodes state s (with_managers old managers) (m ∷ ms)
+  nodes_manager ms m here t made = record { resources = t.resources; managers = ap length changed ∙ length-set old.managers.items (n - 1) new ∙ t.managers; each = by }
+    where
+      this : (other : Role) → role_at (world_of s) no_past (place.Man n) ≡ Some other → HasNode state s.disk (with_managers old managers) (m ∷ ms) (place.Man n) other
+      this other e = (new, same_man, subst (λ r. IsMember manager.StandsAs (place.Man n) r new (m ∷ ms)) (same_Some role other (sym there ∙ e)) made)
+
+      at_number : (k : ℕ) (b : Bool) → nat_eq k n ≡ b → (other : Role) → role_at (world_of s) no_past (place.Man k) ≡ Some other
+          → HasNode state s.disk (with_managers old managers) (m ∷ ms) (place.Man k) other
+      at_number k true is other e =
+          let same : n ≡ k = grind (arith, nat_tests) in
+          subst (λ j. (o : Role) → role_at (world_of s) no_past (place.Man j) ≡ Some o → HasNode state s.disk (with_managers old managers) (m ∷ ms) (place.Man j) o) same this other e
+      at_number k false is other e =
+          let apart : k ≢ n = grind (arith, nat_tests) in
+          let (x, found, kept) = t.each (place.Man k) other e in
+          (x, other_man k apart ∙ found, member_stays manager.StandsAs (place.Man k) other x ms m (ap (same_place (place.Man k)) here ∙ is) kept)
+
+      by : (p : Place) (other : Role) → role_at (world_of s) no_past p ≡ Some other → HasNode state s.disk (with_managers old managers) (m ∷ ms) p other
+      by place.Net other e = absurd (no_role other e)
+      by place.Tc other e = server_stays (coordinator.StandsAs state) (coordinator.disks_of state) place.Tc other s.disk old.coordinator ms m (ap (same_place place.Tc) here) (t.each place.Tc other e)
+      by (place.Res k) other e =
+          let (x, found, kept) = t.each (place.Res k) other e in
+          (x, found, server_stays (resource.StandsAs state) (shown.disks_of state) (place.Res k) other s.disk x ms m (ap (same_place (place.Res k)) here) kept)
+      by (place.Man k) other e = at_number k (nat_eq k n) refl other e
+
+  pub stand_manager : (ms os : List Moment) → ((p : Place) → same_place p (place.Man n) ≡ false → own p os ≡ own p ms) → AreNodes state s old ms
+      → manager.StandsAs new.seat.node role (own (place.Man n) os) → AllStand state s (with_managers old managers) os
+  stand_manager ms os elsewhere t made = by
+    where
+      this : (other : Role) → role_at (world_of s) no_past (place.Man n) ≡ Some other → StandsAt state (with_managers old managers) (place.Man n) other (own (place.Man n) os)
+      this other e = (new, same_man, subst (λ r. manager.StandsAs new.seat.node r (own (place.Man n) os)) (same_Some role other (sym there ∙ e)) made)
+
+      at_number : (k : ℕ) (b : Bool) → nat_eq k n ≡ b → (other : Role) → role_at (world_of s) no_past (place.Man k) ≡ Some other → StandsAt state (with_managers old managers) (place.Man k) other (own (place.Man k) os)
+      at_number k true is other e =
+          let same : n ≡ k = grind (arith, nat_tests) in
+          subst (λ j. (o : Role) → role_at (world_of s) no_past (place.Man j) ≡ Some o → StandsAt state (with_managers old managers) (place.Man j) o (own (place.Man j) os)) same this other e
+      at_number k false is other e =
+          let apart : k ≢ n = grind (arith, nat_tests) in
+          let (x, found, kept) = t.each (place.Man k) other e in
+          (x, other_man k apart ∙ found, subst (manager.StandsAs x.seat.node other) (sym (elsewhere (place.Man k) is)) kept.stands)
+
+      by : (p : Place) (other : Role) → role_at (world_of s) no_past p ≡ Some other → StandsAt state (with_managers old managers) p other (own p os)
+      by place.Net other e = absurd (no_role other e)
+      by place.Tc other e = subst (coordinator.StandsAs state old.coordinator.seat.node other) (sym (elsewhere place.Tc refl)) (t.each place.Tc other e).member.stands
+      by (place.Res k) other e =
+          let (x, found, kept) = t.each (place.Res k) other e in
+          (x, found, subst (resource.StandsAs state x.seat.node other) (sym (elsewhere (place.Res k) refl)) kept.member.stands)
+      by (place.Man k) other e = at_number k (nat_eq k n) refl other e

@@ -1,24 +1,28 @@
 -- A node can be given what comes next.
-use Rattle.std.proofs.Common.{◌≡◌, ◌+◌, ◌-◌, ◌<◌, ◌≤◌, ◌^◌, ℕ, Bool, true, false, List, All, length, Option, Some, None, IfSome, refl, sym, subst, ◌∙◌, arith}
+use Rattle.std.proofs.Common.{◌≡◌, ◌+◌, ◌-◌, ◌<◌, ◌≤◌, ℕ, Bool, true, false, List, All, length, slice_get, Option, Some, None, IfSome, refl, ap, subst, ◌∙◌, arith}
 use Rattle.seata_types.specs.declared.ids.Place.{Place}
 use Rattle.seata_types.specs.declared.ids.Place.TheVariants as place
-use Rattle.seata_types.specs.declared.limits.TheConstants.{STEPS}
 use Rattle.seata_types.specs.declared.messages.Input.{Input}
-use Rattle.scenario_reader.specs.Runnable.{IsPlaceAmong}
+use Rattle.scenario_reader.specs.Runnable.{IsPlaceAmong, IsServerAmong}
 use Rattle.history_rules.specs.Own.{Event, Given, Stopped, Crashed, Restarted}
+use Rattle.history_rules.specs.Nodes.{counted_at}
 use Rattle.history_text.specs.declared.entries.Cause.{Cause}
 use Rattle.history_text.specs.declared.entries.Cause.TheVariants as cause
 use Rattle.history_text.specs.declared.entries.Entry.{Entry}
 use Rattle.history_text.specs.Framing.{ComesFramable}
 use Rattle.coordinator_core.specs.declared.nodes.Coordinator.{Coordinator}
-use Rattle.coordinator_core.specs.Standing.{serves, steps_left}
+use Rattle.coordinator_core.specs.Standing as coordinator
+use Rattle.resource_core.specs.declared.nodes.Resource.{Resource}
+use Rattle.resource_core.specs.NodeStanding as resource
+use Rattle.resource_core.specs.Shown as shown
 use Rattle.manager_core.specs.declared.nodes.Manager.{Manager}
-use Rattle.manager_core.specs.Standing.{steps_of}
+use Rattle.manager_core.specs.Standing as manager
 use Rattle.node_seat.specs.Entering.{CanReact, event_by}
 use Rattle.node_seat.specs.Keeping.{IsBehind, IsInputOf, IsNext}
 use Rattle.replay_runner.specs.declared.members.Member.{Member}
-use Rattle.replay_runner.specs.declared.runs.Run.{Run}
-use Rattle.replay_runner.specs.Going.{CanEnter, CanTake, IsKth}
+use Rattle.replay_runner.specs.declared.nodes.Nodes.{Nodes}
+use Rattle.replay_runner.specs.Going.{CanEnter, CanTake, IsKthManager, IsKthResource, MayBeGiven}
+use Rattle.replay_runner.proofs.Counted.{counted_is}
 
 -- what a cause gives is an event
 pub event_there : (stamp : ℕ) (printed : Cause) (given : Option Input) → IsInputOf stamp printed given → (event : Event) × (event_by printed given ≡ Some event)
@@ -28,63 +32,95 @@ event_there stamp cause.Crash None is = (Crashed, refl)
 event_there stamp (cause.Restart pick calls) None is = (Restarted pick calls, refl)
 event_there stamp _ None is = absurd is
 
-module _ {D K : Type 0} (r : Run D K) (p : Place) (printed : Cause) (given : Option Input) (c : CanEnter r p printed given) where
-  pub short_places : length r.places.items < STEPS
-  short_places = let room = c.can.room in omega (arith, room)
+-- a node that has steps left and serves what is given can react; without an input it has disks
+can_react : {N : Type 0} (stops : N → Bool) (left : N → ℕ) (serving : N → Input → Type 0) (managers resources : ℕ) (p : Place) (printed : Cause) (n : N) (given : Option Input) → CanTake managers resources p printed given
+    → 0 < left n → ((g : Input) → ComesFramable g → MayBeGiven managers resources p g → serving n g) → (IsServerAmong resources p → stops n ≡ true) → CanReact stops left serving n printed given
+can_react stops left serving managers resources p printed n (Some g) takes able served has = (able, served g takes.0 takes.1)
+can_react stops left serving managers resources p printed n None takes able served has = (has takes.0, takes.1)
 
-  pub slow_next : r.clock ≤ 2 ^ 63
-  slow_next = let slow = c.can.goes.slow in let room = c.can.room in omega (arith, slow, room)
+framable_by : (managers resources : ℕ) (p : Place) (printed : Cause) (given : Option Input) → CanTake managers resources p printed given → IfSome given ComesFramable
+framable_by managers resources p printed None takes = tt
+framable_by managers resources p printed (Some g) takes = takes.0
 
+module _ {D K : Type 0} (n : Nodes D K) (stamp now : ℕ) (p : Place) (printed : Cause) (given : Option Input) (c : CanEnter n stamp now p printed given) where
   pub framable_next : IfSome given ComesFramable
-  framable_next = by given c.takes
-    where
-      by : (g : Option Input) → CanTake (length r.managers.items) p printed g → IfSome g ComesFramable
-      by None takes = tt
-      by (Some g) takes = takes.0
+  framable_next = framable_by (length n.managers.items) (length n.resources.items) p printed given c.takes
 
-  -- the next entry of a trace may have this stamp, where all stand behind it
-  pub is_next : (stamp : ℕ) → stamp ≡ length r.places.items + 1 → (trace : List Entry) → All (IsBehind (length r.places.items + 1) r.clock) trace → IsNext trace stamp r.clock printed given
-  is_next stamp is trace behind = record {
-    behind = subst (λ n. All (IsBehind n r.clock) trace) (sym is) behind;
-    input = subst (λ n. IsInputOf n printed given) (sym is) c.comes;
-  }
+  next_of : (trace : List Entry) → All (IsBehind stamp now) trace → IsNext trace stamp now printed given
+  next_of trace behind = record { behind = behind; input = c.comes }
 
-  -- a node that has steps left and serves what is given can react; without an input it has disks
-  can_react : {N : Type 0} (stops : N → Bool) (left : N → ℕ) (serving : N → Input → Type 0) (n : N) → 0 < left n → ((g : Input) → given ≡ Some g → serving n g) → (given ≡ None → stops n ≡ true)
-      → CanReact stops left serving n printed given
-  can_react {N} stops left serving n able served has = by given c.takes served has
-    where
-      by : (g : Option Input) → CanTake (length r.managers.items) p printed g → ((x : Input) → g ≡ Some x → serving n x) → (g ≡ None → stops n ≡ true) → CanReact stops left serving n printed g
-      by (Some g) takes served has = (able, served g refl)
-      by None takes served has = (has refl, takes.1)
+  -- ---- the coordinator
 
-  taken : (g : Option Input) → given ≡ g → CanTake (length r.managers.items) p printed g
-  taken g e = subst (CanTake (length r.managers.items) p printed) e c.takes
+  pub coordinator_next : IsNext n.coordinator.seat.trace stamp now printed given
+  coordinator_next = next_of n.coordinator.seat.trace c.goes.coordinator.behind
 
-  -- the coordinator
-  pub tc_can : p ≡ place.Tc → CanReact (λ (n : Coordinator D). true) steps_left serves r.coordinator.seat.node printed given
-  tc_can here =
-      let able = c.can.goes.nodes.coordinator.able in
-      let room = c.can.room in
-      can_react (λ (n : Coordinator D). true) steps_left serves r.coordinator.seat.node (omega (arith, able, room))
-      (λ g e. let takes = taken (Some g) e in c.can.goes.nodes.serving g (takes.1 here) takes.0) (λ none. refl)
+  pub coordinator_can : p ≡ place.Tc → CanReact (λ (x : Coordinator D). true) coordinator.steps_left coordinator.serves n.coordinator.seat.node printed given
+  coordinator_can here =
+      let able = c.goes.coordinator.able in
+      let short = c.short in
+      can_react (λ (x : Coordinator D). true) coordinator.steps_left coordinator.serves (length n.managers.items) (length n.resources.items) place.Tc printed n.coordinator.seat.node given
+      (subst (λ q. CanTake (length n.managers.items) (length n.resources.items) q printed given) here c.takes) (omega (arith, able, short)) (λ g framable may. c.goes.serving g may framable) (λ server. refl)
 
-  -- a manager
-  module _ (n : ℕ) (here : p ≡ place.Man n) where
-    number : (1 ≤ n) × (n ≤ length r.managers.items)
-    number = subst (IsPlaceAmong 0 (length r.managers.items)) here c.there
+  -- ---- a resource
 
-    pub man_counted : 1 ≤ n
-    man_counted = number.0
+  module _ (k : ℕ) (here : p ≡ place.Res k) where
+    resource_number : (1 ≤ k) × (k ≤ length n.resources.items)
+    resource_number = subst (IsPlaceAmong (length n.resources.items) (length n.managers.items)) here c.there
 
-    pub man_within : n - 1 < length r.managers.items
-    man_within = let low = number.0 in let high = number.1 in omega (arith, low, high)
+    pub resource_counted : 1 ≤ k
+    resource_counted = resource_number.0
 
-    no_disks_here : given ≡ None → false ≡ true
-    no_disks_here none = absurd (let no : place.Man n ≡ place.Tc = sym here ∙ (taken None none).0 in cc)
+    pub resource_within : k - 1 < length n.resources.items
+    resource_within = let low = resource_number.0 in let high = resource_number.1 in omega (arith, low, high)
 
-    pub man_can : (m : Member Manager K) → IsKth (length r.places.items) r.clock (n - 1) m → CanReact (λ (x : Manager). false) steps_of (λ (x : Manager) (g : Input). Unit {0}) m.seat.node printed given
-    man_can m k =
-        let able = k.goes.able in
-        let room = c.can.room in
-        can_react (λ (x : Manager). false) steps_of (λ (x : Manager) (g : Input). Unit {0}) m.seat.node (omega (arith, able, room)) (λ g e. tt) no_disks_here
+    module _ (m : Member (Resource D) K) (placed : slice_get n.resources.items (k - 1) ≡ Some m) where
+      is_resource : IsKthResource stamp now (k - 1) m
+      is_resource = c.goes.each_resource (k - 1) m placed
+
+      pub resource_listed : counted_at n.resources.items k ≡ Some m
+      resource_listed = counted_is n.resources.items k resource_number.0 ∙ placed
+
+      pub resource_stands : shown.stands_at m.seat.node ≡ place.Res k
+      resource_stands = is_resource.at ∙ ap (λ j. place.Res j) (let low = resource_number.0 in let same : k - 1 + 1 ≡ k = omega (arith, low) in same)
+
+      pub resource_next : IsNext m.seat.trace stamp now printed given
+      resource_next = next_of m.seat.trace is_resource.goes.behind
+
+      pub resource_can : CanReact (λ (x : Resource D). true) shown.steps_left resource.serves m.seat.node printed given
+      resource_can =
+          let able = is_resource.goes.able in
+          let short = c.short in
+          can_react (λ (x : Resource D). true) shown.steps_left resource.serves (length n.managers.items) (length n.resources.items) (place.Res k) printed m.seat.node given
+          (subst (λ q. CanTake (length n.managers.items) (length n.resources.items) q printed given) here c.takes) (omega (arith, able, short)) (λ g framable may. is_resource.serving g may) (λ server. refl)
+
+  -- ---- a manager
+
+  module _ (k : ℕ) (here : p ≡ place.Man k) where
+    manager_number : (1 ≤ k) × (k ≤ length n.managers.items)
+    manager_number = subst (IsPlaceAmong (length n.resources.items) (length n.managers.items)) here c.there
+
+    pub manager_counted : 1 ≤ k
+    manager_counted = manager_number.0
+
+    pub manager_within : k - 1 < length n.managers.items
+    manager_within = let low = manager_number.0 in let high = manager_number.1 in omega (arith, low, high)
+
+    module _ (m : Member Manager K) (placed : slice_get n.managers.items (k - 1) ≡ Some m) where
+      is_manager : IsKthManager stamp now (k - 1) m
+      is_manager = c.goes.each_manager (k - 1) m placed
+
+      pub manager_listed : counted_at n.managers.items k ≡ Some m
+      manager_listed = counted_is n.managers.items k manager_number.0 ∙ placed
+
+      pub manager_stands : place.Man (manager.settings m.seat.node).number ≡ place.Man k
+      manager_stands = ap (λ j. place.Man j) (let number = is_manager.number in let low = manager_number.0 in let same : (manager.settings m.seat.node).number ≡ k = omega (arith, number, low) in same)
+
+      pub manager_next : IsNext m.seat.trace stamp now printed given
+      manager_next = next_of m.seat.trace is_manager.goes.behind
+
+      pub manager_can : CanReact (λ (x : Manager). false) manager.steps_of (λ (x : Manager) (g : Input). Unit {0}) m.seat.node printed given
+      manager_can =
+          let able = is_manager.goes.able in
+          let short = c.short in
+          can_react (λ (x : Manager). false) manager.steps_of (λ (x : Manager) (g : Input). Unit {0}) (length n.managers.items) (length n.resources.items) (place.Man k) printed m.seat.node given
+          (subst (λ q. CanTake (length n.managers.items) (length n.resources.items) q printed given) here c.takes) (omega (arith, able, short)) (λ g framable may. tt) (λ server. absurd server)

@@ -1,51 +1,264 @@
--- What a replay leaves, however it ended.
-use Rattle.std.proofs.Common.{◌≡◌, List, [], Result, Ok, Err, sym, subst}
-use Rattle.disk_model.specs.Disk.{DiskState}
-use Rattle.disk_model.specs.Stop.{below}
-use Rattle.journal_checkpoint.specs.Keeping.{first_disk, second_disk}
+-- How a replay ends, by the disks that are given back.
+use Rattle.std.proofs.Common.{inl, inr, ◌≡◌, ◌⊎◌, ◌+◌, ◌≤◌, ◌<◌, ℕ, Bool, List, [], ◌∷◌, ◌++◌, length, map, slice_get, Option, Some, None, Result, Ok, Err, refl, sym, subst, arith, length-append}
+use Rattle.std.proofs.lemmas.List.{map-append}
+use Rattle.std.proofs.lemmas.Option.{slice_get_within}
+use Rattle.disk_model.specs.Disk.{DiskState, Rose}
+use Rattle.disk_model.specs.Shelf.{SameUnder}
+use Rattle.journal_checkpoint.specs.Images.{Pair}
+use Rattle.seata_types.specs.declared.ids.Place.{Place}
+use Rattle.seata_types.specs.declared.ids.Place.TheVariants as place
+use Rattle.scenario_reader.specs.declared.scenarios.ResourceDef.{ResourceDef}
 use Rattle.scenario_reader.specs.declared.scenarios.Scenario.{Scenario}
-use Rattle.session_store.specs.Keeping.{twin}
-use Rattle.history_rules.specs.Histories.{Moment}
+use Rattle.history_rules.specs.Nodes.{World, no_past}
+use Rattle.history_rules.specs.Histories.{Moment, own}
+use Rattle.history_rules.specs.Schedules.{Follows, IsStep, Item, singles}
 use Rattle.history_text.specs.declared.entries.Entry.{Entry}
+use Rattle.history_text.specs.Durable.{own_faults}
 use Rattle.history_text.specs.History.{entries}
+use Rattle.history_text.specs.Worlds.{items_of, world_of}
 use Rattle.coordinator_core.specs.declared.nodes.Coordinator.{Coordinator}
-use Rattle.coordinator_core.specs.Standing.{sessions_of}
+use Rattle.resource_core.specs.declared.nodes.Resource.{Resource}
+use Rattle.node_seat.specs.Faults.{Blames}
 use Rattle.node_seat.specs.declared.faults.RunFault.{RunFault}
 use Rattle.node_seat.specs.declared.faults.RunFault.TheVariants as fault
-use Rattle.replay_runner.specs.declared.replays.Left.{Left}
+use Rattle.scenario_nodes.specs.Nodes.{IsNewCoordinator, coordinator_role, resource_role}
+use Rattle.scenario_nodes.specs.Opening.{IsNotOpened, IsOpenFault, IsShelfFault}
+use Rattle.scenario_nodes.specs.Shelves.{AllTell, AreGivenBack, Showing, coordinator_name, pair_of, second_name}
+use Rattle.replay_runner.specs.declared.members.Member.{Member}
 use Rattle.replay_runner.specs.declared.runs.Run.{Run}
-use Rattle.replay_runner.specs.Collecting.{HaveTracesOf}
-use Rattle.replay_runner.specs.Ends.{Ends}
-use Rattle.replay_runner.specs.Plays.{HasPlayed}
-use Rattle.replay_runner.specs.Shelves.{Broken, Done, Leaves, pair_of}
+use Rattle.replay_runner.specs.Collecting.{AreTraces, trace_of}
+use Rattle.replay_runner.specs.Ends.{IsCause, StopsAt}
+use Rattle.replay_runner.specs.Leaving.{Broken, Done, FirstGivenBack, GivesBack, Leaves, Replays, disks_in}
+use Rattle.replay_runner.specs.Opened.{AreFirst, IsNewResourceOf, IsReturned, StopsOpening, server_disks}
+use Rattle.replay_runner.specs.Plays.{Ends, HasPlayed, Plays}
+use Rattle.replay_runner.specs.Standing.{AllStand, counted_on}
+use Rattle.replay_runner.specs.Steps.{left_of}
 use Rattle.replay_runner.specs.Traces.{places_of}
+use Rattle.replay_runner.proofs.Closed.{both_stay, coordinator_back, count_servers, none_back, one_back}
 use Rattle.replay_runner.proofs.Gathered.{gathered}
-use Rattle.replay_runner.proofs.Shown.{broken, done, uncollected}
+use Rattle.replay_runner.proofs.Lists.{drop_all}
+use Rattle.replay_runner.proofs.Shown.{all_left, all_show, all_stand, count_disks, counted_in, first_show, none_show, nth_end, one_shows, place_behind, role_behind, show_more}
 
--- ---- a replay that is taken apart
+-- ---- a whole schedule
 
-module _ {D K : Type 0} (state : D → DiskState) (s : Scenario) (run : Run D K) (node : Coordinator D) (trace : List Entry) (first second : D) (is : node ≡ run.coordinator.seat.node) (traced : trace ≡ run.coordinator.seat.trace)
-    (one : first ≡ below (first_disk (twin (sessions_of node)))) (two : second ≡ below (second_disk (twin (sessions_of node)))) where
-  -- it played its schedule, and its history was collected
-  pub finished : (r : Result (Unit {0}) RunFault) → r ≡ Ok tt → HasPlayed state s run [] r → (es : List Entry)
-      → ((ms : List Moment) → run.places.items ≡ places_of ms → HaveTracesOf run.network.items trace run.managers.items ms → es ≡ entries ms) → Done s (pair_of state first second) es
-  finished (Ok u) e (ms, plays, left) es collected =
-      done state s node first second one two run (sym is) ms plays left es
-      (collected ms plays.standing (subst (λ (t : List Entry). HaveTracesOf run.network.items t run.managers.items ms) (sym traced) (gathered state s run ms plays)))
-  finished (Err missed) e played es collected = absurd (let no : Err missed ≡ Ok tt = e in cc)
+module _ (w : World) (schedule : List Item) where
+  step_within : (ms : List Moment) (m : Moment) (o : Option Item) → slice_get (singles schedule) (length ms) ≡ o → IsStep w no_past ms m o → length ms < length (singles schedule)
+  step_within ms m None e h = absurd h
+  step_within ms m (Some step) e h = slice_get_within (singles schedule) (length ms) step e
 
-  -- memory for it was refused
-  pub unfinished : (r : Result (Unit {0}) RunFault) → r ≡ Ok tt → HasPlayed state s run [] r → Broken s (pair_of state first second) fault.NoMemory
-  unfinished (Ok u) e (ms, plays, left) = uncollected state s node first second one two run (sym is) ms plays left
-  unfinished (Err missed) e played = absurd (let no : Err missed ≡ Ok tt = e in cc)
+  follows_within : (ms : List Moment) → Follows w no_past schedule ms → length ms ≤ length (singles schedule)
+  follows_within [] f = omega arith
+  follows_within (m ∷ ms) f = let below = step_within ms m (slice_get (singles schedule) (length ms)) refl f.1 in omega (arith, below)
 
-  -- it ended before
-  pub ended : (r : Result (Unit {0}) RunFault) (missed : RunFault) → r ≡ Err missed → HasPlayed state s run [] r → Broken s (pair_of state first second) missed
-  ended (Ok u) missed e played = absurd (let no : Ok u ≡ Err missed = e in cc)
-  ended (Err why) missed e ends =
-      let same : why ≡ missed = let is : Err why ≡ Err missed = e in cc in
-      subst (Broken s (pair_of state first second)) same (broken state s node first second one two why (subst (λ (n : Coordinator D). Ends state s n why) (sym is) ends))
+-- ---- a replay that ended, by what its disks show
 
--- what is left, by its parts
-pub leaves_by : {D : Type 0} (state : D → DiskState) (s : Scenario) (l m : Left D) → l ≡ m → Leaves s (pair_of state m.first m.second) m.history → Leaves s (pair_of state l.first l.second) l.history
-leaves_by {D} state s l m same leaves = subst (λ (x : Left D). Leaves s (pair_of state x.first x.second) x.history) (sym same) leaves
+module _ {D K : Type 0} (state : D → DiskState) (s : Scenario) (r : Run D K) where
+  abbrev left_disks : List Pair
+  left_disks = map (pair_of state) (server_disks r.nodes.coordinator.seat.node r.nodes.resources.items)
+
+  abbrev counted_left : Place → ℕ
+  counted_left p = own_faults (disks_in left_disks p)
+
+  stops : (ms : List Moment) (missed : RunFault) → AllStand state s r.nodes ms → StopsAt s ms (counted_on state r.nodes) missed → StopsAt s ms counted_left missed
+  stops ms missed stand t = record {
+    at = t.at;
+    role = t.role;
+    there = t.there;
+    now = t.now;
+    event = t.event;
+    is_next = t.is_next;
+    before = t.before;
+    after = t.after;
+    had = t.had;
+    has = t.has;
+    blames = subst (λ n. Blames t.at t.role (own t.at ms) t.now t.event n t.before t.after missed) (counted_in state s r.nodes t.at t.role (own t.at ms) (stand t.at t.role t.there)) t.blames;
+  }
+
+  cause_left : (ms : List Moment) (missed : RunFault) → AllStand state s r.nodes ms → IsCause s ms (counted_on state r.nodes) missed → IsCause s ms counted_left missed
+  cause_left ms fault.NoMemory stand cause = tt
+  cause_left ms (fault.Store q) stand cause = stops ms (fault.Store q) stand cause
+  cause_left ms (fault.Full q full) stand cause = stops ms (fault.Full q full) stand cause
+  cause_left ms (fault.Damaged q second offset) stand cause = stops ms (fault.Damaged q second offset) stand cause
+  cause_left ms fault.Other stand cause = stops ms fault.Other stand cause
+
+  module _ (count : length r.nodes.resources.items ≡ length s.resources) where
+    count_left : length left_disks ≡ length s.resources + 1
+    count_left = let size = count_disks state r.nodes.coordinator.seat.node r.nodes.resources.items in omega (arith, size, count)
+
+    broken : (missed : RunFault) → Ends state s r missed → Broken s left_disks missed
+    broken missed e = record {
+      history = e.history;
+      legal = e.legal;
+      follows = e.follows;
+      count = count_left;
+      device = all_show state s r.nodes e.history e.stands;
+      cause = cause_left e.history missed e.stands e.cause;
+    }
+
+    done : (ms : List Moment) → Plays state s r ms → left_of s ms ≡ [] → (es : List Entry) → es ≡ entries ms → Done s left_disks es
+    done ms t left es printed = record {
+      history = ms;
+      is_run = record {
+        legal = t.legal;
+        follows = t.follows;
+        whole = let all = drop_all (singles (items_of s)) (length ms) left in let within = follows_within (world_of s) (items_of s) ms t.follows in omega (arith, all, within);
+      };
+      printed = printed;
+      count = count_left;
+      device = all_left state s r.nodes ms t.nodes;
+    }
+
+    -- memory was refused once all was played
+    uncollected : (ms : List Moment) → Plays state s r ms → Broken s left_disks fault.NoMemory
+    uncollected ms t = record {
+      history = ms;
+      legal = t.legal;
+      follows = t.follows;
+      count = count_left;
+      device = all_show state s r.nodes ms (all_stand state s r.nodes ms t.nodes);
+      cause = tt;
+    }
+
+    -- ---- with the disks that were given back
+
+    module _ (tells : Bool) (given_back : List ℕ → D → Type 0) (back : FirstGivenBack tells given_back s (server_disks r.nodes.coordinator.seat.node r.nodes.resources.items)) where
+      pub ended : (played : Result (Unit {0}) RunFault) (missed : RunFault) → played ≡ Err missed → (AllTell state → HasPlayed state s r [] played) → GivesBack state tells given_back s (Err missed)
+      ended (Ok u) missed e has = absurd (let no : Ok u ≡ Err missed = e in cc)
+      ended (Err why) missed e has =
+          let same : why ≡ missed = let is : Err why ≡ Err missed = e in cc in
+          record {
+            disks = server_disks r.nodes.coordinator.seat.node r.nodes.resources.items;
+            back = back;
+            leaves = λ all. inl (subst (Broken s left_disks) same (broken why (has all)));
+          }
+
+      pub finished : (played : Result (Unit {0}) RunFault) (u : Unit {0}) → played ≡ Ok u → (AllTell state → HasPlayed state s r [] played) → (es : List Entry)
+          → ((ms : List Moment) → r.places.items ≡ places_of ms → AreTraces (trace_of r.network.items r.nodes) ms → es ≡ entries ms) → GivesBack state tells given_back s (Ok es)
+      finished (Err missed) u e has es collected = absurd (let no : Err missed ≡ Ok u = e in cc)
+      finished (Ok v) u e has es collected = record {
+        disks = server_disks r.nodes.coordinator.seat.node r.nodes.resources.items;
+        back = back;
+        leaves = λ all. whole (has all);
+      }
+        where
+          whole : HasPlayed state s r [] (Ok v) → Done s left_disks es
+          whole (ms, plays, left) = done ms plays left es (collected ms plays.standing (gathered state s r.network.items r.nodes ms plays.nodes plays.passed plays.legal))
+
+      pub unfinished : (played : Result (Unit {0}) RunFault) (u : Unit {0}) → played ≡ Ok u → (AllTell state → HasPlayed state s r [] played) → GivesBack state tells given_back s (Err fault.NoMemory)
+      unfinished (Err missed) u e has = absurd (let no : Err missed ≡ Ok u = e in cc)
+      unfinished (Ok v) u e has = record {
+        disks = server_disks r.nodes.coordinator.seat.node r.nodes.resources.items;
+        back = back;
+        leaves = λ all. inl (whole (has all));
+      }
+        where
+          whole : HasPlayed state s r [] (Ok v) → Broken s left_disks fault.NoMemory
+          whole (ms, plays, left) = uncollected ms plays
+
+-- ---- a node that wasn't opened
+
+pub rose_between : (a b c d : ℕ) → a ≤ b → c ≤ d → Rose b c → Rose a d
+rose_between a b c d below above rose = omega (arith, below, above, rose)
+
+-- a cause stays one when more is known to have risen
+pub shelf_fault : (at : Place) (rose more : Type 0) (missed : RunFault) → (rose → more) → IsShelfFault at rose missed → IsShelfFault at more missed
+shelf_fault at rose more (fault.Store p) grows f = (f.0, grows f.1)
+shelf_fault at rose more fault.NoMemory grows f = tt
+shelf_fault at rose more (fault.Full p full) grows f = absurd f
+shelf_fault at rose more (fault.Damaged p second offset) grows f = absurd f
+shelf_fault at rose more fault.Other grows f = absurd f
+
+module _ {D : Type 0} (state : D → DiskState) (s : Scenario) where
+  -- no disk was taken
+  pub takes_none : (tells : Bool) (given_back : List ℕ → D → Type 0) (rose : Type 0) → Replays state tells given_back rose s (Err fault.NoMemory)
+  takes_none tells given_back rose = inr (record { disks = []; back = none_back s tells given_back; device = λ all. none_show s; cause = tt })
+
+  -- the coordinator wasn't opened
+  pub coordinator_refused : (old new : Showing D) (missed : RunFault) → new.tells ≡ old.tells → IsNotOpened state old new (coordinator_role s) coordinator_name s.disk missed
+      → Replays state old.tells new.given_back (Rose old.faults new.faults) s (Err missed)
+  coordinator_refused old new missed same (inl shelf) = inr (record { disks = []; back = none_back s old.tells new.given_back; device = λ all. none_show s; cause = shelf })
+  coordinator_refused old new missed same (inr g) = inl (record {
+    disks = g.disks ∷ [];
+    back = coordinator_back s old.tells new.given_back g.disks (subst (λ (t : Bool). AreGivenBack t new.given_back coordinator_name g.disks) same g.back);
+    leaves = λ all. inr (record {
+      opened = 0;
+      count = refl;
+      device = one_shows s (pair_of state g.disks) (g.unopened all).device;
+      role = coordinator_role s;
+      there = refl;
+      cause = (g.unopened all).cause;
+    });
+  })
+
+  -- a resource wasn't opened
+  pub next_refused : (old new : Showing D) (count : ℕ) (def : ResourceDef) (missed : RunFault) → new.tells ≡ old.tells → slice_get s.resources count ≡ Some def
+      → IsNotOpened state old new (resource_role s (count + 1) def) def.name s.disk missed → StopsOpening state old.tells new.given_back (Rose old.faults new.faults) s count missed
+  next_refused old new count def missed same here (inl shelf) = record { def = def; there = here; refused = inl shelf }
+  next_refused old new count def missed same here (inr g) = record {
+    def = def;
+    there = here;
+    refused = inr (record {
+      disks = g.disks;
+      back = subst (λ (t : Bool). AreGivenBack t new.given_back def.name g.disks) same g.back;
+      unopened = g.unopened;
+    });
+  }
+
+  -- memory was refused before a disk was taken
+  pub next_unasked : (tells : Bool) (given_back : List ℕ → D → Type 0) (rose : Type 0) (count : ℕ) (def : ResourceDef) → slice_get s.resources count ≡ Some def
+      → StopsOpening state tells given_back rose s count fault.NoMemory
+  next_unasked tells given_back rose count def here = record { def = def; there = here; refused = inl tt }
+
+  pub stops_later : (tells : Bool) (given_back : List ℕ → D → Type 0) (rose more : Type 0) (count : ℕ) (missed : RunFault) → (rose → more)
+      → StopsOpening state tells given_back rose s count missed → StopsOpening state tells given_back more s count missed
+  stops_later tells given_back rose more count missed grows t = record { def = t.def; there = t.there; refused = by t.refused }
+    where
+      by : IsShelfFault (place.Res (count + 1)) rose missed ⊎ IsReturned state tells given_back (resource_role s (count + 1) t.def) t.def.name s.disk missed
+          → IsShelfFault (place.Res (count + 1)) more missed ⊎ IsReturned state tells given_back (resource_role s (count + 1) t.def) t.def.name s.disk missed
+      by (inl shelf) = inl (shelf_fault (place.Res (count + 1)) rose more missed grows shelf)
+      by (inr g) = inr g
+
+  -- and the disks of the nodes before it were given back then
+  module _ {K : Type 0} (managers resources : ℕ) (c : Coordinator D) (new : IsNewCoordinator state s managers resources c) (opened : List (Member (Resource D) K))
+      (first : AreFirst (IsNewResourceOf state s) s.resources opened) (tells : Bool) (before after : List ℕ → D → Type 0) (rose more : Type 0) (missed : RunFault) (grows : rose → more)
+      (stays : (def : ResourceDef) → slice_get s.resources (length opened) ≡ Some def → SameUnder def.name before after × SameUnder (second_name def.name) before after)
+      (back : FirstGivenBack tells after s (server_disks c opened)) where
+    disks_count : length (server_disks c opened) ≡ length opened + 1
+    disks_count = count_servers s c opened first.few tells after
+
+    by_shelf : (t : StopsOpening state tells before rose s (length opened) missed) → IsShelfFault (place.Res (length opened + 1)) rose missed → Replays state tells after more s (Err missed)
+    by_shelf t shelf = inr (record {
+      disks = server_disks c opened;
+      back = back;
+      device = λ all. first_show state s all managers resources c new opened first;
+      cause = subst (λ (p : Place). IsShelfFault p more missed) (sym (place_behind (length opened) (length (server_disks c opened)) disks_count))
+          (shelf_fault (place.Res (length opened + 1)) rose more missed grows shelf);
+    })
+
+    by_disks : (t : StopsOpening state tells before rose s (length opened) missed) → IsReturned state tells before (resource_role s (length opened + 1) t.def) t.def.name s.disk missed
+        → Replays state tells after more s (Err missed)
+    by_disks t g = inl (record {
+      disks = server_disks c opened ++ g.disks ∷ [];
+      back = one_back s tells after (server_disks c opened) (length opened) t.def g.disks disks_count t.there
+          (let same = stays t.def t.there in both_stay tells before after t.def.name g.disks same.0 same.1 g.back) back;
+      leaves = λ all.
+          subst (λ (ds : List Pair). Leaves s ds (Err missed)) (sym (map-append (pair_of state) (server_disks c opened) (g.disks ∷ [])))
+          (inr (record {
+            opened = length (map (pair_of state) (server_disks c opened));
+            count = let more = length-append (map (pair_of state) (server_disks c opened)) (pair_of state g.disks ∷ []) in omega (arith, more);
+            device = show_more s (map (pair_of state) (server_disks c opened)) (pair_of state g.disks) (resource_role s (length opened + 1) t.def)
+                (role_behind s (length opened) t.def t.there (length (map (pair_of state) (server_disks c opened))) (count_disks state c opened)) (g.unopened all).device
+                (first_show state s all managers resources c new opened first);
+            role = resource_role s (length opened + 1) t.def;
+            there = role_behind s (length opened) t.def t.there (length (map (pair_of state) (server_disks c opened))) (count_disks state c opened);
+            cause = subst (λ (p : Pair). IsOpenFault (resource_role s (length opened + 1) t.def) s.disk (own_faults p) missed) (sym (nth_end (map (pair_of state) (server_disks c opened)) (pair_of state g.disks)))
+                (g.unopened all).cause;
+          }));
+    })
+
+    pub resource_refused : StopsOpening state tells before rose s (length opened) missed → Replays state tells after more s (Err missed)
+    resource_refused t = by t.refused
+      where
+        by : IsShelfFault (place.Res (length opened + 1)) rose missed ⊎ IsReturned state tells before (resource_role s (length opened + 1) t.def) t.def.name s.disk missed → Replays state tells after more s (Err missed)
+        by (inl shelf) = by_shelf t shelf
+        by (inr g) = by_disks t g

@@ -1,7 +1,6 @@
 -- Deliveries that fit a node, and that those of a history do.
-use Rattle.std.proofs.Common.{◌≡◌, ◌≤◌, ◌&&◌, ℕ, zero, suc, nat_le, Bool, true, false, List, [], length, Option, Some, None, option_map, refl, ap, sym, subst, ◌∙◌, arith}
+use Rattle.std.proofs.Common.{◌≡◌, ◌≤◌, ◌&&◌, ℕ, zero, suc, nat_le, Bool, true, false, List, length, Option, Some, None, option_map, refl, ap, sym, ◌∙◌, arith}
 use Rattle.std.proofs.lemmas.Bool.Decides.{nat_tests}
-use Rattle.std.proofs.lemmas.Option.{slice_get_within}
 use Rattle.disk_model.specs.Disk.{DiskState}
 use Rattle.seata_types.specs.declared.ids.Place.{Place}
 use Rattle.seata_types.specs.declared.ids.Place.TheVariants as place
@@ -12,63 +11,107 @@ use Rattle.scenario_reader.specs.declared.scenarios.Scenario.{Scenario}
 use Rattle.scenario_reader.specs.Runnable.{IsPlaceAmong}
 use Rattle.durable_records.specs.SessionOrder.{is_counted}
 use Rattle.frame_codec.specs.Limits.{IsFramable}
+use Rattle.history_rules.specs.Nodes.{World, no_past}
+use Rattle.history_rules.specs.Histories.{Deliver}
+use Rattle.history_rules.specs.Chains.{IsBlankPast}
+use Rattle.history_law.specs.MessageSafety.{IsNode, NamesNodes, ReachesNode}
+use Rattle.history_law.proofs.Deliveries.{brought_says}
+use Rattle.history_law.proofs.MessageHistory.{messages_law}
 use Rattle.history_text.specs.declared.entries.Cause.TheVariants as cause
-use Rattle.history_text.specs.Worlds.{resources_of}
+use Rattle.history_text.specs.Worlds.{managers_from, resources_of, world_of}
+use Rattle.coordinator_core.specs.Serving.{HasNumbers}
 use Rattle.replay_runner.specs.declared.messages.Delivery.{Delivery}
 use Rattle.replay_runner.specs.declared.messages.Letter.{Letter}
 use Rattle.replay_runner.specs.declared.runs.Run.{Run}
-use Rattle.replay_runner.specs.Going.{CanEnter, CanGo, fits_delivery, may_hear}
+use Rattle.replay_runner.specs.Going.{CanGo, CanMake, MayBeGiven, fits_delivery, have_resources, may_hear}
 use Rattle.replay_runner.specs.Letters.{delivery_of, letter_at, the_letter}
 use Rattle.replay_runner.specs.Plays.{Hears}
-use Rattle.replay_runner.specs.Posts.{IsNode, NamesNode}
+use Rattle.replay_runner.proofs.Counted.{counted_high, counted_low}
 use Rattle.replay_runner.proofs.Lists.{get_past}
-use Rattle.replay_runner.proofs.Played.{posted_delivery}
-use Rattle.replay_runner.proofs.Sent.{man_node, no_resource}
+use Rattle.replay_runner.proofs.Played.{brought_there, delivered_from}
+use Rattle.replay_runner.proofs.Roles.{at_manager, at_resource, length-managers, length-resources}
+use Rattle.replay_runner.proofs.Worlds.{world_of-names}
 
 -- ---- of a history
 
-module _ (s : Scenario) (managers : ℕ) (as_many : managers ≡ length s.managers) where
-  node_counted : (n : ℕ) → IsNode s (place.Man n) → is_counted managers n ≡ true
-  node_counted n node =
-      let (k, def, number, here) = man_node s n node in
-      let below = slice_get_within s.managers k def here in
-      let low : 1 ≤ n = omega (arith, number) in
-      let high : n ≤ managers = omega (arith, number, below, as_many) in
-      grind (arith, nat_tests, low, high)
+both : (a b : Bool) → a ≡ true → b ≡ true → (a && b) ≡ true
+both a b one two = ap (λ x. x && b) one ∙ two
 
-  pub heard_named : (heard : Message) → NamesNode s heard → may_hear managers heard ≡ true
-  heard_named (message.Begin manager timeout) named = node_counted manager named
-  heard_named (message.Register xid resource call ticket kind hold check) named = absurd named
-  heard_named _ named = refl
+counted_within : (count n : ℕ) → 1 ≤ n → n ≤ count → is_counted count n ≡ true
+counted_within count n low high = grind (arith, nat_tests, low, high)
 
-  -- a message between nodes fits
-  fits_post : resources_of s ≡ [] → (to : Place) (heard : Message) → IsNode s to → NamesNode s heard → fits_delivery managers to heard ≡ true
-  fits_post alone place.Tc heard node named = heard_named heard named
-  fits_post alone (place.Man n) heard node named = node_counted n node
-  fits_post alone place.Net heard (role, e) named = absurd (let no : None ≡ Some role = e in cc)
-  fits_post alone (place.Res n) heard (role, e) named = absurd (no_resource (resources_of s) n role alone e)
+heard_named : (w : World) (managers resources : ℕ) → managers ≡ length w.managers → resources ≡ length w.resources → (heard : Message) → NamesNodes w heard → may_hear managers resources heard ≡ true
+heard_named w managers resources users servers (message.Begin manager timeout) named = ap (λ n. is_counted n manager) users ∙ named
+heard_named w managers resources users servers (message.Register xid resource call ticket kind hold check) named =
+    ap (λ n. is_counted n resource && have_resources n hold) servers ∙ both (is_counted (length w.resources) resource) (have_resources (length w.resources) hold) named.0 named.1
+heard_named w managers resources users servers _ named = refl
 
-pub hears_fits : {D K : Type 0} (state : D → DiskState) (r : Run D K) (stamp : ℕ) (d : Delivery) → Hears state r stamp d → fits_delivery (length r.managers.items) d.to d.message ≡ true
-hears_fits state r stamp d h =
-    let post = posted_delivery state r stamp h.step d h.is_found in
-    let nodes = h.step.here.plays.nodes in
-    fits_post h.step.here.s (length r.managers.items) nodes.count nodes.alone d.to d.message post.receiver post.named
+module _ (s : Scenario) (managers resources : ℕ) (users : managers ≡ length s.managers) (servers : resources ≡ length s.resources) where
+  -- a message that reaches a node fits
+  fits_node : (to : Place) (heard : Message) → IsNode (world_of s) no_past to → NamesNodes (world_of s) heard → fits_delivery managers resources to heard ≡ true
+  fits_node place.Net heard (role, e) named = absurd (let no : None ≡ Some role = e in cc)
+  fits_node place.Tc heard node named =
+      heard_named (world_of s) managers resources (users ∙ sym (length-managers s.lock_tries 1 s.managers)) (servers ∙ sym (length-resources s)) heard named
+  fits_node (place.Res n) heard (role, e) named =
+      let (setup, listed, is) = at_resource s n role e in
+      let low = counted_low (resources_of s) n setup listed in
+      let high = counted_high (resources_of s) n setup listed in
+      let size = length-resources s in
+      counted_within resources n low (omega (arith, high, size, servers))
+  fits_node (place.Man n) heard (role, e) named =
+      let (settings, listed, is) = at_manager s n role e in
+      let low = counted_low (managers_from s.lock_tries 1 s.managers) n settings listed in
+      let high = counted_high (managers_from s.lock_tries 1 s.managers) n settings listed in
+      let size = length-managers s.lock_tries 1 s.managers in
+      counted_within managers n low (omega (arith, high, size, users))
+
+-- disks without records
+blank : IsBlankPast no_past
+blank = record { sessions = refl; resources = λ n. (0, refl) }
+
+module _ {D K : Type 0} (state : D → DiskState) (r : Run D K) (stamp : ℕ) (d : Delivery) (h : Hears state r stamp d) where
+  abbrev s : Scenario
+  s = h.step.here.s
+
+  pub reaches : ReachesNode (world_of s) no_past d.from (record { to = d.to; message = d.message })
+  reaches =
+      brought_says (ReachesNode (world_of s) no_past) h.step.here.ms d.to (Deliver stamp d.from) d.from d.message
+      (messages_law (world_of s) no_past h.step.here.ms (world_of-names s h.step.here.runnable) blank h.step.here.plays.legal)
+      (sym (brought_there state r stamp h.step d (delivered_from (letter_at stamp r.messages.letters.items) d h.is_found)))
+
+  pub hears_fits : fits_delivery (length r.nodes.managers.items) (length r.nodes.resources.items) d.to d.message ≡ true
+  hears_fits =
+      let nodes = h.step.here.plays.nodes in
+      fits_node s (length r.nodes.managers.items) (length r.nodes.resources.items) nodes.managers nodes.resources d.to d.message reaches.receiver reaches.named
 
 -- ---- of any replay
 
-counted_between : (managers n : ℕ) → is_counted managers n ≡ true → (1 ≤ n) × (n ≤ managers)
-counted_between managers n is = (by (nat_le 1 n) refl (nat_le n managers) refl is)
-  where
-    by : (a : Bool) → nat_le 1 n ≡ a → (b : Bool) → nat_le n managers ≡ b → (a && b) ≡ true → (1 ≤ n) × (n ≤ managers)
-    by true low true high e = (grind (arith, nat_tests), grind (arith, nat_tests))
-    by true low false high e = absurd (let no : false ≡ true = e in cc)
-    by false low b high e = absurd (let no : false ≡ true = e in cc)
+both_true : (a b : Bool) → (a && b) ≡ true → (a ≡ true) × (b ≡ true)
+both_true true true e = (refl, refl)
+both_true true false e = absurd (let no : false ≡ true = e in cc)
+both_true false b e = absurd (let no : false ≡ true = e in cc)
 
-fits_there : (managers : ℕ) (to : Place) (heard : Message) → fits_delivery managers to heard ≡ true → IsPlaceAmong 0 managers to
-fits_there managers place.Tc heard fits = tt
-fits_there managers (place.Man n) heard fits = counted_between managers n fits
-fits_there managers place.Net heard fits = absurd (let no : false ≡ true = fits in cc)
-fits_there managers (place.Res n) heard fits = absurd (let no : false ≡ true = fits in cc)
+counted_between : (count n : ℕ) → is_counted count n ≡ true → (1 ≤ n) × (n ≤ count)
+counted_between count n is =
+    let (low, high) = both_true (nat_le 1 n) (nat_le n count) is in
+    (grind (arith, nat_tests, low), grind (arith, nat_tests, high))
+
+fits_there : (managers resources : ℕ) (to : Place) (heard : Message) → fits_delivery managers resources to heard ≡ true → IsPlaceAmong resources managers to
+fits_there managers resources place.Tc heard fits = tt
+fits_there managers resources (place.Res n) heard fits = counted_between resources n fits
+fits_there managers resources (place.Man n) heard fits = counted_between managers n fits
+fits_there managers resources place.Net heard fits = absurd (let no : false ≡ true = fits in cc)
+
+has_numbers : (managers resources : ℕ) (heard : Message) → may_hear managers resources heard ≡ true → HasNumbers managers resources heard
+has_numbers managers resources (message.Begin manager timeout) may = may
+has_numbers managers resources (message.Register xid resource call ticket kind hold check) may = both_true (is_counted resources resource) (have_resources resources hold) may
+has_numbers managers resources _ may = tt
+
+may_given : (managers resources : ℕ) (to from : Place) (heard : Message) → fits_delivery managers resources to heard ≡ true → IsFramable heard → MayBeGiven managers resources to (input.Message from heard)
+may_given managers resources place.Tc from heard fits framable = has_numbers managers resources heard fits
+may_given managers resources (place.Res n) from heard fits framable = framable
+may_given managers resources (place.Man n) from heard fits framable = tt
+may_given managers resources place.Net from heard fits framable = tt
 
 -- a letter that is there has a stamp of those before
 letter_within : (letters : List (Option Letter)) (stamp : ℕ) (d : Delivery) → option_map delivery_of (letter_at stamp letters) ≡ Some d → (1 ≤ stamp) × (stamp ≤ length letters)
@@ -91,10 +134,11 @@ module _ {D K : Type 0} (r : Run D K) (stamp : ℕ) (d : Delivery) (can : CanGo 
   pub stamp_there : stamp ≤ length r.places.items
   stamp_there = let high = within.1 in let letters = can.goes.letters in omega (arith, high, letters)
 
-  pub can_hear : IsFramable d.message → fits_delivery (length r.managers.items) d.to d.message ≡ true → CanEnter r d.to (cause.Deliver stamp d.from) (Some (input.Message d.from d.message))
+  pub can_hear : IsFramable d.message → fits_delivery (length r.nodes.managers.items) (length r.nodes.resources.items) d.to d.message ≡ true
+      → CanMake r d.to (cause.Deliver stamp d.from) (Some (input.Message d.from d.message))
   can_hear framable fits = record {
     can = can;
-    there = fits_there (length r.managers.items) d.to d.message fits;
+    there = fits_there (length r.nodes.managers.items) (length r.nodes.resources.items) d.to d.message fits;
     comes = (let there = stamp_there in omega (arith, there), refl);
-    takes = (framable, λ at. subst (λ p. fits_delivery (length r.managers.items) p d.message ≡ true) at fits);
+    takes = (framable, may_given (length r.nodes.managers.items) (length r.nodes.resources.items) d.to d.from d.message fits framable);
   }

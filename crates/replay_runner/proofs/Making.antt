@@ -1,176 +1,206 @@
--- An entry of the coordinator and of a manager, in a replay.
-use Rattle.std.proofs.Common.{inl, inr, ◌≡◌, ◌+◌, ◌≤◌, ℕ, List, ◌∷◌, length, set, slice_get, Option, Some, option_map, Result, Ok, Err, refl, ap, sym, subst, ◌∙◌}
+-- What a node did that an entry is made at is an entry among the nodes.
+use Rattle.std.proofs.Common.{inl, inr, ◌≡◌, ◌⊎◌, ◌+◌, ◌-◌, ℕ, false, List, ◌∷◌, length, set, Option, Some, None, option_map, Result, Ok, Err, refl, ap, sym, subst, ◌∙◌}
+use Rattle.std.proofs.lemmas.Option.{same_Some}
+use Rattle.std.specs.Prelude.{Vec}
+use Rattle.std.specs.declared.alloc.Global.{Global}
 use Rattle.disk_model.specs.Disk.{DiskState}
 use Rattle.journal_checkpoint.specs.Images.{Pair}
 use Rattle.seata_types.specs.declared.ids.Place.{Place}
 use Rattle.seata_types.specs.declared.ids.Place.TheVariants as place
 use Rattle.seata_types.specs.declared.messages.Input.{Input}
 use Rattle.seata_types.specs.declared.messages.Step.{Step}
-use Rattle.scenario_reader.specs.declared.scenarios.ManagerDef.{ManagerDef}
-use Rattle.scenario_reader.specs.declared.scenarios.Scenario.{Scenario}
-use Rattle.history_rules.specs.Own.{Event, Given, Stopped, Crashed, Restarted}
-use Rattle.history_rules.specs.Nodes.{Happens, no_past, role_at}
+use Rattle.history_rules.specs.Own.{Event, Given, Stopped, Crashed, Restarted, Own}
+use Rattle.history_rules.specs.ManagerRules.{Settings}
+use Rattle.history_rules.specs.Nodes.{ComesTo, Role, counted_at}
 use Rattle.history_rules.specs.Nodes.{Manager as ManagerRole}
-use Rattle.history_rules.specs.Histories.{Moment, HappensAt, own}
+use Rattle.history_rules.specs.Histories.{Moment, own, same_place}
 use Rattle.history_text.specs.declared.entries.Cause.{Cause}
 use Rattle.history_text.specs.Durable.{own_faults}
 use Rattle.history_text.specs.History.{cause_of}
 use Rattle.history_text.specs.Promises.{StaysItself, no_disks}
-use Rattle.history_text.specs.Worlds.{settings_of, world_of}
 use Rattle.coordinator_core.specs.declared.nodes.Coordinator.{Coordinator}
-use Rattle.coordinator_core.specs.declared.nodes.TheConstants.{NODE_STEPS}
-use Rattle.coordinator_core.specs.Standing.{StandsAs, disks_of, needs, serves, size_of, steps_left}
-use Rattle.coordinator_core.specs.Stepping.{stands_at}
+use Rattle.coordinator_core.specs.Standing as coordinator
+use Rattle.coordinator_core.specs.Stepping as stepping
+use Rattle.resource_core.specs.declared.nodes.Resource.{Resource}
+use Rattle.resource_core.specs.NodeStanding as resource
+use Rattle.resource_core.specs.Shown as shown
 use Rattle.manager_core.specs.declared.nodes.Manager.{Manager}
-use Rattle.manager_core.specs.declared.nodes.TheConstants.{NODE_STEPS as MANAGER_STEPS}
-use Rattle.manager_core.specs.Laws.{places}
-use Rattle.manager_core.specs.Standing.{StandsAs as StandsAsManager, settings, steps_of}
-use Rattle.node_seat.specs.Entering.{IsTold, room}
+use Rattle.manager_core.specs.Standing as manager
+use Rattle.node_seat.specs.Entering.{IsTold, event_by, room}
+use Rattle.node_seat.specs.Faults.{Blames, Room}
 use Rattle.node_seat.specs.declared.faults.RunFault.{RunFault}
+use Rattle.node_seat.specs.declared.faults.RunFault.TheVariants as fault
 use Rattle.node_seat.proofs.Kept.{told_all}
+use Rattle.scenario_nodes.specs.Nodes.{HaveSize}
 use Rattle.replay_runner.specs.declared.members.Member.{Member}
 use Rattle.replay_runner.specs.declared.messages.Letter.{Letter}
-use Rattle.replay_runner.specs.declared.runs.Run.{Run}
-use Rattle.replay_runner.specs.Ends.{IsCause, coordinator_role}
+use Rattle.replay_runner.specs.declared.nodes.Nodes.{Nodes}
+use Rattle.replay_runner.specs.Ends.{IsRoom}
+use Rattle.replay_runner.specs.Entering.{Comes, Entered, moment_by}
 use Rattle.replay_runner.specs.Letters.{letter_from}
-use Rattle.replay_runner.specs.Members.{IsMade, Makes}
-use Rattle.replay_runner.specs.Plays.{Comes, Entered, HaveSize, IsFitting, IsManager, Nodes, moment_by}
-use Rattle.replay_runner.specs.Posts.{HasNoCalls, IsGiven, IsNode, SendsPost}
-use Rattle.replay_runner.specs.Steps.{next}
-use Rattle.replay_runner.proofs.Ended.{cause_is, ends_here, ends_later, only_memory, room_is}
-use Rattle.replay_runner.proofs.Entered.{member_enters, member_happens, member_stands, nodes_coordinator, nodes_manager}
-use Rattle.replay_runner.proofs.Sent.{coordinator_sends, event_registers_nothing, last_named, manager_sends, role_of_manager}
+use Rattle.replay_runner.specs.Members.{IsMade, IsMember, Makes}
+use Rattle.replay_runner.specs.Standing.{AllStand, AreNodes, IsServer, counted_on, member_disks}
+use Rattle.replay_runner.proofs.Entered.{member_enters, member_happens, member_stands, nodes_coordinator, nodes_manager, nodes_resource, own_there, server_enters, stand_coordinator, stand_manager, stand_resource, with_coordinator, with_managers, with_resources}
+use Rattle.replay_runner.proofs.Counted.{counted_set}
+use Rattle.replay_runner.proofs.Roles.{at_manager}
+use Rattle.replay_runner.proofs.Rooms.{room_coordinator, room_resource}
 
--- an input of a fitting event came from a node
-given_fits : (s : Scenario) (p : Place) (event : Event) → IsFitting s p event → (given : Input) → event ≡ Given given → IsGiven s given
-given_fits s p event fits given is = (subst (IsFitting s p) is fits).0
+-- why no entry was made at a place: want of memory, or what the node there is blamed for
+abbrev Missed : {D K : Type 0} → {state : D → DiskState} → {old : Nodes D K} → {stamp : ℕ} → {printed : Cause} → {given : Option Input} → (p : Place) (now : ℕ) → Comes state old stamp p printed given
+    → (counted : ℕ) (before after : Room) → RunFault → Type 0
+Missed p now c counted before after missed = (missed ≡ fault.NoMemory) ⊎ (IsRoom c.s before × IsRoom c.s after × Blames p c.role (own p c.ms) now c.event counted before after missed)
+
+-- ---- a node of any kind
+
+module _ {N D K : Type 0} (state : D → DiskState) (stands_for : N → Role → List Own → Type 0) (place_at : N → Place) (disks : N → Pair) (needs : N → ℕ → ℕ) (size : N → ℕ)
+    (old new : Nodes D K) (before after : Member N K) (stamp now : ℕ) (p : Place) (printed : Cause) (given : Option Input) (c : Comes state old stamp p printed given)
+    (here : place_at before.seat.node ≡ p) (stood : stands_for before.seat.node c.role (own p c.ms)) (told : IsTold (disks before.seat.node) c.event)
+    (entered : (step : Step) (letter : Option Letter) → Makes stands_for place_at disks before after (length c.ms + 1) now (cause_of c.why) c.event step (Ok letter) → AreNodes state c.s new (moment_by p now c step ∷ c.ms))
+    (stand : (os : List Moment) → ((q : Place) → same_place q p ≡ false → own q os ≡ own q c.ms) → stands_for after.seat.node c.role (own p os) → AllStand state c.s new os)
+    (missed_by : (missed : RunFault) → Blames p c.role (own p c.ms) now c.event (own_faults (disks after.seat.node)) (room needs size before.seat.node) (room needs size after.seat.node) missed
+    → Missed p now c (counted_on state new p) (room needs size before.seat.node) (room needs size after.seat.node) missed) where
+  entered_by : (r : Result (Option Letter) RunFault) → IsMade stands_for place_at disks needs size before after (length c.ms + 1) now (cause_of c.why) c.event r → Entered state old new stamp now p printed given c r
+  entered_by (Ok letter) (step, e) = record {
+    step = step;
+    happens = member_happens stands_for p c.role place_at disks before after c.ms now c.why c.event step (Ok letter) stood told e;
+    nodes = entered step letter e;
+    sent = e.sent ∙ ap (λ q. option_map (letter_from q (length c.ms + 1)) step.sent) here;
+  }
+  entered_by (Err missed) (inl e) = inl (record {
+    stands = stand c.ms (λ q away. refl) (e.misses.stands told c.role (own p c.ms) stood);
+    before = room needs size before.seat.node;
+    after = room needs size after.seat.node;
+    cause = missed_by missed
+        (subst (λ q. Blames q c.role (own p c.ms) now c.event (own_faults (disks after.seat.node)) (room needs size before.seat.node) (room needs size after.seat.node) missed) here
+        (e.misses.blames told c.role (own p c.ms) stood));
+  })
+  entered_by (Err missed) (inr (is, step, e)) = inr (record {
+    memory = is;
+    step = step;
+    happens = member_happens stands_for p c.role place_at disks before after c.ms now c.why c.event step (Err missed) stood told e;
+    stands = stand (moment_by p now c step ∷ c.ms) (λ q away. own_there q (moment_by p now c step) c.ms away)
+        (member_stands stands_for p c.role place_at disks before after c.ms now c.why c.event step (Err missed) stood told e);
+  })
+
+  entered_as : (r : Result (Option Letter) RunFault) → IsMade stands_for place_at disks needs size before after stamp now printed c.event r → Entered state old new stamp now p printed given c r
+  entered_as r made =
+      entered_by r
+      (subst (λ n. IsMade stands_for place_at disks needs size before after n now (cause_of c.why) c.event r) c.stamped
+      (subst (λ w. IsMade stands_for place_at disks needs size before after stamp now w c.event r) c.is_printed made))
+
+-- ---- the coordinator
+
+module _ {D K : Type 0} (state : D → DiskState) (old : Nodes D K) (after : Member (Coordinator D) K) (stamp now : ℕ) (printed : Cause) (given : Option Input)
+    (same : StaysItself stepping.stands_at coordinator.serves (coordinator.disks_of state) old.coordinator.seat.node after.seat.node) (r : Result (Option Letter) RunFault) where
+  abbrev CoordinatorMade : Event → Type 0
+  CoordinatorMade event = IsMade (coordinator.StandsAs state) stepping.stands_at (coordinator.disks_of state) coordinator.needs (coordinator.size_of state) old.coordinator after stamp now printed event r
+
+  coordinator_here : (c : Comes state old stamp place.Tc printed given) → CoordinatorMade c.event → Entered state old (with_coordinator old after) stamp now place.Tc printed given c r
+  coordinator_here c made =
+      let is : IsServer (coordinator.StandsAs state) (coordinator.disks_of state) place.Tc c.role c.s.disk old.coordinator c.ms = c.nodes.each place.Tc c.role c.there in
+      let sized : HaveSize c.s.disk (coordinator.disks_of state after.seat.node) = record { first = same.first.size ∙ is.sized.first; second = same.second.size ∙ is.sized.second } in
+      entered_as state (coordinator.StandsAs state) stepping.stands_at (coordinator.disks_of state) coordinator.needs (coordinator.size_of state) old (with_coordinator old after) old.coordinator after stamp now place.Tc printed given c
+      refl is.member.stands (told_all (coordinator.disks_of state old.coordinator.seat.node) c.event is.told)
+      (λ step letter e. nodes_coordinator state c.s old after c.role c.there c.ms (moment_by place.Tc now c step) refl c.nodes
+      (server_enters (coordinator.StandsAs state) (coordinator.disks_of state) place.Tc c.role c.s.disk stepping.stands_at coordinator.serves old.coordinator after c.ms now c.why c.event step letter is refl same e))
+      (λ os elsewhere stands. stand_coordinator state c.s old after c.role c.there c.ms os elsewhere c.nodes stands)
+      (λ missed b. inr (room_coordinator state c.s old.coordinator.seat.node is.sized, room_coordinator state c.s after.seat.node sized, b)) r made
+
+  pub entered_coordinator : (p : Place) → p ≡ place.Tc → ((event : Event) → event_by printed given ≡ Some event → CoordinatorMade event)
+      → (c : Comes state old stamp p printed given) → Entered state old (with_coordinator old after) stamp now p printed given c r
+  entered_coordinator p here made =
+      subst (λ q. (c : Comes state old stamp q printed given) → Entered state old (with_coordinator old after) stamp now q printed given c r) (sym here)
+      (λ c. coordinator_here c (made c.event c.is_event))
+
+-- ---- a resource
+
+module _ {D K : Type 0} (state : D → DiskState) (old : Nodes D K) (n : ℕ) (before after : Member (Resource D) K) (resources : Vec (Member (Resource D) K) Global) (stamp now : ℕ) (printed : Cause) (given : Option Input)
+    (placed : counted_at old.resources.items n ≡ Some before) (changed : resources.items ≡ set old.resources.items (n - 1) after) (stands_here : shown.stands_at before.seat.node ≡ place.Res n)
+    (same : StaysItself shown.stands_at resource.serves (shown.disks_of state) before.seat.node after.seat.node) (r : Result (Option Letter) RunFault) where
+  abbrev ResourceMade : Event → Type 0
+  ResourceMade event = IsMade (resource.StandsAs state) shown.stands_at (shown.disks_of state) shown.needs (shown.size_of state) before after stamp now printed event r
+
+  resource_here : (c : Comes state old stamp (place.Res n) printed given) → ResourceMade c.event → Entered state old (with_resources old resources) stamp now (place.Res n) printed given c r
+  resource_here c made =
+      let (x, found, kept) = c.nodes.each (place.Res n) c.role c.there in
+      let is : IsServer (resource.StandsAs state) (shown.disks_of state) (place.Res n) c.role c.s.disk before c.ms =
+      subst (λ (m : Member (Resource D) K). IsServer (resource.StandsAs state) (shown.disks_of state) (place.Res n) c.role c.s.disk m c.ms) (same_Some x before (sym found ∙ placed)) kept in
+      let sized : HaveSize c.s.disk (shown.disks_of state after.seat.node) = record { first = same.first.size ∙ is.sized.first; second = same.second.size ∙ is.sized.second } in
+      let there : counted_at resources.items n ≡ Some after = ap (λ l. counted_at l n) changed ∙ counted_set old.resources.items n after before placed in
+      entered_as state (resource.StandsAs state) shown.stands_at (shown.disks_of state) shown.needs (shown.size_of state) old (with_resources old resources) before after stamp now (place.Res n) printed given c
+      stands_here is.member.stands (told_all (shown.disks_of state before.seat.node) c.event is.told)
+      (λ step letter e. nodes_resource state c.s old n before after resources placed changed c.role c.there c.ms (moment_by (place.Res n) now c step) refl c.nodes
+      (server_enters (resource.StandsAs state) (shown.disks_of state) (place.Res n) c.role c.s.disk shown.stands_at resource.serves before after c.ms now c.why c.event step letter is stands_here same e))
+      (λ os elsewhere stands. stand_resource state c.s old n before after resources placed changed c.role c.there c.ms os elsewhere c.nodes stands)
+      (λ missed b. inr (
+        room_resource state c.s before.seat.node is.sized,
+        room_resource state c.s after.seat.node sized,
+        subst (λ (o : Option (Member (Resource D) K)). Blames (place.Res n) c.role (own (place.Res n) c.ms) now c.event (own_faults (member_disks state o)) (room shown.needs (shown.size_of state) before.seat.node)
+            (room shown.needs (shown.size_of state) after.seat.node) missed) (sym there) b,
+      )) r made
+
+  pub entered_resource : (p : Place) → p ≡ place.Res n → ((event : Event) → event_by printed given ≡ Some event → ResourceMade event)
+      → (c : Comes state old stamp p printed given) → Entered state old (with_resources old resources) stamp now p printed given c r
+  entered_resource p here made =
+      subst (λ q. (c : Comes state old stamp q printed given) → Entered state old (with_resources old resources) stamp now q printed given c r) (sym here)
+      (λ c. resource_here c (made c.event c.is_event))
+
+-- ---- a manager
 
 -- what happens to a manager is always told
-told_man : (s : Scenario) (n : ℕ) (disks : Pair) (event : Event) → IsFitting s (place.Man n) event → IsTold disks event
-told_man s n disks (Given given) fits = tt
-told_man s n disks (Stopped calls) fits = tt
-told_man s n disks Crashed fits = tt
-told_man s n disks (Restarted pick calls) fits = absurd (let no : place.Man n ≡ place.Tc = fits.0 in cc)
+manager_told : (m : Settings) (disks : Pair) (event : Event) → ComesTo (ManagerRole m) event → IsTold disks event
+manager_told m disks (Given given) fits = tt
+manager_told m disks (Stopped calls) fits = tt
+manager_told m disks Crashed fits = tt
+manager_told m disks (Restarted pick calls) fits = absurd fits
 
-module _ {D K : Type 0} (state : D → DiskState) (old new : Run D K) (p : Place) (printed : Cause) (given : Option Input) (c : Comes state old p printed given) where
-  abbrev history : List Moment
-  history = c.here.ms
+-- it makes no entry for want of memory alone
+only_memory : (m : Settings) (at : Place) (owns : List Own) (now : ℕ) (event : Event) (counted : ℕ) (before after : Room) (missed : RunFault) → ComesTo (ManagerRole m) event
+    → Blames at (ManagerRole m) owns now event counted before after missed → missed ≡ fault.NoMemory
+only_memory m at owns now (Given given) counted before after (fault.Store q) fits b = absurd b.2
+only_memory m at owns now (Given given) counted before after (fault.Full q full) fits b = absurd (let no : None ≡ Some b.1.0 = b.1.1 in cc)
+only_memory m at owns now (Given given) counted before after (fault.Damaged q second offset) fits b = absurd b
+only_memory m at owns now (Given given) counted before after fault.Other fits b = absurd b
+only_memory m at owns now (Given given) counted before after fault.NoMemory fits b = refl
+only_memory m at owns now (Stopped calls) counted before after missed fits b = absurd fits
+only_memory m at owns now Crashed counted before after missed fits b = absurd fits
+only_memory m at owns now (Restarted pick calls) counted before after missed fits b = absurd fits
 
-  -- ---- the coordinator
+abbrev pub manager_at : Manager → Place
+manager_at m = place.Man (manager.settings m).number
 
-  module _ (at : p ≡ place.Tc) (same : StaysItself stands_at serves (disks_of state) old.coordinator.seat.node new.coordinator.seat.node)
-      (counted : steps_left old.coordinator.seat.node ≤ steps_left new.coordinator.seat.node + 1) where
-    nodes : Nodes state c.here.s old.coordinator old.managers.items history
-    nodes = c.here.plays.nodes
+abbrev pub manager_disks : Manager → Pair
+manager_disks m = no_disks
 
-    told : IsTold (disks_of state old.coordinator.seat.node) c.event
-    told = told_all (disks_of state old.coordinator.seat.node) c.event nodes.coordinated.told
+abbrev pub manager_needs : Manager → ℕ → ℕ
+manager_needs m body = 0
 
-    sized : HaveSize c.here.s.disk (disks_of state new.coordinator.seat.node)
-    sized = record { first = same.first.size ∙ nodes.coordinated.sized.first; second = same.second.size ∙ nodes.coordinated.sized.second }
+abbrev pub manager_size : Manager → ℕ
+manager_size m = 0
 
-    happens_tc : (step : Step) → Happens (coordinator_role c.here.s) (own place.Tc history) old.clock c.event step → HappensAt (role_at (world_of c.here.s) no_past p) (own p history) old.clock c.event step
-    happens_tc step h = subst (λ q. HappensAt (role_at (world_of c.here.s) no_past q) (own q history) old.clock c.event step) (sym at) h
+module _ {D K : Type 0} (state : D → DiskState) (old : Nodes D K) (n : ℕ) (before after : Member Manager K) (managers : Vec (Member Manager K) Global) (stamp now : ℕ) (printed : Cause) (given : Option Input)
+    (placed : counted_at old.managers.items n ≡ Some before) (changed : managers.items ≡ set old.managers.items (n - 1) after) (stands_here : manager_at before.seat.node ≡ place.Man n) (r : Result (Option Letter) RunFault) where
+  abbrev ManagerMade : Event → Type 0
+  ManagerMade event = IsMade manager.StandsAs manager_at manager_disks manager_needs manager_size before after stamp now printed event r
 
-    -- a moment at p is one at the coordinator
-    moved : (step : Step) → next history place.Tc old.clock c.why (Some c.event) step ≡ moment_by state old p printed given c step
-    moved step = ap (λ q. next history q old.clock c.why (Some c.event) step) (sym at)
+  manager_here : (c : Comes state old stamp (place.Man n) printed given) → ManagerMade c.event → Entered state old (with_managers old managers) stamp now (place.Man n) printed given c r
+  manager_here c made =
+      let (x, found, kept) = c.nodes.each (place.Man n) c.role c.there in
+      let is : IsMember manager.StandsAs (place.Man n) c.role before c.ms = subst (λ (m : Member Manager K). IsMember manager.StandsAs (place.Man n) c.role m c.ms) (same_Some x before (sym found ∙ placed)) kept in
+      let (settings, listed, role_is) = at_manager c.s n c.role c.there in
+      let fits : ComesTo (ManagerRole settings) c.event = subst (λ role. ComesTo role c.event) role_is c.fits in
+      let told : IsTold no_disks c.event = manager_told settings no_disks c.event fits in
+      entered_as state manager.StandsAs manager_at manager_disks manager_needs manager_size old (with_managers old managers) before after stamp now (place.Man n) printed given c
+      stands_here is.stands told
+      (λ step letter e. nodes_manager state c.s old n before after managers placed changed c.role c.there c.ms (moment_by (place.Man n) now c step) refl c.nodes
+      (member_enters manager.StandsAs (place.Man n) c.role manager_at manager_disks before after c.ms now c.why c.event step letter is stands_here told e))
+      (λ os elsewhere stands. stand_manager state c.s old n before after managers placed changed c.role c.there c.ms os elsewhere c.nodes stands)
+      (λ missed b. inl (only_memory settings (place.Man n) (own (place.Man n) c.ms) now c.event (own_faults no_disks) (room manager_needs manager_size before.seat.node) (room manager_needs manager_size after.seat.node) missed fits
+      (subst (λ role. Blames (place.Man n) role (own (place.Man n) c.ms) now c.event (own_faults no_disks) (room manager_needs manager_size before.seat.node) (room manager_needs manager_size after.seat.node) missed) role_is b)))
+      r made
 
-    module _ (step : Step) (r : Result (Option Letter) RunFault)
-        (e : Makes (StandsAs state) stands_at (disks_of state) old.coordinator new.coordinator (length history + 1) old.clock (cause_of c.why) c.event step r) where
-      happened : Happens (coordinator_role c.here.s) (own place.Tc history) old.clock c.event step
-      happened = member_happens (StandsAs state) steps_left NODE_STEPS place.Tc (coordinator_role c.here.s) stands_at (disks_of state) old.coordinator new.coordinator history old.clock c.why c.event step r
-          nodes.coordinated.member refl told counted e
-
-      stands : StandsAs state new.coordinator.seat.node (coordinator_role c.here.s) (own place.Tc (next history place.Tc old.clock c.why (Some c.event) step ∷ history))
-      stands = member_stands (StandsAs state) steps_left NODE_STEPS place.Tc (coordinator_role c.here.s) stands_at (disks_of state) old.coordinator new.coordinator history old.clock c.why c.event step r
-          nodes.coordinated.member refl told counted e
-
-    pub entered_tc : (r : Result (Option Letter) RunFault) → new.managers ≡ old.managers
-        → IsMade (StandsAs state) stands_at (disks_of state) needs (size_of state) old.coordinator new.coordinator (length history + 1) old.clock (cause_of c.why) c.event r
-        → Entered state old new p printed given c r
-    entered_tc (Ok letter) others (step, e) =
-        let fits = given_fits c.here.s p c.event c.fits in (
-          step,
-          happens_tc step (happened step (Ok letter) e),
-          subst (λ m. Nodes state c.here.s new.coordinator new.managers.items (m ∷ history)) (moved step)
-              (subst (λ (l : List (Member Manager K)). Nodes state c.here.s new.coordinator l (next history place.Tc old.clock c.why (Some c.event) step ∷ history)) (sym (ap (λ v. v.items) others))
-              (nodes_coordinator state c.here.s old.coordinator new.coordinator old.managers.items history old.clock c.why c.event step letter nodes same counted
-              (event_registers_nothing c.here.s c.event fits) told e)),
-          subst (λ q. SendsPost c.here.s q step) (sym at) (coordinator_sends c.here.s (own place.Tc history) old.clock c.event step fits nodes.coordinated.unregistered (happened step (Ok letter) e)),
-          e.sent ∙ ap (λ q. option_map (letter_from q (length history + 1)) step.sent) (sym at),
-        )
-    entered_tc (Err missed) others (inl e) =
-        ends_here state old p printed given c new.coordinator.seat.node missed (e.misses.stands told (coordinator_role c.here.s) (own place.Tc history) nodes.coordinated.member.stands)
-        (cause_is state old p printed given c at (own_faults (disks_of state new.coordinator.seat.node)) (room needs (size_of state) old.coordinator.seat.node) (room needs (size_of state) new.coordinator.seat.node)
-        (room_is state c.here.s old.coordinator.seat.node nodes.coordinated.sized) (room_is state c.here.s new.coordinator.seat.node sized) missed
-        (e.misses.blames told (coordinator_role c.here.s) (own place.Tc history) nodes.coordinated.member.stands))
-    entered_tc (Err missed) others (inr (is, step, e)) =
-        ends_later state old p printed given c new.coordinator.seat.node missed step (happens_tc step (happened step (Err missed) e))
-        (subst (λ m. StandsAs state new.coordinator.seat.node (coordinator_role c.here.s) (own place.Tc (m ∷ history))) (moved step) (stands step (Err missed) e)) is
-
-  -- ---- a manager
-
-  module _ (n k : ℕ) (def : ManagerDef) (at : p ≡ place.Man n) (number : n ≡ k + 1) (here : slice_get c.here.s.managers k ≡ Some def) (om nm : Member Manager K) (placed : slice_get old.managers.items k ≡ Some om)
-      (member : IsManager c.here.s (k + 1) def om history) (counted : steps_of om.seat.node ≤ steps_of nm.seat.node + 1) (calls : HasNoCalls def) (others : new.managers.items ≡ set old.managers.items k nm)
-      (coordinator : new.coordinator ≡ old.coordinator) where
-    at_k : p ≡ place.Man (k + 1)
-    at_k = at ∙ ap (λ j. place.Man j) number
-
-    fits : IsFitting c.here.s (place.Man (k + 1)) c.event
-    fits = subst (λ q. IsFitting c.here.s q c.event) at_k c.fits
-
-    told_k : IsTold no_disks c.event
-    told_k = told_man c.here.s (k + 1) no_disks c.event fits
-
-    place_k : place.Man (settings om.seat.node).number ≡ place.Man (k + 1)
-    place_k = places om.seat.node (ManagerRole (settings_of c.here.s.lock_tries (k + 1) def)) (own (place.Man (k + 1)) history) member.stands
-
-    happens_k : (step : Step) → Happens (ManagerRole (settings_of c.here.s.lock_tries (k + 1) def)) (own (place.Man (k + 1)) history) old.clock c.event step
-        → HappensAt (role_at (world_of c.here.s) no_past p) (own p history) old.clock c.event step
-    happens_k step h =
-        subst (λ q. HappensAt (role_at (world_of c.here.s) no_past q) (own q history) old.clock c.event step) (sym at_k)
-        (subst (λ r. HappensAt r (own (place.Man (k + 1)) history) old.clock c.event step) (sym (role_of_manager c.here.s k def here)) h)
-
-    moved_k : (step : Step) → next history (place.Man (k + 1)) old.clock c.why (Some c.event) step ≡ moment_by state old p printed given c step
-    moved_k step = ap (λ q. next history q old.clock c.why (Some c.event) step) (sym at_k)
-
-    happened_k : (step : Step) (r : Result (Option Letter) RunFault)
-        → Makes StandsAsManager (λ m. place.Man (settings m).number) (λ _. no_disks) om nm (length history + 1) old.clock (cause_of c.why) c.event step r
-        → Happens (ManagerRole (settings_of c.here.s.lock_tries (k + 1) def)) (own (place.Man (k + 1)) history) old.clock c.event step
-    happened_k step r e = member_happens StandsAsManager steps_of MANAGER_STEPS (place.Man (k + 1)) (ManagerRole (settings_of c.here.s.lock_tries (k + 1) def)) (λ m. place.Man (settings m).number) (λ _. no_disks)
-        om nm history old.clock c.why c.event step r member place_k told_k counted e
-
-    -- the coordinator stands for what it stood for
-    stands_still : (step : Step) → StandsAs state new.coordinator.seat.node (coordinator_role c.here.s) (own place.Tc (moment_by state old p printed given c step ∷ history))
-    stands_still step =
-        subst (λ (m : Member (Coordinator D) K). StandsAs state m.seat.node (coordinator_role c.here.s) (own place.Tc (moment_by state old p printed given c step ∷ history))) (sym coordinator)
-        (subst (λ m. StandsAs state old.coordinator.seat.node (coordinator_role c.here.s) (own place.Tc (m ∷ history))) (moved_k step) c.here.plays.nodes.coordinated.member.stands)
-
-    pub entered_man : (r : Result (Option Letter) RunFault)
-        → IsMade StandsAsManager (λ m. place.Man (settings m).number) (λ _. no_disks) (λ _ _. 0) (λ _. 0) om nm (length history + 1) old.clock (cause_of c.why) c.event r
-        → Entered state old new p printed given c r
-    entered_man (Ok letter) (step, e) =
-        let inputs = given_fits c.here.s p c.event c.fits in
-        let made = member_enters StandsAsManager steps_of MANAGER_STEPS (place.Man (k + 1)) (ManagerRole (settings_of c.here.s.lock_tries (k + 1) def)) (λ m. place.Man (settings m).number) (λ _. no_disks)
-        om nm history old.clock c.why c.event step (Ok letter) member place_k told_k counted e e.turned in
-        let node : IsNode c.here.s (place.Man (k + 1)) = (ManagerRole (settings_of c.here.s.lock_tries (k + 1) def), role_of_manager c.here.s k def here) in (
-          step,
-          happens_k step (happened_k step (Ok letter) e),
-          subst (λ m. Nodes state c.here.s new.coordinator new.managers.items (m ∷ history)) (moved_k step)
-              (subst (λ (m : Member (Coordinator D) K). Nodes state c.here.s m new.managers.items (next history (place.Man (k + 1)) old.clock c.why (Some c.event) step ∷ history)) (sym coordinator)
-              (subst (λ (l : List (Member Manager K)). Nodes state c.here.s old.coordinator l (next history (place.Man (k + 1)) old.clock c.why (Some c.event) step ∷ history)) (sym others)
-              (nodes_manager state c.here.s old.coordinator old.managers.items history k def om nm old.clock c.why c.event step c.here.plays.nodes here placed made))),
-          subst (λ q. SendsPost c.here.s q step) (sym at_k) (manager_sends c.here.s (own (place.Man (k + 1)) history) old.clock c.event step inputs
-              (settings_of c.here.s.lock_tries (k + 1) def) node calls (λ msg last. last_named c.here.s history c.here.plays.post (place.Man (k + 1)) msg last) (happened_k step (Ok letter) e)),
-          e.sent ∙ ap (λ q. option_map (letter_from q (length history + 1)) step.sent) (place_k ∙ sym at_k),
-        )
-    entered_man (Err missed) (inl e) =
-        let none = only_memory c.here.s (settings_of c.here.s.lock_tries (k + 1) def) (k + 1) (place.Man (settings om.seat.node).number) (own (place.Man (k + 1)) history) old.clock c.event (own_faults no_disks)
-        (room {N = Manager} (λ _ _. 0) (λ _. 0) om.seat.node) (room {N = Manager} (λ _ _. 0) (λ _. 0) nm.seat.node) missed fits
-        (e.misses.blames told_k (ManagerRole (settings_of c.here.s.lock_tries (k + 1) def)) (own (place.Man (k + 1)) history) member.stands) in
-        ends_here state old p printed given c new.coordinator.seat.node missed
-        (subst (λ (m : Member (Coordinator D) K). StandsAs state m.seat.node (coordinator_role c.here.s) (own place.Tc history)) (sym coordinator) c.here.plays.nodes.coordinated.member.stands)
-        (subst (IsCause c.here.s history (own_faults (disks_of state new.coordinator.seat.node))) (sym none) tt)
-    entered_man (Err missed) (inr (is, step, e)) =
-        ends_later state old p printed given c new.coordinator.seat.node missed step (happens_k step (happened_k step (Err missed) e)) (stands_still step) is
+  pub entered_manager : (p : Place) → p ≡ place.Man n → ((event : Event) → event_by printed given ≡ Some event → ManagerMade event)
+      → (c : Comes state old stamp p printed given) → Entered state old (with_managers old managers) stamp now p printed given c r
+  entered_manager p here made =
+      subst (λ q. (c : Comes state old stamp q printed given) → Entered state old (with_managers old managers) stamp now q printed given c r) (sym here)
+      (λ c. manager_here c (made c.event c.is_event))

@@ -1,66 +1,78 @@
 -- Members of the schedule that are played, one after the other.
-use Rattle.std.proofs.Common.{◌≡◌, ◌+◌, ◌-◌, ◌<◌, ◌≤◌, ℕ, zero, suc, List, [], ◌∷◌, ◌++◌, All, drop, get_or, length, map, slice_get, Option, Some, None, Result, refl, ap, sym, subst, ◌∙◌, arith}
+use Rattle.std.proofs.Common.{◌≡◌, ◌+◌, ◌-◌, ◌<◌, ◌≤◌, ◌^◌, ℕ, zero, suc, List, [], ◌∷◌, ◌++◌, drop, length, map, slice_get, Option, Some, None, Result, refl, ap, sym, subst, ◌∙◌, arith}
 use Rattle.disk_model.specs.Disk.{DiskState}
-use Rattle.disk_model.specs.declared.disk.TheConstants.{LAST_PICK}
 use Rattle.seata_types.specs.declared.ids.Place.{Place}
 use Rattle.seata_types.specs.declared.ids.Place.TheVariants as place
+use Rattle.seata_types.specs.declared.messages.Input.TheVariants as input
 use Rattle.seata_types.specs.declared.statements.Stmt.{Stmt}
 use Rattle.scenario_reader.specs.declared.scenarios.Scenario.{Scenario}
 use Rattle.scenario_reader.specs.declared.scenarios.ScheduleItem.{ScheduleItem}
-use Rattle.scenario_reader.specs.Contents.{IsLocal}
+use Rattle.scenario_reader.specs.Contents.{IsBetween}
 use Rattle.scenario_reader.specs.Steps.{all_steps, steps_of}
-use Rattle.scenario_reader.specs.Runnable.{FitsNodes, IsPlaceAmong, IsRunnable, IsServerAmong}
-use Rattle.history_rules.specs.Nodes.{Manager as ManagerRole}
+use Rattle.scenario_reader.specs.Runnable.{IsPlaceAmong, IsRunnable, IsServerAmong}
+use Rattle.history_rules.specs.Own.{Event, Stopped, Crashed, Restarted}
+use Rattle.history_rules.specs.Nodes.{ComesTo, Role, no_past, role_at}
 use Rattle.history_rules.specs.Histories.{Moment}
-use Rattle.history_rules.specs.Schedules.{Auto, CrashOf, Item, RestartOf, StopOf, singles, singles_of, ticks_of, times}
+use Rattle.history_rules.specs.Schedules.{Auto, CrashOf, Item, LocalOf, OutsideOf, RestartOf, StopOf, TurnOf, local_place, singles, singles_of, ticks_of, times}
 use Rattle.history_text.specs.declared.entries.Cause.{Cause}
 use Rattle.history_text.specs.declared.entries.Cause.TheVariants as cause
-use Rattle.history_text.specs.Worlds.{item_of, settings_of}
-use Rattle.coordinator_core.specs.declared.nodes.Coordinator.{Coordinator}
-use Rattle.manager_core.specs.declared.nodes.Manager.{Manager}
+use Rattle.history_text.specs.Worlds.{item_of, resources_of, world_of}
 use Rattle.node_seat.specs.Entering.{IsOfDisks}
 use Rattle.node_seat.specs.Keeping.{IsInputOf}
 use Rattle.node_seat.specs.declared.faults.RunFault.{RunFault}
-use Rattle.replay_runner.specs.declared.members.Member.{Member}
 use Rattle.replay_runner.specs.declared.runs.Run.{Run}
-use Rattle.replay_runner.specs.Ends.{coordinator_role}
-use Rattle.replay_runner.specs.Going.{CanEnter, CanGo}
-use Rattle.replay_runner.specs.Plays.{Comes, HasPlayed, Made, Names, Nodes, Plays, Ready}
-use Rattle.replay_runner.specs.Posts.{IsNode}
+use Rattle.replay_runner.specs.Going.{AreLocals, CanGo, CanMake, MayBeGiven}
+use Rattle.replay_runner.specs.Letters.{AreMessages}
+use Rattle.replay_runner.specs.Plays.{Brings, HasMade, HasPlayed, IsAt, Made, Names, Plays, Ready}
+use Rattle.replay_runner.specs.Standing.{AreNodes}
 use Rattle.replay_runner.specs.Steps.{left_of}
-use Rattle.replay_runner.proofs.Begun.{none_there}
 use Rattle.replay_runner.proofs.Chosen.{ready_at}
 use Rattle.replay_runner.proofs.Lists.{drop_get, drop_past, member_at}
-use Rattle.replay_runner.proofs.Played.{comes_crash, comes_restart, comes_stop, made_quietly}
-use Rattle.replay_runner.proofs.Sent.{role_of_manager}
+use Rattle.replay_runner.proofs.Locals.{local_stands}
+use Rattle.replay_runner.proofs.Played.{brings_crash, brings_local, brings_outside, brings_restart, brings_stop, brings_turn, made_quietly}
+use Rattle.replay_runner.proofs.Roles.{comes_server, place_role, server_place}
 
 -- ---- places of the schedule
 
--- without resources only the coordinator has disks
-pub is_server : (p : Place) → IsServerAmong 0 p → p ≡ place.Tc
-is_server place.Tc fits = refl
-is_server (place.Res n) fits = absurd (let low = fits.0 in let high = fits.1 in omega (arith, low, high))
-is_server place.Net fits = absurd fits
-is_server (place.Man n) fits = absurd fits
+-- a node stands at each place of the nodes
+pub role_here : {D K : Type 0} (state : D → DiskState) (r : Run D K) (here : IsAt state r) (p : Place) → IsPlaceAmong (length r.nodes.resources.items) (length r.nodes.managers.items) p
+    → (role : Role) × (role_at (world_of here.s) no_past p ≡ Some role)
+role_here state r here p fits =
+    place_role here.s p
+    (subst (λ n. IsPlaceAmong n (length here.s.managers) p) here.plays.nodes.resources (subst (λ n. IsPlaceAmong (length r.nodes.resources.items) n p) here.plays.nodes.managers fits))
 
-pub is_place : {D K : Type 0} (state : D → DiskState) (s : Scenario) (c : Member (Coordinator D) K) (managers : List (Member Manager K)) (ms : List Moment) → Nodes state s c managers ms
-    → (p : Place) → IsPlaceAmong 0 (length managers) p → IsNode s p
-is_place state s c managers ms nodes place.Tc fits = (coordinator_role s, refl)
-is_place state s c managers ms nodes (place.Res n) fits = absurd (let low = fits.0 in let high = fits.1 in omega (arith, low, high))
-is_place state s c managers ms nodes place.Net fits = absurd fits
-is_place state s c managers ms nodes (place.Man n) fits =
-    let low = fits.0 in
-    let high = fits.1 in
-    let count = nodes.count in
-    let (def, at) = member_at s.managers (n - 1) (omega (arith, low, high, count)) in
-    let number : n - 1 + 1 ≡ n = omega (arith, low) in
-    subst (λ k. IsNode s (place.Man k)) number (ManagerRole (settings_of s.lock_tries (n - 1 + 1) def), role_of_manager s (n - 1) def at)
+-- ---- before the first step
 
--- the coordinator is a node
-pub is_coordinator : (s : Scenario) (p : Place) → p ≡ place.Tc → IsNode s p
-is_coordinator s p at = subst (IsNode s) (sym at) (coordinator_role s, refl)
+pub plays_nothing : {D K : Type 0} (state : D → DiskState) (s : Scenario) (r : Run D K) → AreNodes state s r.nodes [] → r.network.items ≡ [] → r.places.items ≡ [] → AreMessages r.messages [] → r.clock ≡ 0 → Plays state s r []
+plays_nothing state s r nodes network places messages time = record {
+  nodes = nodes;
+  passed = network;
+  standing = places;
+  messages = messages;
+  clocked = time;
+  slow = omega (arith, time);
+  legal = tt;
+  follows = tt;
+}
 
 -- ---- single steps
+
+may_turn : (managers resources : ℕ) (p : Place) → MayBeGiven managers resources p input.Turn
+may_turn managers resources place.Net = tt
+may_turn managers resources place.Tc = tt
+may_turn managers resources (place.Res n) = tt
+may_turn managers resources (place.Man n) = tt
+
+-- a turn can be given to each node
+pub enters_turn : {D K : Type 0} (r : Run D K) (p : Place) → IsPlaceAmong (length r.nodes.resources.items) (length r.nodes.managers.items) p → CanGo r 1 → CanMake r p cause.Turn (Some input.Turn)
+enters_turn r p there can = record { can = can; there = there; comes = tt; takes = (tt, may_turn (length r.nodes.managers.items) (length r.nodes.resources.items) p) }
+
+pub turn_made : {D K : Type 0} (state : D → DiskState) (old new : Run D K) (p : Place) → IsPlaceAmong (length old.nodes.resources.items) (length old.nodes.managers.items) p → (names : Names state old (TurnOf p))
+    → (r : Result (Unit {0}) RunFault) → ((b : Brings state old p cause.Turn (Some input.Turn)) → Made state old new p cause.Turn (Some input.Turn) b r) → HasMade state old new names.here r
+turn_made state old new p fits names r made =
+    let there = role_here state old names.here p fits in
+    let b = brings_turn state old p names there.0 there.1 in
+    made_quietly state old new p cause.Turn (Some input.Turn) b r (λ k. refl) (made b)
 
 -- a member of one step names what it says
 abbrev pub single : {D K : Type 0} (state : D → DiskState) (r : Run D K) (item : Item) → ticks_of item ≡ 0 → Ready state r (item ∷ []) → Names state r item
@@ -109,11 +121,6 @@ abbrev pub member_ready : {D K : Type 0} (state : D → DiskState) (r : Run D K)
     → left_of s ms ≡ singles_of (item_of item) ++ singles (map item_of behind) → Ready state r (singles_of (item_of item))
 member_ready state r s ms item behind runs plays left = record { s = s; runnable = runs; ms = ms; plays = plays; rest = singles (map item_of behind); is_next = left }
 
--- where no resource stands there are no local transactions
-no_locals : (locals : List (ℕ × List Stmt)) → All (IsLocal []) locals → length locals ≡ 0
-no_locals [] each = refl
-no_locals (local ∷ locals) each = let (def, there, is) = each 0 local (omega arith) in absurd (none_there local.0 def there)
-
 module _ {D K : Type 0} (state : D → DiskState) (r : Run D K) (schedule : List ScheduleItem) (k : ℕ) (item : ScheduleItem) (here : slice_get schedule k ≡ Some item) (s : Scenario) (runs : IsRunnable s)
     (ms : List Moment) (plays : Plays state s r ms) (left : left_of s ms ≡ singles (map item_of (drop k schedule))) where
   -- the k-th member of the schedule is the next
@@ -124,15 +131,6 @@ module _ {D K : Type 0} (state : D → DiskState) (r : Run D K) (schedule : List
 pub next_room : (schedule : List ScheduleItem) (k : ℕ) (item : ScheduleItem) → slice_get schedule k ≡ Some item → all_steps (drop k schedule) ≡ steps_of item + all_steps (drop (k + 1) schedule)
 next_room schedule k item here = ap all_steps (drop_get schedule k item here)
 
--- all members of the schedule fit a scenario without resources
-pub all_fit : (s : Scenario) → IsRunnable s → s.resources ≡ [] → (count : ℕ) → count ≡ length s.managers → All (FitsNodes 0 count 0) s.schedule
-all_fit s runs none count as_many = λ k item below.
-    let servers : length s.resources ≡ 0 = ap length none in
-    let writers : length s.locals ≡ 0 = no_locals s.locals (subst (λ rs. All (IsLocal rs) s.locals) none runs.locals) in
-    subst (λ n. FitsNodes 0 n 0 (get_or s.schedule k item)) (sym as_many)
-    (subst (λ n. FitsNodes n (length s.managers) 0 (get_or s.schedule k item)) servers
-    (subst (λ n. FitsNodes (length s.resources) (length s.managers) n (get_or s.schedule k item)) writers (runs.fits k item below)))
-
 -- before the first, and behind the last
 pub none_played : (s : Scenario) (schedule : List ScheduleItem) → s.schedule ≡ schedule → left_of s [] ≡ singles (map item_of (drop 0 schedule))
 none_played s schedule same = ap (λ items. singles (map item_of items)) same
@@ -140,40 +138,92 @@ none_played s schedule same = ap (λ items. singles (map item_of items)) same
 pub all_played : (s : Scenario) (schedule : List ScheduleItem) (ms : List Moment) (k : ℕ) → length schedule ≤ k → left_of s ms ≡ singles (map item_of (drop k schedule)) → left_of s ms ≡ []
 all_played s schedule ms k past left = left ∙ ap (λ items. singles (map item_of items)) (drop_past schedule k past)
 
--- ---- events of the coordinator's disks
+-- ---- events of disks
 
 -- one can be entered
-pub enters_disks : {D K : Type 0} (r : Run D K) (p : Place) (why : Cause) → IsServerAmong 0 p → IsInputOf (length r.places.items + 1) why None → IsOfDisks why → CanGo r 1 → CanEnter r p why None
+pub enters_disks : {D K : Type 0} (r : Run D K) (p : Place) (why : Cause) → IsServerAmong (length r.nodes.resources.items) p → IsInputOf (length r.places.items + 1) why None → IsOfDisks why → CanGo r 1 → CanMake r p why None
 enters_disks r p why fits comes disks can = record {
   can = can;
-  there = subst (IsPlaceAmong 0 (length r.managers.items)) (sym (is_server p fits)) tt;
+  there = server_place (length r.nodes.resources.items) (length r.nodes.managers.items) p fits;
   comes = comes;
-  takes = (is_server p fits, disks);
+  takes = (fits, disks);
 }
 
-module _ {D K : Type 0} (state : D → DiskState) (old new : Run D K) (p : Place) (fits : IsServerAmong 0 p) where
-  abbrev pub stop_comes : (calls : ℕ) → Ready state old (StopOf p calls ∷ []) → Comes state old p (cause.Stop calls) None
-  stop_comes calls ready =
-      let names = single state old (StopOf p calls) refl ready in
-      comes_stop state old p calls names (is_coordinator names.here.s p (is_server p fits)) (is_server p fits)
+module _ {D K : Type 0} (state : D → DiskState) (old new : Run D K) (p : Place) (fits : IsServerAmong (length old.nodes.resources.items) p) where
+  server_role : (here : IsAt state old) → (role : Role) × (role_at (world_of here.s) no_past p ≡ Some role)
+  server_role here = role_here state old here p (server_place (length old.nodes.resources.items) (length old.nodes.managers.items) p fits)
 
-  abbrev pub crash_comes : Ready state old (CrashOf p ∷ []) → Comes state old p cause.Crash None
-  crash_comes ready =
-      let names = single state old (CrashOf p) refl ready in
-      comes_crash state old p names (is_coordinator names.here.s p (is_server p fits)) (is_server p fits)
+  server_fits : (here : IsAt state old) (event : Event) → ComesTo (server_role here).0 event
+  server_fits here event = comes_server here.s (length old.nodes.resources.items) p (server_role here).0 fits (server_role here).1 event
 
-  abbrev pub restart_comes : (pick : ℕ) (calls : Option ℕ) → pick ≤ LAST_PICK → Ready state old (RestartOf p pick calls ∷ []) → Comes state old p (cause.Restart pick calls) None
-  restart_comes pick calls within ready =
-      let names = single state old (RestartOf p pick calls) refl ready in
-      comes_restart state old p pick calls names (is_coordinator names.here.s p (is_server p fits)) (is_server p fits) within
-
-  pub stop_made : (calls : ℕ) (ready : Ready state old (StopOf p calls ∷ [])) (r : Result (Unit {0}) RunFault) → Made state old new p (cause.Stop calls) None (stop_comes calls ready) r
+  pub stop_made : (calls : ℕ) (ready : Ready state old (StopOf p calls ∷ [])) (r : Result (Unit {0}) RunFault) → ((b : Brings state old p (cause.Stop calls) None) → Made state old new p (cause.Stop calls) None b r)
       → HasPlayed state ready.s new ready.rest r
-  stop_made calls ready r made = made_quietly state old new p (cause.Stop calls) None (stop_comes calls ready) r (λ k. refl) made
+  stop_made calls ready r made =
+      let names = single state old (StopOf p calls) refl ready in
+      let b = brings_stop state old p calls names (server_role names.here).0 (server_role names.here).1 (server_fits names.here (Stopped calls)) in
+      made_quietly state old new p (cause.Stop calls) None b r (λ k. refl) (made b)
 
-  pub crash_made : (ready : Ready state old (CrashOf p ∷ [])) (r : Result (Unit {0}) RunFault) → Made state old new p cause.Crash None (crash_comes ready) r → HasPlayed state ready.s new ready.rest r
-  crash_made ready r made = made_quietly state old new p cause.Crash None (crash_comes ready) r (λ k. refl) made
+  pub crash_made : (ready : Ready state old (CrashOf p ∷ [])) (r : Result (Unit {0}) RunFault) → ((b : Brings state old p cause.Crash None) → Made state old new p cause.Crash None b r)
+      → HasPlayed state ready.s new ready.rest r
+  crash_made ready r made =
+      let names = single state old (CrashOf p) refl ready in
+      let b = brings_crash state old p names (server_role names.here).0 (server_role names.here).1 (server_fits names.here Crashed) in
+      made_quietly state old new p cause.Crash None b r (λ k. refl) (made b)
 
-  pub restart_made : (pick : ℕ) (calls : Option ℕ) (within : pick ≤ LAST_PICK) (ready : Ready state old (RestartOf p pick calls ∷ [])) (r : Result (Unit {0}) RunFault)
-      → Made state old new p (cause.Restart pick calls) None (restart_comes pick calls within ready) r → HasPlayed state ready.s new ready.rest r
-  restart_made pick calls within ready r made = made_quietly state old new p (cause.Restart pick calls) None (restart_comes pick calls within ready) r (λ k. refl) made
+  pub restart_made : (pick : ℕ) (calls : Option ℕ) (ready : Ready state old (RestartOf p pick calls ∷ [])) (r : Result (Unit {0}) RunFault)
+      → ((b : Brings state old p (cause.Restart pick calls) None) → Made state old new p (cause.Restart pick calls) None b r) → HasPlayed state ready.s new ready.rest r
+  restart_made pick calls ready r made =
+      let names = single state old (RestartOf p pick calls) refl ready in
+      let b = brings_restart state old p pick calls names (server_role names.here).0 (server_role names.here).1 (server_fits names.here (Restarted pick calls)) in
+      made_quietly state old new p (cause.Restart pick calls) None b r (λ k. refl) (made b)
+
+-- ---- local transactions
+
+module _ {D K : Type 0} (r : Run D K) (locals : List (ℕ × List Stmt)) (number : ℕ) (within : IsBetween 1 (length locals) number) (are : AreLocals (length r.nodes.resources.items) locals) (p : Place)
+    (stands : (local : ℕ × List Stmt) → slice_get locals (number - 1) ≡ Some local → p ≡ place.Res local.0) where
+  the_local : (local : ℕ × List Stmt) × (slice_get locals (number - 1) ≡ Some local)
+  the_local = member_at locals (number - 1) (let low = within.0 in let high = within.1 in omega (arith, low, high))
+
+  at_resource : p ≡ place.Res the_local.0.0
+  at_resource = stands the_local.0 the_local.1
+
+  among : IsBetween 1 (length r.nodes.resources.items) the_local.0.0
+  among = are.each (number - 1) the_local.0 the_local.1
+
+  pub local_among : IsPlaceAmong (length r.nodes.resources.items) (length r.nodes.managers.items) p
+  local_among = subst (IsPlaceAmong (length r.nodes.resources.items) (length r.nodes.managers.items)) (sym at_resource) among
+
+  may_local : MayBeGiven (length r.nodes.managers.items) (length r.nodes.resources.items) p (input.Local number)
+  may_local =
+      subst (λ q. MayBeGiven (length r.nodes.managers.items) (length r.nodes.resources.items) q (input.Local number)) (sym at_resource)
+      (let high = within.1 in let few = are.few in let low : number < 2 ^ 16 = omega (arith, high, few) in low)
+
+  may_outside : MayBeGiven (length r.nodes.managers.items) (length r.nodes.resources.items) p (input.Outside number)
+  may_outside = subst (λ q. MayBeGiven (length r.nodes.managers.items) (length r.nodes.resources.items) q (input.Outside number)) (sym at_resource) tt
+
+  pub enters_local : CanGo r 1 → CanMake r p (cause.Local number) (Some (input.Local number))
+  enters_local can = record { can = can; there = local_among; comes = refl; takes = (tt, may_local) }
+
+  pub enters_outside : CanGo r 1 → CanMake r p (cause.Outside number) (Some (input.Outside number))
+  enters_outside can = record { can = can; there = local_among; comes = refl; takes = (tt, may_outside) }
+
+  module _ (state : D → DiskState) (new : Run D K) (result : Result (Unit {0}) RunFault) where
+    listed_place : (here : IsAt state r) → here.s.locals ≡ locals → local_place (resources_of here.s) number ≡ p
+    listed_place here same =
+        local_stands here.s number the_local.0 within.0 (ap (λ ls. slice_get ls (number - 1)) same ∙ the_local.1) (subst (λ n. IsBetween 1 n the_local.0.0) here.plays.nodes.resources among) ∙ sym at_resource
+
+    pub local_made : (ready : Ready state r (LocalOf number ∷ [])) → ready.s.locals ≡ locals → ((b : Brings state r p (cause.Local number) (Some (input.Local number))) → Made state r new p (cause.Local number) (Some (input.Local number)) b result)
+        → HasPlayed state ready.s new ready.rest result
+    local_made ready same made =
+        let names = single state r (LocalOf number) refl ready in
+        let there = role_here state r names.here p local_among in
+        let b = brings_local state r p number names there.0 there.1 (listed_place names.here same) in
+        made_quietly state r new p (cause.Local number) (Some (input.Local number)) b result (λ k. refl) (made b)
+
+    pub outside_made : (ready : Ready state r (OutsideOf number ∷ [])) → ready.s.locals ≡ locals → ((b : Brings state r p (cause.Outside number) (Some (input.Outside number))) → Made state r new p (cause.Outside number) (Some (input.Outside number)) b result)
+        → HasPlayed state ready.s new ready.rest result
+    outside_made ready same made =
+        let names = single state r (OutsideOf number) refl ready in
+        let there = role_here state r names.here p local_among in
+        let b = brings_outside state r p number names there.0 there.1 (listed_place names.here same) in
+        made_quietly state r new p (cause.Outside number) (Some (input.Outside number)) b result (λ k. refl) (made b)

@@ -1,220 +1,231 @@
 -- What the disks that are given back show.
-use Rattle.std.proofs.Common.{inl, inr, ◌≡◌, ◌⊎◌, ◌<◌, ◌≤◌, ℕ, true, false, List, [], ◌∷◌, length, replicate, slice_get, is_some, IsSome, Option, Some, None, option_map, refl, ap, sym, subst, ◌∙◌, arith}
-use Rattle.std.proofs.lemmas.Option.{slice_get_within}
-use Rattle.disk_model.specs.Disk.{Content, DiskState, Rose, present}
-use Rattle.disk_model.specs.Shelf.{IsBlank}
-use Rattle.disk_model.specs.Stop.{below}
+use Rattle.std.proofs.Common.{inl, inr, ◌≡◌, ◌⊎◌, ◌+◌, ◌<◌, ◌≤◌, ℕ, zero, suc, nat_lt, Bool, true, false, List, [], ◌∷◌, ◌++◌, length, length-append, map, slice_get, Option, Some, None, option_map, refl, ap, sym, subst, ◌∙◌, arith, add-one}
+use Rattle.std.proofs.lemmas.Bool.Decides.{nat_tests}
+use Rattle.std.proofs.lemmas.List.{length-map}
+use Rattle.std.proofs.lemmas.Option.{same_Some, slice_get-map}
+use Rattle.disk_model.specs.Disk.{DiskState}
 use Rattle.journal_checkpoint.specs.Images.{Pair}
-use Rattle.journal_checkpoint.specs.Keeping.{first_disk, second_disk}
-use Rattle.seata_types.specs.declared.errors.OpenError.{OpenError}
-use Rattle.seata_types.specs.declared.errors.OpenError.TheVariants as why
+use Rattle.seata_types.specs.declared.ids.Place.{Place}
 use Rattle.seata_types.specs.declared.ids.Place.TheVariants as place
-use Rattle.seata_types.specs.declared.limits.TheConstants.{DISK_LEAST}
-use Rattle.seata_types.specs.declared.messages.Input.{Input}
-use Rattle.seata_types.specs.declared.messages.Input.TheVariants as input
-use Rattle.seata_types.specs.declared.messages.Message.{Message}
-use Rattle.seata_types.specs.declared.messages.Message.TheVariants as message
+use Rattle.durable_records.specs.declared.coordinators.SessionRecord.{SessionRecord}
+use Rattle.durable_records.specs.declared.resources.ResourceRecord.{ResourceRecord}
+use Rattle.scenario_reader.specs.declared.scenarios.ResourceDef.{ResourceDef}
 use Rattle.scenario_reader.specs.declared.scenarios.Scenario.{Scenario}
-use Rattle.session_store.specs.Keeping.{IsNoDamage, twin}
-use Rattle.session_store.specs.Standing.{StandsForSessions}
 use Rattle.history_rules.specs.Own.{Own}
-use Rattle.history_rules.specs.Devices.{last_pick}
 use Rattle.history_rules.specs.CoordinatorMemory.{sessions_left}
-use Rattle.history_rules.specs.Nodes.{Past, World, no_past, role_at}
+use Rattle.history_rules.specs.Devices.{last_pick}
+use Rattle.history_rules.specs.ResourceMemory.{Setup, boot_over, memory, opening_tables}
+use Rattle.history_rules.specs.Nodes.{Role, counted_at, no_past, role_at}
+use Rattle.history_rules.specs.Nodes.{Coordinator as CoordinatorRole, Manager as ManagerRole, Resource as ResourceRole}
 use Rattle.history_rules.specs.Histories.{Moment, own}
-use Rattle.history_rules.specs.Schedules.{Follows, IsStep, Item, singles}
-use Rattle.history_text.specs.declared.entries.Entry.{Entry}
-use Rattle.history_text.specs.Durable.{AreCoordinatorDisks, KeepsDisks, of_coordinator, own_faults}
-use Rattle.history_text.specs.History.{entries}
-use Rattle.history_text.specs.Promises.{AreTold}
-use Rattle.history_text.specs.Worlds.{items_of, times_of, world_of}
+use Rattle.history_text.specs.Durable.{AreNodeDisks, StandsForLeft, StandsForRecords, keepable, of_coordinator, of_resource, own_faults}
+use Rattle.history_text.specs.Worlds.{setup_of, world_of}
 use Rattle.coordinator_core.specs.declared.nodes.Coordinator.{Coordinator}
-use Rattle.coordinator_core.specs.NodeLaws.{device, stands_for_records}
-use Rattle.coordinator_core.specs.Opening.{HandsBack, IsOpened}
-use Rattle.coordinator_core.specs.Serving.{HasNumbers}
-use Rattle.coordinator_core.specs.Standing.{StandsAs, disks_of, sessions_of}
-use Rattle.coordinator_core.specs.Standing.{resources as resources_kept, times_of as times_kept}
-use Rattle.coordinator_core.proofs.Blank.{blank_sessions}
+use Rattle.coordinator_core.specs.Standing as coordinator
+use Rattle.coordinator_core.specs.NodeLaws.{device as coordinator_device}
+use Rattle.resource_core.specs.declared.nodes.Resource.{Resource}
+use Rattle.resource_core.specs.NodeStanding as resource
+use Rattle.resource_core.specs.NodeLaws.{device as resource_device}
+use Rattle.resource_core.specs.Shown as shown
+use Rattle.manager_core.specs.declared.nodes.Manager.{Manager}
+use Rattle.manager_core.specs.Standing as manager
 use Rattle.node_seat.specs.Entering.{HaveLast}
-use Rattle.node_seat.specs.Faults.{open_fault}
-use Rattle.node_seat.specs.Keeping.{IsFresh}
-use Rattle.node_seat.specs.declared.faults.RunFault.{RunFault}
-use Rattle.node_seat.specs.declared.faults.RunFault.TheVariants as fault
-use Rattle.replay_runner.specs.declared.runs.Run.{Run}
-use Rattle.replay_runner.specs.Ends.{Ends, coordinator_role}
-use Rattle.replay_runner.specs.Plays.{IsNewCoordinator, Plays}
-use Rattle.replay_runner.specs.Going.{MayBeGiven, ServesAll, may_hear}
-use Rattle.replay_runner.specs.Posts.{IsGiven}
-use Rattle.replay_runner.specs.Shelves.{AreEmpty, Broken, Done, IsUnopened, Unopened, pair_of}
-use Rattle.replay_runner.specs.Steps.{left_of}
-use Rattle.replay_runner.proofs.Fitting.{heard_named}
-use Rattle.replay_runner.proofs.Lists.{drop_all}
+use Rattle.scenario_nodes.specs.Nodes.{IsNewCoordinator, coordinator_disks, coordinator_role, resource_disks, resource_role}
+use Rattle.scenario_nodes.specs.Opening.{HaveNoEntry}
+use Rattle.scenario_nodes.specs.Shelves.{AllTell, pair_of}
+use Rattle.replay_runner.specs.declared.members.Member.{Member}
+use Rattle.replay_runner.specs.declared.nodes.Nodes.{Nodes}
+use Rattle.replay_runner.specs.Leaving.{AreLeft, ShowNoEntry, disks_in, nth_pair, server_at}
+use Rattle.replay_runner.specs.Opened.{AreFirst, IsNewResourceOf, member_pair, server_disks}
+use Rattle.replay_runner.specs.Standing.{AllStand, AreNodes, HasNode, StandsAt, counted_on, member_disks}
+use Rattle.replay_runner.proofs.Lists.{member_at}
+use Rattle.replay_runner.proofs.Roles.{role_of_resource}
 
--- ---- the coordinator's disks, without their stop
+-- ---- the disks of one node, without their stops
 
-module _ {D : Type 0} (state : D → DiskState) (c : Coordinator D) where
-  abbrev pair_below : Pair
-  pair_below = pair_of state (below (first_disk (twin (sessions_of c)))) (below (second_disk (twin (sessions_of c))))
+module _ {D : Type 0} (state : D → DiskState) where
+  coordinator_shows : (c : Coordinator D) (role : Role) (owns : List Own) → coordinator.StandsAs state c role owns → AreNodeDisks role owns (pair_of state (coordinator_disks c))
+  coordinator_shows c (CoordinatorRole times past) owns stands = let d = coordinator_device state c (CoordinatorRole times past) owns stands in record { images = d.images; counted = d.counted }
+  coordinator_shows c (ResourceRole setup past) owns stands = absurd stands
+  coordinator_shows c (ManagerRole settings) owns stands = absurd stands
 
-  keeps_below : (s : Scenario) (owns : List Own) → StandsAs state c (coordinator_role s) owns → KeepsDisks of_coordinator false owns (sessions_left [] owns) pair_below
-  keeps_below s owns stands = let d = device state c (coordinator_role s) owns stands in record { images = d.images; counted = d.counted }
-
-  shown_below : (s : Scenario) (owns : List Own) → StandsAs state c (coordinator_role s) owns → HaveLast (last_pick owns) (disks_of state c) → AreCoordinatorDisks [] owns 0 pair_below
-  shown_below s owns stands last =
-      let d = keeps_below s owns stands in
+  coordinator_leaves : (c : Coordinator D) (role : Role) (owns : List Own) → coordinator.StandsAs state c role owns → HaveLast (last_pick owns) (coordinator.disks_of state c)
+      → AreLeft role owns (pair_of state (coordinator_disks c))
+  coordinator_leaves c (CoordinatorRole times past) owns stands last =
+      let d = coordinator_device state c (CoordinatorRole times past) owns stands in
       record { images = d.images; counted = let counted = d.counted in omega (arith, counted); picked = λ pick e. last pick e }
+  coordinator_leaves c (ResourceRole setup past) owns stands last = absurd stands
+  coordinator_leaves c (ManagerRole settings) owns stands last = absurd stands
 
--- ---- the end of a replay
+  resource_shows : (r : Resource D) (role : Role) (owns : List Own) → resource.StandsAs state r role owns → AreNodeDisks role owns (pair_of state (resource_disks r))
+  resource_shows r (ResourceRole setup past) owns stands = let d = resource_device state r (ResourceRole setup past) owns stands in record { images = d.images; counted = d.counted }
+  resource_shows r (CoordinatorRole times past) owns stands = absurd stands
+  resource_shows r (ManagerRole settings) owns stands = absurd stands
 
-module _ (w : World) (schedule : List Item) where
-  step_within : (ms : List Moment) (m : Moment) (o : Option Item) → slice_get (singles schedule) (length ms) ≡ o → IsStep w no_past ms m o → length ms < length (singles schedule)
-  step_within ms m None e h = absurd h
-  step_within ms m (Some step) e h = slice_get_within (singles schedule) (length ms) step e
+  resource_leaves : (r : Resource D) (role : Role) (owns : List Own) → resource.StandsAs state r role owns → HaveLast (last_pick owns) (shown.disks_of state r)
+      → AreLeft role owns (pair_of state (resource_disks r))
+  resource_leaves r (ResourceRole setup past) owns stands last =
+      let d = resource_device state r (ResourceRole setup past) owns stands in
+      record { images = d.images; counted = let counted = d.counted in omega (arith, counted); picked = λ pick e. last pick e }
+  resource_leaves r (CoordinatorRole times past) owns stands last = absurd stands
+  resource_leaves r (ManagerRole settings) owns stands last = absurd stands
 
-  follows_within : (ms : List Moment) → Follows w no_past schedule ms → length ms ≤ length (singles schedule)
-  follows_within [] f = omega arith
-  follows_within (m ∷ ms) f = let below = step_within ms m (slice_get (singles schedule) (length ms)) refl f.1 in omega (arith, below)
+  manager_role_is : (m : Manager) (role : Role) (owns : List Own) (disks : Pair) → manager.StandsAs m role owns → AreNodeDisks role owns disks × AreLeft role owns disks
+  manager_role_is m role owns disks stands = subst (λ r. AreNodeDisks r owns disks × AreLeft r owns disks) (sym stands.0) (tt, tt)
 
-module _ {D : Type 0} (state : D → DiskState) (s : Scenario) (c : Coordinator D) (first second : D) (one : first ≡ below (first_disk (twin (sessions_of c)))) (two : second ≡ below (second_disk (twin (sessions_of c)))) where
-  same_pair : pair_of state first second ≡ pair_below state c
-  same_pair = ap (λ d. pair_of state d second) one ∙ ap (pair_of state (below (first_disk (twin (sessions_of c))))) two
+-- ---- among the disks of all
 
-  pub broken : (missed : RunFault) → Ends state s c missed → Broken s (pair_of state first second) missed
-  broken missed e = subst (λ (p : Pair). Broken s p missed) (sym same_pair) (record {
-    history = e.history;
-    legal = e.legal;
-    follows = e.follows;
-    device = keeps_below state c s (own place.Tc e.history) e.stands;
-    cause = e.cause;
-  })
+nth_map : {D : Type 0} (state : D → DiskState) (ds : List (D × D)) (k : ℕ) (d : D × D) → slice_get ds k ≡ Some d → nth_pair (map (pair_of state) ds) k ≡ pair_of state d
+nth_map state [] k d e = absurd (let no : None ≡ Some d = e in cc)
+nth_map state (x ∷ ds) zero d e = ap (pair_of state) (same_Some x d e)
+nth_map state (x ∷ ds) (suc k) d e = nth_map state ds k d e
 
-  module _ {K : Type 0} (r : Run D K) (is : r.coordinator.seat.node ≡ c) (ms : List Moment) (t : Plays state s r ms) (left : left_of s ms ≡ []) where
-    stands : StandsAs state c (coordinator_role s) (own place.Tc ms)
-    stands = subst (λ n. StandsAs state n (coordinator_role s) (own place.Tc ms)) is t.nodes.coordinated.member.stands
+nth_below : (ps : List Pair) (p : Pair) (k : ℕ) → k < length ps → nth_pair (ps ++ p ∷ []) k ≡ nth_pair ps k
+nth_below [] p k below = absurd (omega (arith, below))
+nth_below (q ∷ ps) p zero below = refl
+nth_below (q ∷ ps) p (suc k) below = nth_below ps p k (omega (arith, below))
 
-    last : HaveLast (last_pick (own place.Tc ms)) (disks_of state c)
-    last = subst (λ n. HaveLast (last_pick (own place.Tc ms)) (disks_of state n)) is t.nodes.coordinated.picked
+pub nth_end : (ps : List Pair) (p : Pair) → nth_pair (ps ++ p ∷ []) (length ps) ≡ p
+nth_end [] p = refl
+nth_end (q ∷ ps) p = nth_end ps p
 
-    pub done : (es : List Entry) → es ≡ entries ms → Done s (pair_of state first second) es
-    done es printed = subst (λ (p : Pair). Done s p es) (sym same_pair) (record {
-      history = ms;
-      is_run = record {
-        legal = t.legal;
-        follows = t.follows;
-        whole = let all = drop_all (singles (items_of s)) (length ms) left in let within = follows_within (world_of s) (items_of s) ms t.follows in omega (arith, all, within);
-      };
-      printed = printed;
-      device = shown_below state c s (own place.Tc ms) stands last;
-    })
+module _ {D K : Type 0} (state : D → DiskState) (c : Coordinator D) (resources : List (Member (Resource D) K)) where
+  abbrev all_disks : List Pair
+  all_disks = map (pair_of state) (server_disks c resources)
 
-    -- memory was refused once all was played
-    pub uncollected : Broken s (pair_of state first second) fault.NoMemory
-    uncollected = subst (λ (p : Pair). Broken s p fault.NoMemory) (sym same_pair) (record {
-      history = ms;
-      legal = t.legal;
-      follows = t.follows;
-      device = keeps_below state c s (own place.Tc ms) stands;
-      cause = tt;
-    })
+  resource_there : (k : ℕ) (m : Member (Resource D) K) → slice_get resources k ≡ Some m → nth_pair (map (pair_of state) (map (member_pair {D = D} {K = K}) resources)) k ≡ pair_of state (resource_disks m.seat.node)
+  resource_there k m here =
+      nth_map state (map (member_pair {D = D} {K = K}) resources) k (resource_disks m.seat.node) (slice_get-map (member_pair {D = D} {K = K}) resources k ∙ ap (option_map (member_pair {D = D} {K = K})) here)
 
--- ---- blank disks
+  pub resource_in : (k : ℕ) (m : Member (Resource D) K) → counted_at resources k ≡ Some m → disks_in all_disks (place.Res k) ≡ pair_of state (resource_disks m.seat.node)
+  resource_in zero m here = absurd (let no : None ≡ Some m = here in cc)
+  resource_in (suc k) m here = resource_there k m here
 
-present_some : (o : Option Content) → is_some o ≡ true → (x : List ℕ) × (option_map (λ (k : Content). k.present) o ≡ Some x)
-present_some None told = absurd (let no : false ≡ true = told in cc)
-present_some (Some k) told = (k.present, refl)
+  pub count_disks : length all_disks ≡ length resources + 1
+  count_disks =
+      let outer = length-map (server_disks c resources) (pair_of state) in
+      let inner = length-map resources (member_pair {D = D} {K = K}) in
+      omega (arith, outer, inner)
 
-module _ {D : Type 0} (state : D → DiskState) (s : Scenario) (first second : D) (one : IsBlank s.disk (state first)) (two : IsBlank s.disk (state second)) (large : DISK_LEAST ≤ s.disk) where
-  -- nothing was done with them
-  pub empty_here : AreEmpty (pair_of state first second)
-  empty_here a b here there =
-      let zeros_a = one.zero a (one.settled a here) in
-      let zeros_b = two.zero b (two.settled b there) in
-      stands_for_records 0 0 [] a b
-      (subst (λ x. StandsForSessions 0 0 [] x b) (sym zeros_a) (subst (λ y. StandsForSessions 0 0 [] (replicate s.disk 0) y) (sym zeros_b) (blank_sessions 0 0 s.disk (omega (arith, large)))))
+-- ---- the disks of a replay
 
-  pub unopened_here : Unopened (pair_of state first second) fault.NoMemory
-  unopened_here = record { device = empty_here; cause = tt }
+module _ {D K : Type 0} (state : D → DiskState) (s : Scenario) (n : Nodes D K) where
+  abbrev node_disks : List Pair
+  node_disks = all_disks state n.coordinator.seat.node n.resources.items
 
-  -- ---- whatever they tell
+  shows_at : (p : Place) (role : Role) (owns : List Own) → StandsAt state n p role owns → AreNodeDisks role owns (disks_in node_disks p)
+  shows_at place.Net role owns stands = absurd stands
+  shows_at place.Tc role owns stands = coordinator_shows state n.coordinator.seat.node role owns stands
+  shows_at (place.Res k) role owns (m, here, stands) =
+      subst (λ (d : Pair). AreNodeDisks role owns d) (sym (resource_in state n.coordinator.seat.node n.resources.items k m here)) (resource_shows state m.seat.node role owns stands)
+  shows_at (place.Man k) role owns (m, here, stands) = (manager_role_is state m.seat.node role owns (disks_in node_disks (place.Man k)) stands).0
 
-  -- the coordinator that was opened on them, of so many managers, serves what these send
-  module _ (managed : ℕ) (c : Coordinator D) (o : IsOpened state first second managed 0 c) where
-    numbers : (heard : Message) → may_hear managed heard ≡ true → HasNumbers managed 0 heard
-    numbers (message.Begin manager timeout) may = may
-    numbers (message.Register xid resource call ticket kind hold check) may = absurd (let no : false ≡ true = may in cc)
-    numbers _ may = tt
+  pub all_show : (ms : List Moment) → AllStand state s n ms → (p : Place) (role : Role) → role_at (world_of s) no_past p ≡ Some role → AreNodeDisks role (own p ms) (disks_in node_disks p)
+  all_show ms stand p role e = shows_at p role (own p ms) (stand p role e)
 
-    pub serves_all : ServesAll managed c
-    serves_all input.Turn may framable = tt
-    serves_all (input.Message from heard) may framable = record {
-      framable = framable;
-      numbers = subst (λ n. HasNumbers n (resources_kept c) heard) (sym o.managers_are) (subst (λ n. HasNumbers managed n heard) (sym o.resources_are) (numbers heard may));
-    }
-    serves_all (input.Local number) may framable = tt
-    serves_all (input.Outside number) may framable = tt
+  leaves_at : (bytes : ℕ) (ms : List Moment) (p : Place) (role : Role) → HasNode state bytes n ms p role → AreLeft role (own p ms) (disks_in node_disks p)
+  leaves_at bytes ms place.Net role has = absurd has
+  leaves_at bytes ms place.Tc role has = coordinator_leaves state n.coordinator.seat.node role (own place.Tc ms) has.member.stands has.picked
+  leaves_at bytes ms (place.Res k) role (m, here, is) =
+      subst (λ (d : Pair). AreLeft role (own (place.Res k) ms) d) (sym (resource_in state n.coordinator.seat.node n.resources.items k m here))
+      (resource_leaves state m.seat.node role (own (place.Res k) ms) is.member.stands is.picked)
+  leaves_at bytes ms (place.Man k) role (m, here, is) = (manager_role_is state m.seat.node role (own (place.Man k) ms) (disks_in node_disks (place.Man k)) is.stands).1
 
-  -- ---- where they tell their bytes
+  pub all_left : (ms : List Moment) → AreNodes state s n ms → (p : Place) (role : Role) → role_at (world_of s) no_past p ≡ Some role → AreLeft role (own p ms) (disks_in node_disks p)
+  all_left ms nodes p role e = leaves_at s.disk ms p role (nodes.each p role e)
 
-  module _ (told_one : IsSome (state first).content) (told_two : IsSome (state second).content) where
-    first_bytes : (x : List ℕ) × (present (state first) ≡ Some x)
-    first_bytes = present_some (state first).content told_one
+  stands_by : (bytes : ℕ) (ms : List Moment) (p : Place) (role : Role) → HasNode state bytes n ms p role → StandsAt state n p role (own p ms)
+  stands_by bytes ms place.Net role has = absurd has
+  stands_by bytes ms place.Tc role has = has.member.stands
+  stands_by bytes ms (place.Res k) role (m, here, is) = (m, here, is.member.stands)
+  stands_by bytes ms (place.Man k) role (m, here, is) = (m, here, is.stands)
 
-    second_bytes : (x : List ℕ) × (present (state second) ≡ Some x)
-    second_bytes = present_some (state second).content told_two
+  pub all_stand : (ms : List Moment) → AreNodes state s n ms → AllStand state s n ms
+  all_stand ms nodes p role e = stands_by s.disk ms p role (nodes.each p role e)
 
-    blank_stand : (managers : ℕ) → StandsForSessions managers 0 [] first_bytes.0 second_bytes.0
-    blank_stand managers =
-        subst (λ a. StandsForSessions managers 0 [] a second_bytes.0) (sym (one.zero first_bytes.0 first_bytes.1))
-        (subst (λ b. StandsForSessions managers 0 [] (replicate s.disk 0) b) (sym (two.zero second_bytes.0 second_bytes.1)) (blank_sessions managers 0 s.disk (omega (arith, large))))
+  -- the faults that are counted are those of the disks that are given back
+  pub counted_in : (p : Place) (role : Role) (owns : List Own) → StandsAt state n p role owns → counted_on state n p ≡ own_faults (disks_in node_disks p)
+  counted_in place.Net role owns stands = absurd stands
+  counted_in place.Tc role owns stands = refl
+  counted_in (place.Res k) role owns (m, here, stands) =
+      ap (λ (o : Option (Member (Resource D) K)). own_faults (member_disks state o)) here ∙ sym (ap own_faults (resource_in state n.coordinator.seat.node n.resources.items k m here))
+  counted_in (place.Man k) role owns stands = refl
 
-    -- the coordinator wasn't opened on them
-    module _ (managed : ℕ) (failed : OpenError × D × D) (h : HandsBack state first second managed 0 failed) where
-      blamed : (e : OpenError) → IsNoDamage e → (e ≡ why.Failed → Rose (state first).counts.faults (state failed.1).counts.faults ⊎ Rose (state second).counts.faults (state failed.2).counts.faults)
-          → IsUnopened (own_faults (pair_of state failed.1 failed.2)) (open_fault place.Tc e)
-      blamed why.Failed none cause = (refl, by (cause refl))
-        where
-          by : Rose (state first).counts.faults (state failed.1).counts.faults ⊎ Rose (state second).counts.faults (state failed.2).counts.faults → 1 ≤ own_faults (pair_of state failed.1 failed.2)
-          by (inl rose) = omega (arith, rose)
-          by (inr rose) = omega (arith, rose)
-      blamed (why.Damaged other offset) none cause = absurd none
-      blamed (why.Full full) none cause = absurd none
-      blamed why.NoMemory none cause = tt
+-- ---- disks of nodes that made no entry
 
-      pub unopened : Unopened (pair_of state failed.1 failed.2) (open_fault place.Tc failed.0)
-      unopened = record {
-        device = λ a b here there. stands_for_records managed 0 [] a b
-            (h.images first_bytes.0 second_bytes.0 a b first_bytes.1 second_bytes.1 here there [] (blank_stand managed));
-        cause = blamed failed.0 (h.recovers [] first_bytes.0 second_bytes.0 first_bytes.1 second_bytes.1 (blank_stand managed)) h.cause;
-      }
+module _ {D : Type 0} (state : D → DiskState) where
+  none_kept : (R : Type 0) (A : Type 0) (r : R) → None ≡ Some r → A
+  none_kept R A r e = absurd (let no : None ≡ Some r = e in cc)
 
-    -- it was
-    module _ (managed : ℕ) (c : Coordinator D) (times : times_kept c ≡ times_of s) (o : IsOpened state first second managed 0 c) where
-      pub opened_stands : StandsAs state c (coordinator_role s) []
-      opened_stands = (sym times, (o.stands [] first_bytes.0 second_bytes.0 first_bytes.1 second_bytes.1 (blank_stand managed)).0)
-
-      pub opened : managed ≡ length s.managers → IsNewCoordinator state s c
-      opened as_many = record {
-        stands = opened_stands;
-        steps = o.steps;
-        told = record { first = o.first_disk.rest.kind.tells_images ∙ told_one; second = o.second_disk.rest.kind.tells_images ∙ told_two };
-        sized = record { first = o.first_disk.rest.kind.size ∙ one.size; second = o.second_disk.rest.kind.size ∙ two.size };
-        serving = λ given is framable. serves_all managed c o given (may given is) framable;
-      }
-        where
-          may : (given : Input) → IsGiven s given → MayBeGiven managed given
-          may input.Turn is = tt
-          may (input.Message from heard) is = heard_named s managed as_many heard is.1
-          may (input.Local number) is = tt
-          may (input.Outside number) is = tt
-
-  -- it did nothing yet
-  pub fresh : (w : World) (past : Past) → w ≡ world_of s → past ≡ no_past → (managed : ℕ) (c : Coordinator D) → times_kept c ≡ times_of s → IsOpened state first second managed 0 c
-      → IsFresh (StandsAs state) (disks_of state) w past c
-  fresh w past is none managed c times o = (
-    coordinator_role s,
-    ap (λ (x : World). role_at x past place.Tc) is ∙ ap (λ (x : Past). role_at (world_of s) x place.Tc) none,
-    λ tells. stands (tells refl),
-  )
+  pub coordinator_none : (s : Scenario) (c : Coordinator D) → coordinator.StandsAs state c (coordinator_role s) [] → HaveNoEntry (coordinator_role s) (pair_of state (coordinator_disks c))
+  coordinator_none s c stands a b first second = by (let d = coordinator_device state c (coordinator_role s) [] stands in d.images a b first second)
     where
-      stands : AreTold (disks_of state c) → StandsAs state c (coordinator_role s) []
-      stands told = opened_stands (sym o.first_disk.rest.kind.tells_images ∙ told.first) (sym o.second_disk.rest.kind.tells_images ∙ told.second) managed c times o
+      by : StandsForLeft of_coordinator (sessions_left [] []) (keepable false [] (sessions_left [] [])) a b → StandsForRecords of_coordinator [] a b
+      by (inl e) = e
+      by (inr (r, is, e)) = none_kept SessionRecord (StandsForRecords of_coordinator [] a b) r is
+
+  pub resource_none : (setup : Setup) (r : Resource D) → resource.StandsAs state r (ResourceRole setup []) [] → HaveNoEntry (ResourceRole setup []) (pair_of state (resource_disks r))
+  resource_none setup r stands a b first second = by (let d = resource_device state r (ResourceRole setup []) [] stands in d.images a b first second)
+    where
+      by : StandsForLeft (of_resource (opening_tables setup)) (memory setup [] []).left (keepable true [] (memory setup [] []).left) a b
+          → StandsForRecords (of_resource (opening_tables setup)) [] a b ⊎ StandsForRecords (of_resource (opening_tables setup)) (boot_over [] ∷ []) a b
+      by (inl e) = inr e
+      by (inr (q, is, e)) = none_kept ResourceRecord _ q is
+
+-- the disks of the k-th node, among those of nodes in order
+in_order : (disks : List Pair) (k : ℕ) → disks_in disks (server_at k) ≡ nth_pair disks k
+in_order disks zero = refl
+in_order disks (suc k) = refl
+
+-- the role of the node behind so many resources
+pub role_behind : (s : Scenario) (count : ℕ) (def : ResourceDef) → slice_get s.resources count ≡ Some def → (k : ℕ) → k ≡ count + 1 → role_at (world_of s) no_past (server_at k) ≡ Some (resource_role s (count + 1) def)
+role_behind s count def here zero is = absurd (omega (arith, is))
+role_behind s count def here (suc k) is = ap (λ i. role_at (world_of s) no_past (place.Res i)) is ∙ role_of_resource s count def here
+
+pub place_behind : (count k : ℕ) → k ≡ count + 1 → server_at k ≡ place.Res (count + 1)
+place_behind count zero is = absurd (omega (arith, is))
+place_behind count (suc k) is = ap place.Res is
+
+pub none_show : (s : Scenario) → ShowNoEntry s []
+none_show s k role below e = absurd (omega (arith, below))
+
+-- of the coordinator alone
+pub one_shows : (s : Scenario) (p : Pair) → HaveNoEntry (coordinator_role s) p → ShowNoEntry s (p ∷ [])
+one_shows s p none zero role below e = subst (λ r. HaveNoEntry r p) (same_Some (coordinator_role s) role e) none
+one_shows s p none (suc k) role below e = absurd (omega (arith, below))
+
+-- one node more
+pub show_more : (s : Scenario) (disks : List Pair) (p : Pair) (role : Role) → role_at (world_of s) no_past (server_at (length disks)) ≡ Some role → HaveNoEntry role p → ShowNoEntry s disks → ShowNoEntry s (disks ++ p ∷ [])
+show_more s disks p role at none show k other below e = by (nat_lt k (length disks)) refl
+  where
+    size : length (disks ++ p ∷ []) ≡ length disks + 1
+    size = let more = length-append disks (p ∷ []) in omega (arith, more)
+
+    by : (b : Bool) → nat_lt k (length disks) ≡ b → HaveNoEntry other (disks_in (disks ++ p ∷ []) (server_at k))
+    by true t =
+        let lower : k < length disks = grind (arith, nat_tests) in
+        subst (λ (d : Pair). HaveNoEntry other d) (in_order disks k ∙ sym (nth_below disks p k lower) ∙ sym (in_order (disks ++ p ∷ []) k)) (show k other lower e)
+    by false t =
+        let past : length disks ≤ k = grind (arith, nat_tests) in
+        let end : k ≡ length disks = omega (arith, past, below, size) in
+        let same : role ≡ other = same_Some role other (sym at ∙ ap (λ i. role_at (world_of s) no_past (server_at i)) (sym end) ∙ e) in
+        subst (λ (d : Pair). HaveNoEntry other d) (sym (in_order (disks ++ p ∷ []) k ∙ ap (λ i. nth_pair (disks ++ p ∷ []) i) end ∙ nth_end disks p))
+        (subst (λ r. HaveNoEntry r p) same none)
+
+-- the coordinator and the first resources show it
+module _ {D K : Type 0} (state : D → DiskState) (s : Scenario) (all : AllTell state) (managers resources : ℕ) (c : Coordinator D) (new : IsNewCoordinator state s managers resources c)
+    (opened : List (Member (Resource D) K)) (first : AreFirst (IsNewResourceOf state s) s.resources opened) where
+  kth_shows : (k : ℕ) (role : Role) → k < length opened → role_at (world_of s) no_past (place.Res (suc k)) ≡ Some role → HaveNoEntry role (disks_in (all_disks state c opened) (place.Res (suc k)))
+  kth_shows k role below e =
+      let few = first.few in
+      let (m, there) = member_at opened k below in
+      let (def, here) = member_at s.resources k (omega (arith, below, few)) in
+      let r = first.each k def m here there in
+      let same : resource_role s (k + 1) def ≡ role = same_Some (resource_role s (k + 1) def) role (sym (role_of_resource s k def here) ∙ ap (λ i. role_at (world_of s) no_past (place.Res i)) (add-one k) ∙ e) in
+      subst (λ (d : Pair). HaveNoEntry role d) (sym (resource_in state c opened (suc k) m there))
+      (subst (λ x. HaveNoEntry x (pair_of state (resource_disks m.seat.node))) same (resource_none state (setup_of s (k + 1) def) m.seat.node (r.node.stands (r.node.told all))))
+
+  pub first_show : ShowNoEntry s (all_disks state c opened)
+  first_show zero role below e =
+      subst (λ r. HaveNoEntry r (pair_of state (coordinator_disks c))) (same_Some (coordinator_role s) role e) (coordinator_none state s c (new.stands (new.told all)))
+  first_show (suc k) role below e = let size = count_disks state c opened in kth_shows k role (omega (arith, below, size)) e

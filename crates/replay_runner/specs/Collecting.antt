@@ -1,42 +1,63 @@
 -- The traces of a replay, one for each place.
-use Rattle.std.specs.Prelude.{◌≡◌, ◌+◌, ◌<◌, ℕ, List, [], ◌∷◌, length, slice_get, Some, Vec}
+use Rattle.std.specs.Prelude.{◌≡◌, ◌==◌, ℕ, false, List, [], ◌∷◌, length, slice_get, IsSome, Option, Some, option_map, Vec}
 use Rattle.std.specs.declared.alloc.Global.{Global}
 use Rattle.seata_types.specs.declared.ids.Place.{Place}
 use Rattle.seata_types.specs.declared.ids.Place.TheVariants as place
+use Rattle.history_rules.specs.Nodes.{counted_at}
 use Rattle.history_rules.specs.Histories.{Moment}
 use Rattle.history_text.specs.declared.entries.Entry.{Entry}
 use Rattle.history_text.specs.History.{entries}
-use Rattle.manager_core.specs.declared.nodes.Manager.{Manager}
 use Rattle.replay_runner.specs.declared.collecting.Traces.{Traces}
 use Rattle.replay_runner.specs.declared.members.Member.{Member}
+use Rattle.replay_runner.specs.declared.nodes.Nodes.{Nodes}
 use Rattle.replay_runner.specs.Traces.{at}
 
--- a moment stands at the network, at the coordinator, or at one of so many managers
-abbrev pub HasTrace : ℕ → Place → Type 0
-HasTrace managers place.Net = Unit {0}
-HasTrace managers place.Tc = Unit {0}
-HasTrace managers (place.Man n) = (k : ℕ) × (n ≡ k + 1) × (k < managers)
-HasTrace managers (place.Res n) = ⊥
+-- ---- of places
 
-abbrev pub HaveTraces : ℕ → List Moment → Type 0
-HaveTraces managers [] = Unit {0}
-HaveTraces managers (m ∷ ms) = HaveTraces managers ms × HasTrace managers m.place
+-- each moment stands at a place with a trace
+abbrev pub HaveTraces : (Place → Option (List Entry)) → List Moment → Type 0
+HaveTraces trace [] = Unit {0}
+HaveTraces trace (m ∷ ms) = HaveTraces trace ms × IsSome (trace m.place)
 
 -- of each place the trace is what is printed of its moments
-pub record AreTraces (t : Traces) (ms : List Moment) : Type 0 where
-  pub have : HaveTraces (length t.managers.items) ms
-  pub network : t.network.items ≡ entries (at place.Net ms)
-  pub coordinator : t.coordinator.items ≡ entries (at place.Tc ms)
-  pub managers : (k : ℕ) (trace : Vec Entry Global) → slice_get t.managers.items k ≡ Some trace → trace.items ≡ entries (at (place.Man (k + 1)) ms)
+pub record AreTraces (trace : Place → Option (List Entry)) (ms : List Moment) : Type 0 where
+  pub have : HaveTraces trace ms
+  pub each : (p : Place) (es : List Entry) → trace p ≡ Some es → es ≡ entries (at p ms)
 
--- these are the traces of these managers
-abbrev pub AreTracesOf : {K : Type 0} → List (Member Manager K) → List (Vec Entry Global) → Type 0
-AreTracesOf {K} managers traces =
-    (length traces ≡ length managers) × ((k : ℕ) (m : Member Manager K) (trace : Vec Entry Global) → slice_get managers k ≡ Some m → slice_get traces k ≡ Some trace → trace.items ≡ m.seat.trace)
+-- ---- that are kept
 
--- the entries of the network, the coordinator's trace, and those of these managers are those of these moments
-pub record HaveTracesOf {K : Type 0} (network coordinator : List Entry) (managers : List (Member Manager K)) (ms : List Moment) : Type 0 where
-  pub have : HaveTraces (length managers) ms
-  pub passed : network ≡ entries (at place.Net ms)
-  pub coordinated : coordinator ≡ entries (at place.Tc ms)
-  pub managed : (k : ℕ) (m : Member Manager K) → slice_get managers k ≡ Some m → m.seat.trace ≡ entries (at (place.Man (k + 1)) ms)
+abbrev pub items_of : Vec Entry Global → List Entry
+items_of trace = trace.items
+
+-- the trace at a number, counted from 1
+abbrev pub trace_among : List (Vec Entry Global) → ℕ → Option (List Entry)
+trace_among traces n = option_map items_of (counted_at traces n)
+
+-- the trace of a place, if there is one
+abbrev pub trace_at : Traces → Place → Option (List Entry)
+trace_at t place.Net = Some t.network.items
+trace_at t place.Tc = Some t.coordinator.items
+trace_at t (place.Res n) = trace_among t.resources.items n
+trace_at t (place.Man n) = trace_among t.managers.items n
+
+-- the trace at a number is this one now, and no other one changed
+pub record IsShortened (old new : List (Vec Entry Global)) (n : ℕ) (front : List Entry) : Type 0 where
+  pub here : trace_among new n ≡ Some front
+  pub others : (k : ℕ) → (k == n) ≡ false → trace_among new k ≡ trace_among old k
+
+-- ---- of nodes
+
+abbrev pub member_trace : {N K : Type 0} → Member N K → List Entry
+member_trace m = m.seat.trace
+
+-- the trace of the node at a place, with the entries of the network
+abbrev pub trace_of : {D K : Type 0} → (network : List Entry) → Nodes D K → Place → Option (List Entry)
+trace_of network n place.Net = Some network
+trace_of network n place.Tc = Some n.coordinator.seat.trace
+trace_of network n (place.Res k) = option_map member_trace (counted_at n.resources.items k)
+trace_of network n (place.Man k) = option_map member_trace (counted_at n.managers.items k)
+
+-- the traces of these nodes, in order
+pub record AreTracesOf {N K : Type 0} (members : List (Member N K)) (traces : List (Vec Entry Global)) : Type 0 where
+  pub count : length traces ≡ length members
+  pub each : (k : ℕ) (m : Member N K) (trace : Vec Entry Global) → slice_get members k ≡ Some m → slice_get traces k ≡ Some trace → trace.items ≡ m.seat.trace

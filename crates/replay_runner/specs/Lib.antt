@@ -1,10 +1,12 @@
-pub mod Posts
 pub mod Letters
 pub mod Traces
 pub mod Members
 pub mod Steps
 pub mod Going
+pub mod Standing
+pub mod Entering
 pub mod Plays
 pub mod Ends
-pub mod Shelves
+pub mod Opened
+pub mod Leaving
 pub mod Collecting

@@ -1,5 +1,5 @@
 -- The nodes of a replay: what each stands for, and what one entry of one is.
-use Rattle.std.specs.Prelude.{◌≡◌, ◌⊎◌, ◌+◌, ◌≤◌, ℕ, List, [], ◌∷◌, ◌++◌, length, Option, option_map, Result, Ok, Err, IfOk}
+use Rattle.std.specs.Prelude.{◌≡◌, ◌⊎◌, ℕ, nat_lt, if◌then◌else◌, List, [], ◌∷◌, ◌++◌, Option, option_map, Result, Ok, Err, IfOk}
 use Rattle.journal_checkpoint.specs.Images.{Pair}
 use Rattle.seata_types.specs.declared.ids.Place.{Place}
 use Rattle.seata_types.specs.declared.messages.Step.{Step}
@@ -40,10 +40,19 @@ IsMade stands_for place disks needs size old new stamp now why event (Err missed
     Stays stands_for place disks needs size old.seat.node new.seat.node old.seat.trace new.seat.trace now event missed
     ⊎ ((missed ≡ fault.NoMemory) × (step : Step) × Makes stands_for place disks old new stamp now why event step (Err missed))
 
--- the node of this role at a place, after these moments: it stands for its own entries, its trace is what is printed of
--- them, and it can still make as many steps as the moments leave of so many
-pub record IsMember {N K : Type 0} (stands_for : N → Role → List Own → Type 0) (left : N → ℕ) (steps : ℕ) (p : Place) (role : Role) (m : Member N K) (ms : List Moment) : Type 0 where
+-- the node of this role at a place, after these moments: it stands for its own entries, and its trace is what is printed of them
+pub record IsMember {N K : Type 0} (stands_for : N → Role → List Own → Type 0) (p : Place) (role : Role) (m : Member N K) (ms : List Moment) : Type 0 where
   pub stands : stands_for m.seat.node role (own p ms)
   pub traced : m.seat.trace ≡ entries (at p ms)
   pub turned : m.turned ≡ last_turn ms p
-  pub able : steps ≤ left m.seat.node + length ms
+
+-- ---- turns
+
+-- where a node stands, with the stamp of its last turn
+abbrev pub turn_of : {N K : Type 0} → (N → Place) → Member N K → Place × ℕ
+turn_of place m = (place m.seat.node, m.turned)
+
+-- of a place with the stamp of its last turn and of others, the one whose last turn is the earliest; of several the first
+abbrev pub earliest_of : Place × ℕ → List (Place × ℕ) → Place × ℕ
+earliest_of first [] = first
+earliest_of first (turn ∷ turns) = earliest_of (if nat_lt turn.1 first.1 then turn else first) turns

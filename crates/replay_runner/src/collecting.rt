@@ -4,17 +4,19 @@ ghost use Rattle.history_text.specs.declared.entries.Entry.{Entry as TheEntry};
 ghost use Rattle.history_rules.specs.Histories.{Moment};
 ghost use Rattle.history_text.specs.History.{entries};
 ghost use Rattle.replay_runner.specs.Traces.{places_of};
-ghost use Rattle.replay_runner.specs.Collecting.{AreTraces};
+ghost use Rattle.replay_runner.specs.Collecting.{AreTraces, IsShortened, trace_among, trace_at};
 
 use history_text::Entry;
 use seata_types::{List, NoMemory, Place};
 use std::alloc::Global;
 
-/// The traces of a replay, each with the oldest entry first: of the network, of the coordinator and of each manager.
+/// The traces of a replay, each with the oldest entry first: of the network, of the coordinator, of each resource and of each
+/// manager, which are counted from 1.
 #[derive(Drop)]
 pub struct Traces {
     pub network: Vec<Entry>,
     pub coordinator: Vec<Entry>,
+    pub resources: Vec<Vec<Entry>>,
     pub managers: Vec<Vec<Entry>>,
 }
 
@@ -33,36 +35,35 @@ fn pop_entry(trace: &mut Vec<Entry>) -> Option<Entry>
     trace.pop()
 }
 
+/// Takes out the newest entry of one of these traces, counted from 1.
+fn pop_among(traces: &mut Vec<Vec<Entry>>, n: usize) -> Option<Entry>
+    ensures { (front : Items TheEntry) (e : TheEntry) → trace_among traces.old.items n ≡ Some (front ++ e ∷ []) → (result ≡ Some e) × IsShortened traces.old.items traces.new.items n front }
+{
+    if n == 0 || n > traces.len() {
+        return None;
+    }
+    pop_entry(&mut traces[n - 1])
+}
+
 impl Traces {
     ghost use Rattle.std.specs.Prelude.{◌≡◌, ◌++◌, ◌∷◌, [], List as Items, Some, OnOk};
-    ghost use Rattle.seata_types.specs.declared.ids.Place.TheVariants as places;
     ghost use Rattle.history_text.specs.History.{entry_of};
-
-    /// Takes out the newest entry of a manager, counted from 1.
-    fn pop_manager(&mut self, n: usize) -> Option<Entry>
-        ensures { (m : Moment) (ms : Items Moment) → AreTraces self.old (m ∷ ms) → m.place ≡ places.Man n → (result ≡ Some (entry_of m)) × AreTraces self.new ms }
-    {
-        if n == 0 || n > self.managers.len() {
-            return None;
-        }
-        pop_entry(&mut self.managers[n - 1])
-    }
 
     /// Takes out the newest entry of a place.
     fn pop(&mut self, place: Place) -> Option<Entry>
-        ensures { (m : Moment) (ms : Items Moment) → AreTraces self.old (m ∷ ms) → m.place ≡ place → (result ≡ Some (entry_of m)) × AreTraces self.new ms }
+        ensures { (m : Moment) (ms : Items Moment) → AreTraces (trace_at self.old) (m ∷ ms) → m.place ≡ place → (result ≡ Some (entry_of m)) × AreTraces (trace_at self.new) ms }
     {
         match place {
             Place::Net => pop_entry(&mut self.network),
             Place::Tc => pop_entry(&mut self.coordinator),
-            Place::Man(n) => self.pop_manager(n as usize),
-            Place::Res(_) => None,
+            Place::Res(n) => pop_among(&mut self.resources, n as usize),
+            Place::Man(n) => pop_among(&mut self.managers, n as usize),
         }
     }
 
     /// Moves the newest entry of a place behind those of a history.
     fn move_newest(&mut self, place: Place, history: &mut Vec<Entry>) -> Result<(), NoMemory>
-        ensures { OnOk result ((m : Moment) (ms : Items Moment) → AreTraces self.old (m ∷ ms) → m.place ≡ place → (history.new.items ≡ history.old.items ++ entry_of m ∷ []) × AreTraces self.new ms) }
+        ensures { OnOk result ((m : Moment) (ms : Items Moment) → AreTraces (trace_at self.old) (m ∷ ms) → m.place ≡ place → (history.new.items ≡ history.old.items ++ entry_of m ∷ []) × AreTraces (trace_at self.new) ms) }
     {
         match self.pop(place) {
             Some(entry) => put(history, entry),
@@ -81,7 +82,7 @@ fn from_end(places: &[Place], k: usize) -> Place
 
 /// The history whose entries stand at these places one after the other, out of the traces of each place.
 pub fn collected(alloc: Global, places: &[Place], traces: Traces) -> Result<List<Entry>, NoMemory>
-    ensures { IfOk result (λ history. (ms : Items Moment) → places.now ≡ places_of ms → AreTraces traces ms → history ≡ entries ms) }
+    ensures { IfOk result (λ history. (ms : Items Moment) → places.now ≡ places_of ms → AreTraces (trace_at traces) ms → history ≡ entries ms) }
 {
     let mut traces = traces;
     let mut history = Vec::new(alloc);

@@ -2,12 +2,12 @@
 //! this makes.
 #![tactic(auto)]
 
+mod closings;
 mod collecting;
-mod disks;
-mod managers;
 mod members;
 mod messages;
-mod places;
+mod nodes;
+mod openings;
 mod receivers;
 mod replays;
 mod runs;

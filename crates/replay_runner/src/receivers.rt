@@ -1,10 +1,10 @@
-//! Which deliveries fit the nodes of a replay without resources. All do that are by the rules.
+//! Which deliveries fit the nodes of a replay. All do that are by the rules.
 ghost use Rattle.std.specs.Prelude.{◌≡◌};
 ghost use Rattle.durable_records.specs.SessionOrder as numbers;
 ghost use Rattle.replay_runner.specs.Going as going;
 
 use crate::messages::Delivery;
-use seata_types::{Message, Place};
+use seata_types::{Message, Place, RowKey};
 
 /// Whether a number is one of so many, counted from 1.
 fn is_counted(count: usize, number: u16) -> bool
@@ -13,25 +13,34 @@ fn is_counted(count: usize, number: u16) -> bool
     1 <= number && number as usize <= count
 }
 
-/// Whether the coordinator of so many managers may hear a message: it registers no branch, and begins a transaction for one of
-/// them.
-fn may_hear(managers: usize, message: &Message) -> bool
-    ensures { result ≡ going.may_hear managers message.now }
+/// Whether each row is of one of so many resources.
+fn have_resources(resources: usize, rows: &[RowKey]) -> bool
+    ensures { result ≡ going.have_resources resources rows.now }
+{
+    rows.iter().all(|row| is_counted(resources, row.resource))
+}
+
+/// Whether the coordinator of so many managers and resources may hear a message: the numbers that it names are counted.
+fn may_hear(managers: usize, resources: usize, message: &Message) -> bool
+    ensures { result ≡ going.may_hear managers resources message.now }
 {
     match message {
         Message::Begin { manager, .. } => is_counted(managers, *manager),
-        Message::Register { .. } => false,
+        Message::Register { resource, hold, .. } => {
+            is_counted(resources, *resource) && have_resources(resources, hold.as_slice())
+        }
         _ => true,
     }
 }
 
 /// Whether a node can be given a delivery: its receiver is one, and the coordinator may hear its message.
-pub fn fits(managers: usize, delivery: &Delivery) -> bool
-    ensures { result ≡ going.fits_delivery managers delivery.now.to delivery.now.message }
+pub fn fits(managers: usize, resources: usize, delivery: &Delivery) -> bool
+    ensures { result ≡ going.fits_delivery managers resources delivery.now.to delivery.now.message }
 {
     match delivery.to {
-        Place::Tc => may_hear(managers, &delivery.message),
+        Place::Tc => may_hear(managers, resources, &delivery.message),
+        Place::Res(n) => is_counted(resources, n),
         Place::Man(n) => is_counted(managers, n),
-        Place::Net | Place::Res(_) => false,
+        Place::Net => false,
     }
 }

@@ -1,27 +1,37 @@
 //! A replay on its way: the nodes, the messages that were sent, where each entry stands, and the clock.
-use crate::members::Member;
+ghost use Rattle.std.specs.Prelude.{◌≡◌, ◌-◌, ℕ, Some, List as Items, length, slice_get};
+ghost use Rattle.seata_types.specs.declared.ids.Place.TheVariants as places;
+ghost use Rattle.seata_types.specs.declared.statements.Stmt.{Stmt as TheStmt};
+ghost use Rattle.scenario_reader.specs.Contents.{IsBetween};
+
 use crate::messages::{Delivery, Letter, Messages};
+use crate::nodes::Nodes;
 use crate::receivers::fits;
-use coordinator_core::Coordinator;
 use disk_model::Disk;
-use history_text::{Cause, Entry, Node};
-use manager_core::Manager;
+use history_text::{Cause, Entry};
 use node_seat::{RunFault, RunName};
 use scenario_reader::ScheduleItem;
-use seata_types::{Act, Input, NoMemory, Place};
+use seata_types::{Act, Input, List, NoMemory, Place, Stmt};
 use std::alloc::Global;
 
 /// A replay on its way. The clock is in ticks.
 #[derive(Drop)]
 pub struct Run<D: Disk, K: RunName> {
-    pub coordinator: Member<Coordinator<D>, K>,
-    pub managers: Vec<Member<Manager, K>>,
+    pub nodes: Nodes<D, K>,
     /// The entries at which nothing came to a node.
     pub network: Vec<Entry>,
     /// Where each entry stands.
     pub places: Vec<Place>,
     pub messages: Messages,
     pub clock: u64,
+}
+
+/// The place of the resource of a local transaction, counted from 1.
+fn place_of(locals: &[(u16, List<Stmt>)], number: u16) -> Place
+    requires { IsBetween 1 (length locals.now) number }
+    ensures { (local : ℕ × Items TheStmt) → slice_get locals.now (number - 1) ≡ Some local → result ≡ places.Res local.0 }
+{
+    Place::Res(locals[number as usize - 1].0)
 }
 
 impl<D: Disk, K: RunName> Run<D, K> {
@@ -32,31 +42,20 @@ impl<D: Disk, K: RunName> Run<D, K> {
     ghost use Rattle.scenario_reader.specs.Steps.{all_steps, steps_of};
     ghost use Rattle.frame_codec.specs.Limits.{IsFramable};
     ghost use Rattle.history_rules.specs.Schedules.{Auto, DeliverOf, TurnOf, singles_of, times};
-    ghost use Rattle.history_text.specs.Worlds.{item_of, resources_of};
-    ghost use Rattle.node_seat.specs.Keeping.{IsFresh};
-    ghost use Rattle.coordinator_core.specs.Standing.{StandsAs, disks_of, steps_left};
-    ghost use Rattle.coordinator_core.specs.declared.nodes.TheConstants.{NODE_STEPS};
-    ghost use Rattle.replay_runner.specs.Going.{CanEnter, CanGo, Goes, NodesGo, ServesAll, Went};
+    ghost use Rattle.history_text.specs.Worlds.{item_of};
+    ghost use Rattle.replay_runner.specs.Going.{AreLocals, CanGo, CanMake, Goes, NodesGo, Went};
     ghost use Rattle.replay_runner.specs.Letters.{delivery_of, letter_at};
-    ghost use Rattle.replay_runner.specs.Plays.{AreNewManagers, AreUncalled, Comes, Entered, HasMade, HasPlayed, Hears, IsEarliest, IsNewCoordinator, IsPassed, Made, Names, Plays, Ready};
-    ghost use Rattle.replay_runner.specs.Posts.{IsNode};
+    ghost use Rattle.replay_runner.specs.Plays.{Brings, HasMade, HasPlayed, Hears, IsPassed, Made, Names, Plays, Ready, ReadyWith};
+    ghost use Rattle.replay_runner.specs.Standing.{AreNodes};
 
     /// A replay that made no entry yet.
-    pub fn new(
-        alloc: Global,
-        coordinator: Coordinator<D>,
-        managers: Vec<Member<Manager, K>>,
-    ) -> Run<D, K>
-        requires fresh { IsFresh (StandsAs D.state) (disks_of D.state) K.world K.past coordinator }
-        requires steps { steps_left coordinator ≡ NODE_STEPS }
-        requires serving { ServesAll (length managers.items) coordinator }
-        requires managed { (s : TheScenario) × AreNewManagers s.lock_tries s.managers managers.items }
-        ensures plays { (s : TheScenario) → resources_of s ≡ [] → AreUncalled s → IsNewCoordinator D.state s coordinator → AreNewManagers s.lock_tries s.managers managers.items → Plays D.state s result [] }
-        ensures goes { Goes (length managers.items) 0 result }
+    pub fn new(alloc: Global, nodes: Nodes<D, K>) -> Run<D, K>
+        requires going { NodesGo (length nodes.managers.items) (length nodes.resources.items) 1 0 nodes }
+        ensures plays { (s : TheScenario) → AreNodes D.state s nodes [] → Plays D.state s result [] }
+        ensures goes { Goes (length nodes.managers.items) (length nodes.resources.items) 0 result }
     {
         Run {
-            coordinator: Member::new(alloc, coordinator),
-            managers,
+            nodes,
             network: Vec::new(alloc),
             places: Vec::new(alloc),
             messages: Messages::new(alloc),
@@ -73,39 +72,13 @@ impl<D: Disk, K: RunName> Run<D, K> {
         self.places.len() as u32 + 1
     }
 
-    /// Makes one entry at a node, and gives the message that it sent.
-    fn enter(
-        &mut self,
-        alloc: Global,
-        place: Place,
-        cause: Cause,
-        input: Option<Input>,
-    ) -> Result<Option<Letter>, RunFault>
-        requires can { CanEnter self.old place cause input }
-        ensures entered { (c : Comes D.state self.old place cause input) → Entered D.state self.old self.new place cause input c result }
-        ensures nodes { OnOk result (NodesGo (length self.old.managers.items) (length self.old.places.items + 1) self.old.clock self.new) }
-        ensures network { self.new.network ≡ self.old.network }
-        ensures places { self.new.places ≡ self.old.places }
-        ensures messages { self.new.messages ≡ self.old.messages }
-        ensures clock { self.new.clock ≡ self.old.clock }
-    {
-        let stamp = self.next_stamp();
-        let now = self.clock;
-        match place {
-            Place::Tc => self.coordinator.enter(alloc, stamp, now, cause, input),
-            Place::Man(n) => self.managers[n as usize - 1].enter(alloc, stamp, now, cause, input),
-            Place::Net | Place::Res(_) => unreachable!(),
-        }
-    }
-
     /// Keeps where the newest entry stands, and the message that it sent.
     fn keep(&mut self, place: Place, letter: Option<Letter>) -> Result<(), NoMemory>
         ensures places { OnOk result (self.new.places.items ≡ self.old.places.items ++ place ∷ []) }
         ensures letters { OnOk result (self.new.messages.letters.items ≡ self.old.messages.letters.items ++ letter ∷ []) }
         ensures taken { OnOk result (self.new.messages.taken.items ≡ self.old.messages.taken.items ++ false ∷ []) }
         ensures waiting { self.new.messages.waiting ≡ self.old.messages.waiting }
-        ensures coordinator { self.new.coordinator ≡ self.old.coordinator }
-        ensures managers { self.new.managers ≡ self.old.managers }
+        ensures nodes { self.new.nodes ≡ self.old.nodes }
         ensures network { self.new.network ≡ self.old.network }
         ensures clock { self.new.clock ≡ self.old.clock }
     {
@@ -122,11 +95,14 @@ impl<D: Disk, K: RunName> Run<D, K> {
         cause: Cause,
         input: Option<Input>,
     ) -> Result<(), RunFault>
-        requires can { CanEnter self.old place cause input }
-        ensures made { (c : Comes D.state self.old place cause input) → Made D.state self.old self.new place cause input c result }
+        requires can { CanMake self.old place cause input }
+        ensures made { (b : Brings D.state self.old place cause input) → Made D.state self.old self.new place cause input b result }
         ensures went { OnOk result (Went self.old self.new 1) }
+        ensures count { length self.new.nodes.resources.items ≡ length self.old.nodes.resources.items }
     {
-        let letter = match self.enter(alloc, place, cause, input) {
+        let stamp = self.next_stamp();
+        let now = self.clock;
+        let letter = match self.nodes.enter(alloc, place, stamp, now, cause, input) {
             Ok(letter) => letter,
             Err(fault) => return Err(fault),
         };
@@ -141,8 +117,7 @@ impl<D: Disk, K: RunName> Run<D, K> {
         requires short { length self.old.places.items < STEPS }
         ensures passed { OnOk result (IsPassed self.old self.new cause) }
         ensures waiting { self.new.messages.waiting ≡ self.old.messages.waiting }
-        ensures coordinator { self.new.coordinator ≡ self.old.coordinator }
-        ensures managers { self.new.managers ≡ self.old.managers }
+        ensures nodes { self.new.nodes ≡ self.old.nodes }
         ensures clock { self.new.clock ≡ self.old.clock }
     {
         let entry = Entry {
@@ -164,8 +139,7 @@ impl<D: Disk, K: RunName> Run<D, K> {
         ensures passed { OnOk result (IsPassed self.old self.new cause) }
         ensures fault { IfErr result (λ fault. fault ≡ RunFault.NoMemory) }
         ensures waiting { self.new.messages.waiting ≡ self.old.messages.waiting }
-        ensures coordinator { self.new.coordinator ≡ self.old.coordinator }
-        ensures managers { self.new.managers ≡ self.old.managers }
+        ensures nodes { self.new.nodes ≡ self.old.nodes }
         ensures clock { self.new.clock ≡ self.old.clock }
     {
         match self.pass(cause) {
@@ -177,9 +151,10 @@ impl<D: Disk, K: RunName> Run<D, K> {
     /// Gives a node a turn.
     fn turn(&mut self, alloc: Global, place: Place) -> Result<(), RunFault>
         requires can { CanGo self.old 1 }
-        requires there { IsPlaceAmong 0 (length self.old.managers.items) place }
-        ensures made { (names : Names D.state self.old (TurnOf place)) → IsNode names.here.s place → HasMade D.state self.old self.new names.here result }
+        requires there { IsPlaceAmong (length self.old.nodes.resources.items) (length self.old.nodes.managers.items) place }
+        ensures made { (names : Names D.state self.old (TurnOf place)) → HasMade D.state self.old self.new names.here result }
         ensures went { OnOk result (Went self.old self.new 1) }
+        ensures count { length self.new.nodes.resources.items ≡ length self.old.nodes.resources.items }
     {
         self.make(alloc, place, Cause::Turn, Some(Input::Turn))
     }
@@ -191,8 +166,13 @@ impl<D: Disk, K: RunName> Run<D, K> {
         requires framable { IsFramable delivery.message }
         ensures made { (hears : Hears D.state self.old stamp delivery) → HasMade D.state self.old self.new hears.step.here result }
         ensures went { OnOk result (Went self.old self.new 1) }
+        ensures count { length self.new.nodes.resources.items ≡ length self.old.nodes.resources.items }
     {
-        if !fits(self.managers.len(), &delivery) {
+        if !fits(
+            self.nodes.managers.len(),
+            self.nodes.resources.len(),
+            &delivery,
+        ) {
             drop(delivery);
             return Err(RunFault::Other);
         }
@@ -210,6 +190,7 @@ impl<D: Disk, K: RunName> Run<D, K> {
         requires can { CanGo self.old 1 }
         ensures made { (names : Names D.state self.old (DeliverOf stamp)) → HasMade D.state self.old self.new names.here result }
         ensures went { OnOk result (Went self.old self.new 1) }
+        ensures count { length self.new.nodes.resources.items ≡ length self.old.nodes.resources.items }
     {
         match self.messages.delivery(alloc, stamp) {
             Ok(Some(delivery)) => self.hear(alloc, stamp, delivery),
@@ -218,33 +199,17 @@ impl<D: Disk, K: RunName> Run<D, K> {
         }
     }
 
-    /// The node whose last turn is the earliest; of several the first in the order coordinator, managers.
-    fn longest_waiting(&self) -> Place
-        requires goes { Goes (length self.now.managers.items) (length self.now.places.items) self.now }
-        ensures earliest { IsEarliest D.state self.now result }
-        ensures there { IsPlaceAmong 0 (length self.now.managers.items) result }
-    {
-        let mut first = Place::Tc;
-        let mut turned = self.coordinator.turned;
-        for member in self.managers.iter() {
-            if member.turned < turned {
-                first = member.seat.node().place();
-                turned = member.turned;
-            }
-        }
-        first
-    }
-
     /// Delivers the oldest message that no entry delivered, or else gives a turn to the node whose last turn is the earliest.
     fn choose(&mut self, alloc: Global) -> Result<(), RunFault>
         requires can { CanGo self.old 1 }
         ensures made { (names : Names D.state self.old (Auto 1)) → HasMade D.state self.old self.new names.here result }
         ensures went { OnOk result (Went self.old self.new 1) }
+        ensures count { length self.new.nodes.resources.items ≡ length self.old.nodes.resources.items }
     {
         match self.messages.oldest() {
             Some(stamp) => self.deliver(alloc, stamp),
             None => {
-                let place = self.longest_waiting();
+                let place = self.nodes.longest_waiting();
                 self.turn(alloc, place)
             }
         }
@@ -255,6 +220,7 @@ impl<D: Disk, K: RunName> Run<D, K> {
         requires can { CanGo self.old steps }
         ensures played { (ready : Ready D.state self.old (times steps (Auto 1))) → HasPlayed D.state ready.s self.new ready.rest result }
         ensures went { OnOk result (Went self.old self.new steps) }
+        ensures count { length self.new.nodes.resources.items ≡ length self.old.nodes.resources.items }
     {
         for _ in 0..steps {
             if let Err(fault) = self.choose(alloc) {
@@ -264,12 +230,19 @@ impl<D: Disk, K: RunName> Run<D, K> {
         Ok(())
     }
 
-    /// Plays one member of the schedule.
-    fn play(&mut self, alloc: Global, item: ScheduleItem) -> Result<(), RunFault>
+    /// Plays one member of the schedule, with the local transactions of the scenario.
+    fn play(
+        &mut self,
+        alloc: Global,
+        locals: &[(u16, List<Stmt>)],
+        item: ScheduleItem,
+    ) -> Result<(), RunFault>
         requires can { CanGo self.old (steps_of item) }
-        requires fits { FitsNodes 0 (length self.old.managers.items) 0 item }
-        ensures played { (ready : Ready D.state self.old (singles_of (item_of item))) → HasPlayed D.state ready.s self.new ready.rest result }
+        requires locals { AreLocals (length self.old.nodes.resources.items) locals.now }
+        requires fits { FitsNodes (length self.old.nodes.resources.items) (length self.old.nodes.managers.items) (length locals.now) item }
+        ensures played { (ready : ReadyWith D.state self.old locals.now (singles_of (item_of item))) → HasPlayed D.state ready.ready.s self.new ready.ready.rest result }
         ensures went { OnOk result (Went self.old self.new (steps_of item)) }
+        ensures count { length self.new.nodes.resources.items ≡ length self.old.nodes.resources.items }
     {
         match item {
             ScheduleItem::Turn { place } => self.turn(alloc, place),
@@ -285,19 +258,37 @@ impl<D: Disk, K: RunName> Run<D, K> {
             ScheduleItem::Restart { place, pick, calls } => {
                 self.make(alloc, place, Cause::Restart { pick, calls }, None)
             }
+            ScheduleItem::Local { number } => self.make(
+                alloc,
+                place_of(locals, number),
+                Cause::Local { number },
+                Some(Input::Local { number }),
+            ),
+            ScheduleItem::Outside { number } => self.make(
+                alloc,
+                place_of(locals, number),
+                Cause::Outside { number },
+                Some(Input::Outside { number }),
+            ),
             ScheduleItem::Auto { steps } => self.choose_each(alloc, steps),
-            ScheduleItem::Local { .. } | ScheduleItem::Outside { .. } => unreachable!(),
         }
     }
 
-    /// Plays a schedule, member by member.
-    pub fn play_all(&mut self, alloc: Global, schedule: &[ScheduleItem]) -> Result<(), RunFault>
+    /// Plays a schedule, member by member, with the local transactions of the scenario.
+    pub fn play_all(
+        &mut self,
+        alloc: Global,
+        locals: &[(u16, List<Stmt>)],
+        schedule: &[ScheduleItem],
+    ) -> Result<(), RunFault>
         requires can { CanGo self.old (all_steps schedule.now) }
-        requires fits { All (FitsNodes 0 (length self.old.managers.items) 0) schedule.now }
-        ensures { (s : TheScenario) → IsRunnable s → s.schedule ≡ schedule.now → Plays D.state s self.old [] → HasPlayed D.state s self.new [] result }
+        requires locals { AreLocals (length self.old.nodes.resources.items) locals.now }
+        requires fits { All (FitsNodes (length self.old.nodes.resources.items) (length self.old.nodes.managers.items) (length locals.now)) schedule.now }
+        ensures played { (s : TheScenario) → IsRunnable s → s.locals ≡ locals.now → s.schedule ≡ schedule.now → Plays D.state s self.old [] → HasPlayed D.state s self.new [] result }
+        ensures count { length self.new.nodes.resources.items ≡ length self.old.nodes.resources.items }
     {
         for item in schedule {
-            if let Err(fault) = self.play(alloc, *item) {
+            if let Err(fault) = self.play(alloc, locals, *item) {
                 return Err(fault);
             }
         }

@@ -1,5 +1,6 @@
 -- What status 0 of a replay says, where the shelf's disks tell their bytes.
 use Rattle.std.proofs.Common.{◌≡◌, inl, inr, ℕ, Bool, List, [], ◌∷◌, length, Result, Ok, Err, refl, ap, sym, ◌∙◌, arith, length-append}
+use Rattle.std.proofs.lemmas.List.{length-map}
 use Rattle.disk_model.specs.Disk.{DiskState}
 use Rattle.scenario_reader.specs.declared.scenarios.Scenario.{Scenario}
 use Rattle.scenario_reader.specs.Runnable.{IsRunnable}
@@ -10,8 +11,9 @@ use Rattle.history_text.specs.History.{entries, entry_of}
 use Rattle.node_seat.specs.declared.faults.RunFault.{RunFault}
 use Rattle.node_seat.specs.declared.faults.RunFault.TheVariants as run_fault
 use Rattle.replay_runner.proofs.Singles.{length-singles}
-use Rattle.replay_runner.specs.Shelves.{AllTell, GivesBack}
-use Rattle.replay_runner.specs.Shelves.{Replays as Replayed}
+use Rattle.scenario_nodes.specs.Shelves.{AllTell, pair_of}
+use Rattle.replay_runner.specs.Leaving.{GivesBack}
+use Rattle.replay_runner.specs.Leaving.{Replays as Replayed}
 use Rattle.report_text.specs.Following.{Reports}
 use Rattle.seata_lab.specs.Answers.{Done, IsEndText, Replays, Reported, status_of}
 use Rattle.seata_lab.specs.Streams.{Devices}
@@ -33,7 +35,7 @@ no_fault_is_done run_fault.Other e = omega (arith, e)
 no_fault_is_done run_fault.NoMemory e = omega (arith, e)
 
 module _ {D : Type 0} (state : D → DiskState) (tells : Bool) (given_back : List ℕ → D → Type 0) (rose : Type 0) (s : Scenario) (runs : IsRunnable s) (text : List ℕ) where
-  reported : (es : List Entry) (g : GivesBack state tells given_back s (Ok es)) → Reports s es text → AllTell state → Reported state s g.first g.second text
+  reported : (es : List Entry) (g : GivesBack state tells given_back s (Ok es)) → Reports s es text → AllTell state → Reported state s g.disks text
   reported es g report all =
       let d = g.leaves all in
       let few = runs.steps in
@@ -43,11 +45,12 @@ module _ {D : Type 0} (state : D → DiskState) (tells : Bool) (given_back : Lis
         is_run = d.is_run;
         is_safe = run_is_safe s d.history runs d.is_run.legal;
         is_report = report d.history d.is_run.legal (sym d.printed) (omega (arith, size, few));
+        count = let count = d.count in omega (arith, count, length-map g.disks (pair_of state));
         device = d.device;
       }
 
   of_end : (ended : Result (List Entry) RunFault) → Replayed state tells given_back rose s ended → IsEndText s ended text 0 → Done state tells given_back s text
-  of_end (Ok es) (inl g) t = record { first = g.first; second = g.second; first_back = g.first_back; second_back = g.second_back; reported = reported es g t.1 }
+  of_end (Ok es) (inl g) t = record { disks = g.disks; back = g.back; reported = reported es g t.1 }
   of_end (Ok es) (inr none) t = absurd none
   of_end (Err missed) ends t = absurd (no_fault_is_done missed t.1)
 

@@ -1,5 +1,4 @@
 mod Answered
-mod Built
 mod Concluded
 mod Fed
 mod Flow

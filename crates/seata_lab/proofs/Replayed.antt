@@ -7,10 +7,8 @@ use Rattle.scenario_reader.specs.declared.scenarios.Scenario.{Scenario}
 use Rattle.history_text.specs.declared.entries.Entry.{Entry}
 use Rattle.node_seat.specs.declared.faults.RunFault.{RunFault}
 use Rattle.node_seat.specs.declared.faults.RunFault.TheVariants as run_fault
-use Rattle.seata_lab.specs.Unbuilt.{IsBuilt}
-use Rattle.seata_lab.specs.Answers.{Ending, IsAnswerTo, IsEndText, IsReplayOf, IsFaultOf, IsUnbuiltOf, IsRefusalOf, HasRead, Replays, Refuses, TellsReplay, is_among, is_end, replay_statuses, status_of}
+use Rattle.seata_lab.specs.Answers.{Ending, IsAnswerTo, IsEndText, IsReplayOf, IsFaultOf, HasRead, Replays, Refuses, TellsReplay, is_among, is_end, replay_statuses, status_of}
 use Rattle.seata_lab.specs.Streams.{Devices, IsCalm}
-use Rattle.seata_lab.proofs.Built.{built_is_built}
 use Rattle.seata_lab.proofs.Concluded.{all_read, longer, none_unread, AreTexts, Writes, Concludes, calm}
 
 -- no failure is among the statuses that come with a text
@@ -37,11 +35,9 @@ module _ (ends : Ending) where
   status_is bytes text n (inr (s, is, r)) = end_known s r.ended text n r.is_text
 
   pub answer_of_whole : (input bytes text : List ℕ) (left : Option (List ℕ)) (n : ℕ) → HasRead input bytes left → IsAnswerTo ends bytes text n → IsAnswerTo ends input text n
-  unfolding IsAnswerTo IsFaultOf IsUnbuiltOf
-  answer_of_whole input bytes text left n t (inl (st, inl (e, f, printed))) =
-      inl (st, inl (e, fault_of_whole bytes input (longer t) (λ short. all_read t short) e f, printed))
-  answer_of_whole input bytes text left n t (inl (st, inr (s, is, unbuilt, printed))) =
-      inl (st, inr (s, subst (λ b. IsScenario b s) (sym (all_read t (scenario_is_short bytes s is))) is, unbuilt, printed))
+  unfolding IsAnswerTo IsFaultOf
+  answer_of_whole input bytes text left n t (inl (st, (e, f, printed))) =
+      inl (st, (e, fault_of_whole bytes input (longer t) (λ short. all_read t short) e f, printed))
   answer_of_whole input bytes text left n t (inr (s, is, r)) =
       inr (s, subst (λ b. IsScenario b s) (sym (all_read t (scenario_is_short bytes s is))) is, r)
 
@@ -69,7 +65,7 @@ module _ (ends : Ending) where
         by : (w : Writes (IsAnswerTo ends) result input old new) → Replays ends result input old new
         by w = cases w.is_answer
           where
-            cases : ((result ≡ 3) × IsRefusalOf input w.text) ⊎ ((s : Scenario) × IsScenario input s × IsReplayOf ends s w.text result) → Replays ends result input old new
+            cases : ((result ≡ 3) × IsFaultOf input w.text) ⊎ ((s : Scenario) × IsScenario input s × IsReplayOf ends s w.text result) → Replays ends result input old new
             cases (inl (st, f)) = absurd (let no : is_among (0 ∷ 7 ∷ 8 ∷ 9 ∷ []) 3 ≡ true = ap (is_among (0 ∷ 7 ∷ 8 ∷ 9 ∷ [])) (sym st) ∙ known in let never : false ≡ true = no in cc)
             cases (inr (s, is, r)) = told_by input w s is r
 
@@ -80,21 +76,20 @@ module _ (ends : Ending) where
         w : Writes (IsAnswerTo ends) result input old new
         w = t.written (rw three refl) input told
 
-        by : ((result ≡ 3) × IsRefusalOf input w.text) ⊎ ((s : Scenario) × IsScenario input s × IsReplayOf ends s w.text result) → Refuses input old new ⊎ Replays ends 3 input old new
+        by : ((result ≡ 3) × IsFaultOf input w.text) ⊎ ((s : Scenario) × IsScenario input s × IsReplayOf ends s w.text result) → Refuses input old new ⊎ Replays ends 3 input old new
         by (inl (st, refusal)) = inl (record { read_to_end = w.read; text = w.text; is_refusal = refusal; printed = w.printed })
         by (inr (s, is, r)) = inr (subst (λ n. Replays ends n input old new) three (told_by input w s is r))
 
-    -- what can be run is not refused
-    not_refused : (input text : List ℕ) (s : Scenario) → IsScenario input s → IsBuilt s → IsRefusalOf input text → ⊥
-    unfolding IsFaultOf IsUnbuiltOf
-    not_refused input text s is built (inl (e, f, printed)) = scenario_has_no_fault input s e is f
-    not_refused input text s is built (inr (other, it, unbuilt, printed)) = unbuilt (built_is_built input s other is it built)
+    -- a scenario is not refused
+    not_refused : (input text : List ℕ) (s : Scenario) → IsScenario input s → IsFaultOf input text → ⊥
+    unfolding IsFaultOf
+    not_refused input text s is (e, f, printed) = scenario_has_no_fault input s e is f
 
-    complete_says : (input : List ℕ) (s : Scenario) → old.left ≡ Some input → IsScenario input s → IsBuilt s → IsCalm old new → (is_end result ≡ true) ⊎ Replays ends 3 input old new
-    complete_says input s told is built still = by (calm (IsAnswerTo ends) replay_statuses result old new t still)
+    complete_says : (input : List ℕ) (s : Scenario) → old.left ≡ Some input → IsScenario input s → IsCalm old new → (is_end result ≡ true) ⊎ Replays ends 3 input old new
+    complete_says input s told is still = by (calm (IsAnswerTo ends) replay_statuses result old new t still)
       where
         other : Refuses input old new ⊎ Replays ends 3 input old new → Replays ends 3 input old new
-        other (inl w) = absurd (not_refused input w.text s is built w.is_refusal)
+        other (inl w) = absurd (not_refused input w.text s is w.is_refusal)
         other (inr r) = r
 
         known : (zero three six seven eight nine : Bool) → nat_eq result 3 ≡ three → (zero || (three || (seven || (eight || (nine || false))))) ≡ true

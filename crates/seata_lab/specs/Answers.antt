@@ -1,5 +1,5 @@
 -- What the program answers: the status, and what is written.
-use Rattle.std.specs.Prelude.{◌≡◌, ◌≢◌, ◌⊎◌, ◌+◌, ◌<◌, ◌≤◌, ◌++◌, ◌∷◌, ℕ, nat_eq, nat_le, Bool, true, false, if◌then◌else◌, List, [], length, take, drop, Option, Some, Result, Ok, Err, codes}
+use Rattle.std.specs.Prelude.{◌≡◌, ◌≢◌, ◌⊎◌, ◌+◌, ◌<◌, ◌≤◌, ◌++◌, ◌∷◌, ℕ, nat_eq, nat_le, Bool, true, false, if◌then◌else◌, List, [], length, map, take, drop, Option, Some, Result, Ok, Err, codes}
 use Rattle.std.specs.List.{list_any}
 use Rattle.std.specs.Fmt.{decimal}
 use Rattle.std.specs.Cmp.Lexicographic.{pointwise}
@@ -10,18 +10,16 @@ use Rattle.scenario_reader.specs.declared.scenarios.Scenario.{Scenario}
 use Rattle.scenario_reader.specs.Reading.{IsScenario, IsFault}
 use Rattle.seata_types.specs.declared.errors.Full.{Full}
 use Rattle.seata_types.specs.declared.ids.Place.{Place}
-use Rattle.seata_types.specs.declared.ids.Place.TheVariants as place
 use Rattle.node_seat.specs.declared.faults.RunFault.{RunFault}
 use Rattle.node_seat.specs.declared.faults.RunFault.TheVariants as run_fault
-use Rattle.replay_runner.specs.Shelves.{AllTell, IsGivenBack, first_name, second_name, pair_of}
+use Rattle.scenario_nodes.specs.Shelves.{AllTell, pair_of}
+use Rattle.replay_runner.specs.Leaving.{AreLeft, FirstGivenBack, disks_in}
 use Rattle.report_text.specs.Following.{Reports}
-use Rattle.seata_lab.specs.Unbuilt.{IsBuilt}
-use Rattle.history_rules.specs.Nodes.{no_past}
+use Rattle.history_rules.specs.Nodes.{Role, no_past, role_at}
 use Rattle.history_rules.specs.Histories.{Moment, own}
 use Rattle.history_law.specs.Safety.{IsSafeHistory}
 use Rattle.history_text.specs.declared.entries.Entry.{Entry}
 use Rattle.history_text.specs.declared.entries.Names.{Names}
-use Rattle.history_text.specs.Durable.{AreCoordinatorDisks}
 use Rattle.history_text.specs.History.{IsRun}
 use Rattle.history_text.specs.Lines.{place_text}
 use Rattle.history_text.specs.Report.{line, names_of, report}
@@ -79,10 +77,6 @@ fault_text (fault.Mode path) = codes "scenario: Mode " ++ path
 fault_text (fault.Name path) = codes "scenario: Name " ++ path
 fault_text fault.NoMemory = []
 
--- the line of a scenario with databases, which can't be run yet
-abbrev pub unbuilt_text : List ℕ
-unbuilt_text = codes "scenario: Unbuilt /resources"
-
 -- where a node's disks are told of
 abbrev pub node_text : Names → Place → List ℕ
 node_text names at = place_text names at
@@ -128,9 +122,8 @@ IsEndText s (Err missed) text status = (missed ≢ run_fault.NoMemory) × (statu
 abbrev pub Ending : Type 1
 Ending = Scenario → Result (List Entry) RunFault → Type 0
 
--- the text and the status of how the replay of a scenario ended, all of which can be run
+-- the text and the status of how the replay of a scenario ended
 pub record IsReplayOf (ends : Ending) (s : Scenario) (text : List ℕ) (status : ℕ) : Type 0 where
-  pub is_built : IsBuilt s
   pub ended : Result (List Entry) RunFault
   pub has_ended : ends s ended
   pub is_text : IsEndText s ended text status
@@ -139,33 +132,26 @@ pub record IsReplayOf (ends : Ending) (s : Scenario) (text : List ℕ) (status :
 unfoldable pub IsFaultOf : List ℕ → List ℕ → Type 0
 IsFaultOf bytes text = (e : ScenarioError) × IsFault bytes e × (text ≡ line (fault_text e))
 
--- the line of databases, of the scenario that the bytes are
-unfoldable pub IsUnbuiltOf : List ℕ → List ℕ → Type 0
-IsUnbuiltOf bytes text = (s : Scenario) × IsScenario bytes s × (¬ IsBuilt s) × (text ≡ line unbuilt_text)
-
--- the line of what keeps the bytes from being replayed
-abbrev pub IsRefusalOf : List ℕ → List ℕ → Type 0
-IsRefusalOf bytes text = IsFaultOf bytes text ⊎ IsUnbuiltOf bytes text
-
 -- the text of an input with its status: it is refused, or replayed
 unfoldable pub IsAnswerTo : Ending → List ℕ → List ℕ → ℕ → Type 0
-IsAnswerTo ends bytes text status = ((status ≡ 3) × IsRefusalOf bytes text) ⊎ ((s : Scenario) × IsScenario bytes s × IsReplayOf ends s text status)
+IsAnswerTo ends bytes text status = ((status ≡ 3) × IsFaultOf bytes text) ⊎ ((s : Scenario) × IsScenario bytes s × IsReplayOf ends s text status)
 
 -- the statuses of a replay that come with a text
 abbrev pub replay_statuses : List ℕ
 replay_statuses = 0 ∷ 3 ∷ 7 ∷ 8 ∷ 9 ∷ []
 
--- where the shelf's disks tell their bytes: a legal and safe history of the whole schedule has this report, and the disks given
--- back show it
-pub record Reported {D : Type 0} (state : D → DiskState) (s : Scenario) (first second : D) (text : List ℕ) : Type 0 where
+-- where the shelf's disks tell their bytes: a legal and safe history of the whole schedule has this report, and the disks of each node
+-- that were given back show it
+pub record Reported {D : Type 0} (state : D → DiskState) (s : Scenario) (disks : List (D × D)) (text : List ℕ) : Type 0 where
   pub history : List Moment
   pub is_run : IsRun s history
   pub is_safe : IsSafeHistory (world_of s) no_past history
   pub is_report : text ≡ report s history
-  pub device : AreCoordinatorDisks [] (own place.Tc history) 0 (pair_of state first second)
+  pub count : length disks ≡ length s.resources + 1
+  pub device : (p : Place) (role : Role) → role_at (world_of s) no_past p ≡ Some role → AreLeft role (own p history) (disks_in (map (pair_of state) disks) p)
 
--- what a replay tells: its input was read to its end and is a scenario, all of which can be run; its disks were given back, and
--- the sink got the text of how it ended
+-- what a replay tells: its input was read to its end and is a scenario; its disks were given back, and the sink got the text of how
+-- it ended
 pub record Replays (ends : Ending) (status : ℕ) (input : List ℕ) (old new : Devices) : Type 0 where
   pub read_to_end : new.left ≡ Some []
   pub scenario : Scenario
@@ -174,20 +160,17 @@ pub record Replays (ends : Ending) (status : ℕ) (input : List ℕ) (old new : 
   pub is_replay : IsReplayOf ends scenario text status
   pub printed : Appends old.written new.written text
 
--- at status 0 besides: both disks were given back, and where they tell their bytes the text is the report of a safe history
+-- at status 0 besides: the disks of all nodes were given back, and where they tell their bytes the text is the report of a safe history
 pub record Done {D : Type 0} (state : D → DiskState) (tells : Bool) (given_back : List ℕ → D → Type 0) (s : Scenario) (text : List ℕ) : Type 0 where
-  pub first : D
-  pub second : D
-  pub first_back : IsGivenBack tells given_back first_name first
-  pub second_back : IsGivenBack tells given_back second_name second
-  pub reported : AllTell state → Reported state s first second text
+  pub disks : List (D × D)
+  pub back : FirstGivenBack tells given_back s disks
+  pub reported : AllTell state → Reported state s disks text
 
--- at status 3: the source was read as far as inputs are, and the sink got the line of what keeps the input from being
--- a scenario, or of the databases of the scenario that it is
+-- at status 3: the source was read as far as inputs are, and the sink got the line of what keeps the input from being a scenario
 pub record Refuses (input : List ℕ) (old new : Devices) : Type 0 where
   pub read_to_end : new.left ≡ Some (unread input)
   pub text : List ℕ
-  pub is_refusal : IsRefusalOf input text
+  pub is_refusal : IsFaultOf input text
   pub printed : Appends old.written new.written text
 
 -- at status 5: the sink got the front of the text that another status would have
@@ -197,7 +180,7 @@ pub record CutsShort (ends : Ending) (input : List ℕ) (old new : Devices) : Ty
   pub is_answer : IsAnswerTo ends input text status
   pub printed : GainsFront old.written new.written text
 
--- the statuses of what can be run: it was replayed, or memory was refused
+-- the statuses of a scenario: it was replayed, or memory was refused
 abbrev pub is_end : ℕ → Bool
 is_end status = is_among (0 ∷ 6 ∷ 7 ∷ 8 ∷ 9 ∷ []) status
 
@@ -206,7 +189,7 @@ pub record TellsReplay (ends : Ending) (status : ℕ) (old new : Devices) : Type
   pub replayed : is_among (0 ∷ 7 ∷ 8 ∷ 9 ∷ []) status ≡ true → (input : List ℕ) → old.left ≡ Some input → Replays ends status input old new
   pub refused : status ≡ 3 → (input : List ℕ) → old.left ≡ Some input → Refuses input old new ⊎ Replays ends 3 input old new
   pub cut_short : status ≡ 5 → (input : List ℕ) → old.left ≡ Some input → CutsShort ends input old new
-  pub complete : (input : List ℕ) (scenario : Scenario) → old.left ≡ Some input → IsScenario input scenario → IsBuilt scenario → IsCalm old new → (is_end status ≡ true) ⊎ Replays ends 3 input old new
+  pub complete : (input : List ℕ) (scenario : Scenario) → old.left ≡ Some input → IsScenario input scenario → IsCalm old new → (is_end status ≡ true) ⊎ Replays ends 3 input old new
 
 -- what a replay does with a shelf, whatever the status: nothing, or a replay of a scenario that gives back what it takes
 abbrev pub Shelves : Ending → (same : Type 0) → Type 0

@@ -1,4 +1,3 @@
-pub mod Unbuilt
 pub mod Streams
 pub mod FrameLines
 pub mod Listings

@@ -5,11 +5,10 @@ ghost use Rattle.history_text.specs.Report.{line};
 ghost use Rattle.scenario_reader.specs.Reading.{IsScenario};
 ghost use Rattle.scenario_reader.specs.Runnable.{IsRunnable};
 ghost use Rattle.disk_model.specs.Disk.{Rose};
-ghost use Rattle.replay_runner.specs.Shelves.{Replays as Replayed};
-ghost use Rattle.seata_lab.specs.Answers.{IsAnswerTo, IsEndText, Shelves, damaged_text, disk_text, end_text, fault_text, full_text, status_of, store_text, unbuilt_text};
+ghost use Rattle.replay_runner.specs.Leaving.{Replays as Replayed};
+ghost use Rattle.seata_lab.specs.Answers.{IsAnswerTo, IsEndText, Shelves, damaged_text, disk_text, end_text, fault_text, full_text, status_of, store_text};
 
 use crate::names::node_names;
-use crate::unbuilt::is_built;
 use disk_model::Shelf;
 use history_text::{Entry, Names, put_place};
 use replay_runner::{RunFault, replay};
@@ -93,15 +92,6 @@ fn is_memory(error: &ScenarioError) -> bool
     ensures other { result ≡ false → error.now ≢ ScenarioError.NoMemory }
 {
     matches!(error, ScenarioError::NoMemory)
-}
-
-/// The answer to a scenario with databases.
-fn not_built(alloc: Global) -> Result<Answer, NoMemory>
-    ensures text { IfOk result (λ answer. string_bytes answer.text ≡ line unbuilt_text) }
-    ensures status { IfOk result (λ answer. answer.status ≡ 3) }
-{
-    let text = String::from_str(alloc, "scenario: Unbuilt /resources\n").map_err(|_| NoMemory)?;
-    Ok(refusal(text))
 }
 
 /// The line of disks that failed.
@@ -238,9 +228,6 @@ fn answer_of<H: Shelf>(
     ensures answer { (bytes : Items ℕ) → IsScenario bytes scenario.now → IfOk result (λ answer. IsAnswerTo (Replayed H.D.state (H.tells shelf.old) (H.given_back shelf.new) (Rose (H.faults shelf.old) (H.faults shelf.new))) bytes (string_bytes answer.text) answer.status) }
     ensures shelf { Shelves (Replayed H.D.state (H.tells shelf.old) (H.given_back shelf.new) (Rose (H.faults shelf.old) (H.faults shelf.new))) (shelf.new ≡ shelf.old) }
 {
-    if !is_built(scenario) {
-        return not_built(alloc);
-    }
     let replayed = replay(alloc, scenario, shelf);
     told(alloc, scenario, replayed)
 }

@@ -6,6 +6,8 @@ mod answers;
 #[cfg(test)]
 mod failing;
 mod frames;
+#[cfg(test)]
+mod gallery;
 mod laws;
 mod listings;
 mod memory;
@@ -18,7 +20,6 @@ mod streams;
 mod tests;
 mod tops;
 mod transfer;
-mod unbuilt;
 mod words;
 
 use disk_model::MemShelf;

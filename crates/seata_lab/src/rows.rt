@@ -407,12 +407,6 @@ pub const FAULTS: [[&str; 2]; 14] = [
     ],
 ];
 
-/// Scenarios with databases, which can't be run yet.
-pub const UNBUILT: [&str; 2] = [
-    r#"{"forget":1,"resources":[{"name":"A","tables":[]}],"managers":[],"schedule":[]}"#,
-    r#"{"resources":[{"name":"A","tables":[]}],"managers":[{"name":"m1","calls":[],"end":"commit","poll":true}],"locals":[{"at":"A","do":[]}],"schedule":["local 1","outside 1"]}"#,
-];
-
 /// A stop that falls behind the write of the gate; the restart's pick keeps the decision.
 pub const KEPT: [&str; 2] = [
     r#"{"resources":[],"managers":[{"name":"m1","calls":[],"end":"commit"}],"schedule":["turn m1","deliver 1","deliver 2","stop tc 2","deliver 3","restart tc 1"]}"#,

@@ -2,10 +2,11 @@
 ghost use Rattle.std.specs.Prelude.{◌<◌, ◌≤◌, ◌≢◌};
 
 use crate::answers::ended;
+use crate::gallery::GALLERY;
 use crate::memory::{MemSink, MemSource};
 use crate::rows::{
     CHOSEN, COMMIT_IN_TIME, CRASHED, FAULTS, FORGOTTEN, FRAMES, KEPT, LATE_ONES, NOTHING, POLLED,
-    REPEATED_MESSAGES, ROLLBACK, TIMEOUT, UNBUILT,
+    REPEATED_MESSAGES, ROLLBACK, TIMEOUT,
 };
 use crate::tops::top;
 use disk_model::MemShelf;
@@ -76,6 +77,15 @@ fn replays(rt: HostRuntime) -> Result<(), Fail> {
         CRASHED,
         CHOSEN,
     ] {
+        let ran = run(rt.alloc(), &["replay"], input.as_bytes(), SOUND)?;
+        expect(&rt, &ran, 0, output);
+    }
+    Ok(())
+}
+
+#[test]
+fn replays_the_gallery(rt: HostRuntime) -> Result<(), Fail> {
+    for [input, output] in GALLERY {
         let ran = run(rt.alloc(), &["replay"], input.as_bytes(), SOUND)?;
         expect(&rt, &ran, 0, output);
     }
@@ -219,10 +229,6 @@ fn refuses(rt: HostRuntime) -> Result<(), Fail> {
         let line = format!(in alloc; "scenario: {fault}\n")?;
         let ran = run(alloc, &["replay"], input.as_bytes(), SOUND)?;
         expect(&rt, &ran, 3, line.as_str());
-    }
-    for input in UNBUILT {
-        let ran = run(alloc, &["replay"], input.as_bytes(), SOUND)?;
-        expect(&rt, &ran, 3, "scenario: Unbuilt /resources\n");
     }
     Ok(())
 }

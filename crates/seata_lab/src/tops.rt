@@ -2,7 +2,7 @@
 ghost use Rattle.std.specs.Prelude.{◌≡◌, ◌≢◌, ◌⊎◌, ℕ, true, false, List as Items, ◌∷◌, Some, IfOk, IfErr, string_bytes};
 ghost use Rattle.std.specs.Io.KnownBytes.{Appends};
 ghost use Rattle.disk_model.specs.Disk.{Rose};
-ghost use Rattle.replay_runner.specs.Shelves.{Replays as Replayed};
+ghost use Rattle.replay_runner.specs.Leaving.{Replays as Replayed};
 ghost use Rattle.seata_lab.specs.Answers.{Answers, Done, IsAnswerTo, IsFramesAnswer, Replays, Shelves, TellsReplay, TellsFrames, TellsUsage, TellsFaults, is_replay, is_frames, replay_statuses, frames_statuses, with_failures};
 ghost use Rattle.seata_lab.specs.Streams.{GainsFront, devices};
 
@@ -95,11 +95,11 @@ fn write_answer<K: Sink>(sink: &mut K, answer: Result<Answer, u8>) -> u8
     }
 }
 
-/// Replays the scenario of a source once, with the coordinator on two disks of the shelf, and writes the report of its
-/// history. The status is 0 where that is done, 3 where the input is no scenario, 4 where the source failed, 5 where the sink
-/// did, 6 where memory was refused, 7 where a disk couldn't be had or its opening or restart failed, 8 where the
-/// coordinator's next record would pass the end of its disk, and 9 where a disk has bytes that are no journal. At each status
-/// the disks that were taken are given back.
+/// Replays the scenario of a source once, with the coordinator and each resource on two disks of the shelf, and writes the
+/// report of its history. The status is 0 where that is done, 3 where the input is no scenario, 4 where the source failed, 5
+/// where the sink did, 6 where memory was refused, 7 where a disk couldn't be had or its opening or restart failed, 8 where a
+/// node's next record would pass the end of its disk, and 9 where a disk has bytes that are no journal. At each status the
+/// disks that were taken are given back.
 pub fn replay_once<S: Source, K: Sink, H: Shelf>(
     alloc: Global,
     source: &mut S,

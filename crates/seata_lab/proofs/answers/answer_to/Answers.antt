@@ -8,4 +8,4 @@ returns-in_ok-answer-in-Ok-clause-answer g c = c.in_ok-answer-in-Ok.ensures.answ
 pub returns-in_ok-answer-in-Err-clause-answer : goal.returns-in_ok-answer-in-Err-clause-answer
 unfolding IsAnswerTo IsFaultOf
 returns-in_ok-answer-in-Err-clause-answer g c =
-    inl (c.in_ok-answer-in-Err.ensures.status, inl (c.in-Err.error, c.in-Err.ensures.err c.in_ok-answer-in-Err.ensures.fault, c.in_ok-answer-in-Err.ensures.text))
+    inl (c.in_ok-answer-in-Err.ensures.status, (c.in-Err.error, c.in-Err.ensures.err c.in_ok-answer-in-Err.ensures.fault, c.in_ok-answer-in-Err.ensures.text))

@@ -1,6 +1,6 @@
 use Rattle.std.proofs.Common.{subst, string_bytes}
 use Rattle.disk_model.specs.Disk.{Rose}
-use Rattle.replay_runner.specs.Shelves.{Replays as Replayed}
+use Rattle.replay_runner.specs.Leaving.{Replays as Replayed}
 use Rattle.seata_lab.specs.Answers.{IsAnswerTo, replay_statuses}
 use Rattle.seata_lab.proofs.Concluded.{answers_of}
 use Rattle.seata_lab.proofs.Replayed.{status_is, answer_of_whole}

@@ -2,7 +2,7 @@ use Rattle.std.proofs.Common.{refl, subst}
 use Rattle.seata_lab.proofs.Concluded.{concluded}
 use Rattle.seata_lab.proofs.Headline.{status_zero}
 use Rattle.disk_model.specs.Disk.{Rose}
-use Rattle.replay_runner.specs.Shelves.{Replays as Replayed}
+use Rattle.replay_runner.specs.Leaving.{Replays as Replayed}
 use Rattle.seata_lab.specs.Answers.{IsAnswerTo, Replays, replay_statuses}
 use Rattle.seata_lab.specs.Streams.{devices}
 use Rattle.seata_lab.proofs.Replayed.{replay_texts, tells_replay}

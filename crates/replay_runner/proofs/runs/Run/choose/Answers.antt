@@ -1,4 +1,4 @@
-use Rattle.std.proofs.Common.{arith, refl}
+use Rattle.std.proofs.Common.{◌+◌, length, arith, refl}
 use Rattle.replay_runner.proofs.Chosen.{looked_delivers, looked_turns}
 use Rattle.replay_runner.proofs.Sound.{few_letters, looked_goes, marked_each, within_letters}
 use Rattle.replay_runner.proofs.runs.Run.choose.Goals as goal
@@ -26,9 +26,7 @@ returns-in-Some-clause-made g c = λ names.
 
 -- none waits
 pub longest_waiting-place-requires : goal.longest_waiting-place-requires
-longest_waiting-place-requires g c = record {
-  goes = (looked_goes c.args.self.now c.requires.can c.oldest.new.self c.oldest.ensures.letters c.oldest.ensures.taken (let all = c.in-None.ensures.all refl in omega (arith, all))).goes;
-}
+longest_waiting-place-requires g c = record { numbered = (length c.args.self.now.places.items + 1, c.args.self.now.clock, c.requires.can.goes.nodes) }
 
 pub turn-requires-clause-can : goal.turn-requires-clause-can
 turn-requires-clause-can g c = looked_goes c.args.self.now c.requires.can c.oldest.new.self c.oldest.ensures.letters c.oldest.ensures.taken (let all = c.in-None.ensures.all refl in omega (arith, all))
@@ -38,4 +36,3 @@ returns-in-None-clause-made g c = λ names.
     c.turn.ensures.made
     (looked_turns g.D.Disk.state c.args.self.now c.oldest.new.self names c.oldest.ensures.letters c.oldest.ensures.taken
     (let all = c.in-None.ensures.all refl in omega (arith, all)) c.oldest.ensures.none c.longest_waiting-place.result (c.in-None.ensures.all refl) c.longest_waiting-place.ensures.earliest)
-    (c.longest_waiting-place.ensures.earliest names.here.s names.here.ms names.here.plays.nodes).1

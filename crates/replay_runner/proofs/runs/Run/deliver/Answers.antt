@@ -1,4 +1,4 @@
-use Rattle.std.proofs.Common.{refl, sym, ◌∙◌}
+use Rattle.std.proofs.Common.{length, refl, sym, ◌∙◌}
 use Rattle.history_text.specs.declared.entries.Cause.TheVariants as cause
 use Rattle.replay_runner.proofs.Stepping.{ends_before, missed_or_ends}
 use Rattle.replay_runner.proofs.Sound.{went_missing}
@@ -18,8 +18,8 @@ returns-in-Err-clause-made g c = λ names. ends_before g.D.Disk.state c.args.sel
 pub returns-in-Ok-None-clause-made : goal.returns-in-Ok-None-clause-made
 returns-in-Ok-None-clause-made g c = λ names.
     missed_or_ends g.D.Disk.state c.args.self.now c.wait.new.self c.args.stamp names (sym c.in-Ok-None.ensures.found ∙ c.in-Ok-None.field-0-is) c.wait.result c.wait.ensures.passed c.wait.ensures.fault
-    c.wait.ensures.coordinator c.wait.ensures.managers c.wait.ensures.waiting c.wait.ensures.clock
+    c.wait.ensures.nodes c.wait.ensures.waiting c.wait.ensures.clock
 
 pub returns-in-Ok-None-clause-went : goal.returns-in-Ok-None-clause-went
 returns-in-Ok-None-clause-went g c =
-    went_missing c.args.self.now c.wait.new.self c.requires.can.goes (cause.Missing c.args.stamp) c.wait.result c.wait.ensures.passed c.wait.ensures.coordinator c.wait.ensures.managers c.wait.ensures.waiting c.wait.ensures.clock
+    went_missing (length c.args.self.now.nodes.managers.items) (length c.args.self.now.nodes.resources.items) (length c.args.self.now.places.items) c.args.self.now c.wait.new.self c.requires.can.goes (cause.Missing c.args.stamp) c.wait.result c.wait.ensures.passed c.wait.ensures.nodes c.wait.ensures.waiting c.wait.ensures.clock

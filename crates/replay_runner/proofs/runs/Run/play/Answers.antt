@@ -6,7 +6,7 @@ use Rattle.scenario_reader.specs.Steps.{steps_of}
 use Rattle.history_rules.specs.Schedules.{DeliverOf, TurnOf}
 use Rattle.history_text.specs.declared.entries.Cause.TheVariants as cause
 use Rattle.replay_runner.specs.Going.{CanGo, Went}
-use Rattle.replay_runner.proofs.Playing.{crash_comes, crash_made, enters_disks, is_place, ready_as, restart_comes, restart_made, single, stop_comes, stop_made}
+use Rattle.replay_runner.proofs.Playing.{crash_made, enters_disks, enters_local, enters_outside, local_made, outside_made, ready_as, restart_made, single, stop_made}
 use Rattle.replay_runner.proofs.Sound.{went_waiting}
 use Rattle.replay_runner.proofs.Stepping.{waited_or_ends}
 use Rattle.replay_runner.proofs.runs.Run.play.Goals as goal
@@ -16,14 +16,11 @@ pub turn-requires-clause-can : goal.turn-requires-clause-can
 turn-requires-clause-can g c = subst (λ (i : ScheduleItem). CanGo c.args.self.now (steps_of i)) c.in-Turn.is c.requires.can
 
 pub turn-requires-clause-there : goal.turn-requires-clause-there
-turn-requires-clause-there g c = subst (FitsNodes 0 (length c.args.self.now.managers.items) 0) c.in-Turn.is c.requires.fits
+turn-requires-clause-there g c = subst (FitsNodes (length c.args.self.now.nodes.resources.items) (length c.args.self.now.nodes.managers.items) (length c.args.locals.now)) c.in-Turn.is c.requires.fits
 
 pub returns-in-Turn-clause-played : goal.returns-in-Turn-clause-played
 returns-in-Turn-clause-played g c = λ ready.
-    let names = single g.D.Disk.state c.args.self.now (TurnOf c.in-Turn.place) refl (ready_as g.D.Disk.state c.args.self.now c.args.item (item.Turn c.in-Turn.place) c.in-Turn.is ready) in
-    c.turn.ensures.made names
-    (is_place g.D.Disk.state names.here.s c.args.self.now.coordinator c.args.self.now.managers.items names.here.ms names.here.plays.nodes c.in-Turn.place
-    (subst (FitsNodes 0 (length c.args.self.now.managers.items) 0) c.in-Turn.is c.requires.fits))
+    c.turn.ensures.made (single g.D.Disk.state c.args.self.now (TurnOf c.in-Turn.place) refl (ready_as g.D.Disk.state c.args.self.now c.args.item (item.Turn c.in-Turn.place) c.in-Turn.is ready.ready))
 
 -- a delivery
 pub deliver-requires : goal.deliver-requires
@@ -32,7 +29,7 @@ deliver-requires g c = record { can = subst (λ (i : ScheduleItem). CanGo c.args
 pub returns-in-Deliver-clause-played : goal.returns-in-Deliver-clause-played
 returns-in-Deliver-clause-played g c = λ ready.
     c.deliver.ensures.made
-    (single g.D.Disk.state c.args.self.now (DeliverOf c.in-Deliver.stamp) refl (ready_as g.D.Disk.state c.args.self.now c.args.item (item.Deliver c.in-Deliver.stamp) c.in-Deliver.is ready))
+    (single g.D.Disk.state c.args.self.now (DeliverOf c.in-Deliver.stamp) refl (ready_as g.D.Disk.state c.args.self.now c.args.item (item.Deliver c.in-Deliver.stamp) c.in-Deliver.is ready.ready))
 
 -- ticks that pass
 pub wait-requires : goal.wait-requires
@@ -44,45 +41,58 @@ wait-requires g c =
 pub returns-in-Wait-clause-played : goal.returns-in-Wait-clause-played
 returns-in-Wait-clause-played g c = λ ready.
     waited_or_ends g.D.Disk.state c.args.self.now c.wait.new.self (record {
-      coordinator = c.args.self.now.coordinator;
-      managers = c.args.self.now.managers;
+      nodes = c.args.self.now.nodes;
       network = c.args.self.now.network;
       places = c.args.self.now.places;
       messages = c.args.self.now.messages;
       clock = c.args.self.now.clock + c.in-Wait.ticks;
-    }) c.in-Wait.ticks (ready_as g.D.Disk.state c.args.self.now c.args.item (item.Wait c.in-Wait.ticks) c.in-Wait.is ready) (subst (FitsNodes 0 (length c.args.self.now.managers.items) 0) c.in-Wait.is c.requires.fits).1
-    c.wait.result c.wait.ensures.passed c.wait.ensures.fault refl refl refl refl c.wait.ensures.coordinator c.wait.ensures.managers c.wait.ensures.waiting c.wait.ensures.clock
+    }) c.in-Wait.ticks (ready_as g.D.Disk.state c.args.self.now c.args.item (item.Wait c.in-Wait.ticks) c.in-Wait.is ready.ready)
+    (subst (FitsNodes (length c.args.self.now.nodes.resources.items) (length c.args.self.now.nodes.managers.items) (length c.args.locals.now)) c.in-Wait.is c.requires.fits).1
+    c.wait.result c.wait.ensures.passed c.wait.ensures.fault refl refl refl refl c.wait.ensures.nodes c.wait.ensures.waiting c.wait.ensures.clock
 
--- a stop, a crash and a restart come to the coordinator
+pub returns-in-Wait-clause-went : goal.returns-in-Wait-clause-went
+returns-in-Wait-clause-went g c =
+    subst (λ (i : ScheduleItem). OnOk c.wait.result (Went c.args.self.now c.wait.new.self (steps_of i))) (sym c.in-Wait.is)
+    (went_waiting (length c.args.self.now.nodes.managers.items) (length c.args.self.now.nodes.resources.items) (length c.args.self.now.places.items) c.args.self.now (record {
+      nodes = c.args.self.now.nodes;
+      network = c.args.self.now.network;
+      places = c.args.self.now.places;
+      messages = c.args.self.now.messages;
+      clock = c.args.self.now.clock + c.in-Wait.ticks;
+    }) c.wait.new.self c.requires.can.goes (cause.Wait c.in-Wait.ticks) c.in-Wait.ticks
+    (subst (FitsNodes (length c.args.self.now.nodes.resources.items) (length c.args.self.now.nodes.managers.items) (length c.args.locals.now)) c.in-Wait.is c.requires.fits).1
+    c.wait.result c.wait.ensures.passed refl refl refl c.wait.ensures.nodes c.wait.ensures.waiting c.wait.ensures.clock)
+
+-- a stop, a crash and a restart come to a node with disks
 pub make-requires : goal.make-requires
 make-requires g c = record {
-  can = enters_disks c.args.self.now c.in-Stop.place (cause.Stop c.in-Stop.calls) (subst (FitsNodes 0 (length c.args.self.now.managers.items) 0) c.in-Stop.is c.requires.fits).0 tt tt
+  can = enters_disks c.args.self.now c.in-Stop.place (cause.Stop c.in-Stop.calls)
+      (subst (FitsNodes (length c.args.self.now.nodes.resources.items) (length c.args.self.now.nodes.managers.items) (length c.args.locals.now)) c.in-Stop.is c.requires.fits).0 tt tt
       (subst (λ (i : ScheduleItem). CanGo c.args.self.now (steps_of i)) c.in-Stop.is c.requires.can);
 }
 
 pub returns-in-Stop-clause-played : goal.returns-in-Stop-clause-played
 returns-in-Stop-clause-played g c = λ ready.
-    let fits = (subst (FitsNodes 0 (length c.args.self.now.managers.items) 0) c.in-Stop.is c.requires.fits).0 in
-    let next = ready_as g.D.Disk.state c.args.self.now c.args.item (item.Stop c.in-Stop.place c.in-Stop.calls) c.in-Stop.is ready in
-    stop_made g.D.Disk.state c.args.self.now c.make.new.self c.in-Stop.place fits c.in-Stop.calls next c.make.result
-    (c.make.ensures.made (stop_comes g.D.Disk.state c.args.self.now c.make.new.self c.in-Stop.place fits c.in-Stop.calls next))
+    let fits = (subst (FitsNodes (length c.args.self.now.nodes.resources.items) (length c.args.self.now.nodes.managers.items) (length c.args.locals.now)) c.in-Stop.is c.requires.fits).0 in
+    stop_made g.D.Disk.state c.args.self.now c.make.new.self c.in-Stop.place fits c.in-Stop.calls
+    (ready_as g.D.Disk.state c.args.self.now c.args.item (item.Stop c.in-Stop.place c.in-Stop.calls) c.in-Stop.is ready.ready) c.make.result c.make.ensures.made
 
 pub make-requires-in-Crash : goal.make-requires-in-Crash
 make-requires-in-Crash g c = record {
-  can = enters_disks c.args.self.now c.in-Crash.place cause.Crash (subst (FitsNodes 0 (length c.args.self.now.managers.items) 0) c.in-Crash.is c.requires.fits) tt tt
+  can = enters_disks c.args.self.now c.in-Crash.place cause.Crash
+      (subst (FitsNodes (length c.args.self.now.nodes.resources.items) (length c.args.self.now.nodes.managers.items) (length c.args.locals.now)) c.in-Crash.is c.requires.fits) tt tt
       (subst (λ (i : ScheduleItem). CanGo c.args.self.now (steps_of i)) c.in-Crash.is c.requires.can);
 }
 
 pub returns-in-Crash-clause-played : goal.returns-in-Crash-clause-played
 returns-in-Crash-clause-played g c = λ ready.
-    let fits = subst (FitsNodes 0 (length c.args.self.now.managers.items) 0) c.in-Crash.is c.requires.fits in
-    let next = ready_as g.D.Disk.state c.args.self.now c.args.item (item.Crash c.in-Crash.place) c.in-Crash.is ready in
-    crash_made g.D.Disk.state c.args.self.now c.make-in-Crash.new.self c.in-Crash.place fits next c.make-in-Crash.result
-    (c.make-in-Crash.ensures.made (crash_comes g.D.Disk.state c.args.self.now c.make-in-Crash.new.self c.in-Crash.place fits next))
+    let fits = subst (FitsNodes (length c.args.self.now.nodes.resources.items) (length c.args.self.now.nodes.managers.items) (length c.args.locals.now)) c.in-Crash.is c.requires.fits in
+    crash_made g.D.Disk.state c.args.self.now c.make-in-Crash.new.self c.in-Crash.place fits
+    (ready_as g.D.Disk.state c.args.self.now c.args.item (item.Crash c.in-Crash.place) c.in-Crash.is ready.ready) c.make-in-Crash.result c.make-in-Crash.ensures.made
 
 pub make-requires-in-Restart : goal.make-requires-in-Restart
 make-requires-in-Restart g c =
-    let fits = subst (FitsNodes 0 (length c.args.self.now.managers.items) 0) c.in-Restart.is c.requires.fits in
+    let fits = subst (FitsNodes (length c.args.self.now.nodes.resources.items) (length c.args.self.now.nodes.managers.items) (length c.args.locals.now)) c.in-Restart.is c.requires.fits in
     record {
       can = enters_disks c.args.self.now c.in-Restart.place (cause.Restart c.in-Restart.pick c.in-Restart.calls) fits.0 tt fits.1
           (subst (λ (i : ScheduleItem). CanGo c.args.self.now (steps_of i)) c.in-Restart.is c.requires.can);
@@ -90,10 +100,44 @@ make-requires-in-Restart g c =
 
 pub returns-in-Restart-clause-played : goal.returns-in-Restart-clause-played
 returns-in-Restart-clause-played g c = λ ready.
-    let fits = subst (FitsNodes 0 (length c.args.self.now.managers.items) 0) c.in-Restart.is c.requires.fits in
-    let next = ready_as g.D.Disk.state c.args.self.now c.args.item (item.Restart c.in-Restart.place c.in-Restart.pick c.in-Restart.calls) c.in-Restart.is ready in
-    restart_made g.D.Disk.state c.args.self.now c.make-in-Restart.new.self c.in-Restart.place fits.0 c.in-Restart.pick c.in-Restart.calls fits.1 next c.make-in-Restart.result
-    (c.make-in-Restart.ensures.made (restart_comes g.D.Disk.state c.args.self.now c.make-in-Restart.new.self c.in-Restart.place fits.0 c.in-Restart.pick c.in-Restart.calls fits.1 next))
+    let fits = subst (FitsNodes (length c.args.self.now.nodes.resources.items) (length c.args.self.now.nodes.managers.items) (length c.args.locals.now)) c.in-Restart.is c.requires.fits in
+    restart_made g.D.Disk.state c.args.self.now c.make-in-Restart.new.self c.in-Restart.place fits.0 c.in-Restart.pick c.in-Restart.calls
+    (ready_as g.D.Disk.state c.args.self.now c.args.item (item.Restart c.in-Restart.place c.in-Restart.pick c.in-Restart.calls) c.in-Restart.is ready.ready) c.make-in-Restart.result c.make-in-Restart.ensures.made
+
+-- local transactions, guarded or outside
+pub place_of-requires : goal.place_of-requires
+place_of-requires g c = subst (FitsNodes (length c.args.self.now.nodes.resources.items) (length c.args.self.now.nodes.managers.items) (length c.args.locals.now)) c.in-Local.is c.requires.fits
+
+pub make-requires-in-Local : goal.make-requires-in-Local
+make-requires-in-Local g c =
+    let fits = subst (FitsNodes (length c.args.self.now.nodes.resources.items) (length c.args.self.now.nodes.managers.items) (length c.args.locals.now)) c.in-Local.is c.requires.fits in
+    record {
+      can = enters_local c.args.self.now c.args.locals.now c.in-Local.number fits c.requires.locals c.place_of.result c.place_of.ensures
+          (subst (λ (i : ScheduleItem). CanGo c.args.self.now (steps_of i)) c.in-Local.is c.requires.can);
+    }
+
+pub returns-in-Local-clause-played : goal.returns-in-Local-clause-played
+returns-in-Local-clause-played g c = λ ready.
+    let fits = subst (FitsNodes (length c.args.self.now.nodes.resources.items) (length c.args.self.now.nodes.managers.items) (length c.args.locals.now)) c.in-Local.is c.requires.fits in
+    local_made c.args.self.now c.args.locals.now c.in-Local.number fits c.requires.locals c.place_of.result c.place_of.ensures g.D.Disk.state c.make-in-Local.new.self c.make-in-Local.result
+    (ready_as g.D.Disk.state c.args.self.now c.args.item (item.Local c.in-Local.number) c.in-Local.is ready.ready) ready.locals_are c.make-in-Local.ensures.made
+
+pub place_of-requires-in-Outside : goal.place_of-requires-in-Outside
+place_of-requires-in-Outside g c = subst (FitsNodes (length c.args.self.now.nodes.resources.items) (length c.args.self.now.nodes.managers.items) (length c.args.locals.now)) c.in-Outside.is c.requires.fits
+
+pub make-requires-in-Outside : goal.make-requires-in-Outside
+make-requires-in-Outside g c =
+    let fits = subst (FitsNodes (length c.args.self.now.nodes.resources.items) (length c.args.self.now.nodes.managers.items) (length c.args.locals.now)) c.in-Outside.is c.requires.fits in
+    record {
+      can = enters_outside c.args.self.now c.args.locals.now c.in-Outside.number fits c.requires.locals c.place_of-in-Outside.result c.place_of-in-Outside.ensures
+          (subst (λ (i : ScheduleItem). CanGo c.args.self.now (steps_of i)) c.in-Outside.is c.requires.can);
+    }
+
+pub returns-in-Outside-clause-played : goal.returns-in-Outside-clause-played
+returns-in-Outside-clause-played g c = λ ready.
+    let fits = subst (FitsNodes (length c.args.self.now.nodes.resources.items) (length c.args.self.now.nodes.managers.items) (length c.args.locals.now)) c.in-Outside.is c.requires.fits in
+    outside_made c.args.self.now c.args.locals.now c.in-Outside.number fits c.requires.locals c.place_of-in-Outside.result c.place_of-in-Outside.ensures g.D.Disk.state c.make-in-Outside.new.self c.make-in-Outside.result
+    (ready_as g.D.Disk.state c.args.self.now c.args.item (item.Outside c.in-Outside.number) c.in-Outside.is ready.ready) ready.locals_are c.make-in-Outside.ensures.made
 
 -- steps that the replay chooses
 pub choose_each-requires : goal.choose_each-requires
@@ -101,17 +145,4 @@ choose_each-requires g c = record { can = subst (λ (i : ScheduleItem). CanGo c.
 
 pub returns-in-Auto-clause-played : goal.returns-in-Auto-clause-played
 returns-in-Auto-clause-played g c = λ ready.
-    c.choose_each.ensures.played (ready_as g.D.Disk.state c.args.self.now c.args.item (item.Auto c.in-Auto.steps) c.in-Auto.is ready)
-
-pub returns-in-Wait-clause-went : goal.returns-in-Wait-clause-went
-returns-in-Wait-clause-went g c =
-    subst (λ (i : ScheduleItem). OnOk c.wait.result (Went c.args.self.now c.wait.new.self (steps_of i))) (sym c.in-Wait.is)
-    (went_waiting c.args.self.now (record {
-      coordinator = c.args.self.now.coordinator;
-      managers = c.args.self.now.managers;
-      network = c.args.self.now.network;
-      places = c.args.self.now.places;
-      messages = c.args.self.now.messages;
-      clock = c.args.self.now.clock + c.in-Wait.ticks;
-    }) c.wait.new.self c.requires.can.goes (cause.Wait c.in-Wait.ticks) c.in-Wait.ticks (subst (FitsNodes 0 (length c.args.self.now.managers.items) 0) c.in-Wait.is c.requires.fits).1
-    c.wait.result c.wait.ensures.passed refl refl refl c.wait.ensures.coordinator c.wait.ensures.managers c.wait.ensures.waiting c.wait.ensures.clock)
+    c.choose_each.ensures.played (ready_as g.D.Disk.state c.args.self.now c.args.item (item.Auto c.in-Auto.steps) c.in-Auto.is ready.ready)

@@ -14,7 +14,7 @@ use Rattle.replay_runner.proofs.runs.Run.play_all.Given as goal
 -- what is left is the steps of the members that are, and there is room for them
 abbrev pub invariant-loop-item : goal.invariant-loop-item
 invariant-loop-item g l = record {
-  plays : (s : Scenario) → IsRunnable s → s.schedule ≡ l.schedule → Plays g.D.Disk.state s l.initial.self []
+  plays : (s : Scenario) → IsRunnable s → s.locals ≡ l.locals → s.schedule ≡ l.schedule → Plays g.D.Disk.state s l.initial.self []
       → (ms : List Moment) × Plays g.D.Disk.state s l.self ms × (left_of s ms ≡ singles (map item_of (drop l.item-index l.schedule)));
-  goes : (entries : ℕ) × Goes (length l.initial.self.managers.items) entries l.self × (entries + all_steps (drop l.item-index l.schedule) ≤ STEPS);
+  goes : (entries : ℕ) × Goes (length l.initial.self.nodes.managers.items) (length l.initial.self.nodes.resources.items) entries l.self × (entries + all_steps (drop l.item-index l.schedule) ≤ STEPS);
 }

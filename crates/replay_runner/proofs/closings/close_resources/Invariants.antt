@@ -1,0 +1,12 @@
+use Rattle.std.specs.Vec.Iter.{into_iter_items}
+use Rattle.std.specs.Iterator.Adapters.{enumerate_count, enumerate_source}
+use Rattle.replay_runner.proofs.Closed.{AreClosing, showing}
+use Rattle.replay_runner.proofs.closings.close_resources.Given as goal
+
+-- the first resources were closed
+abbrev pub invariant-loop-k : goal.invariant-loop-k
+invariant-loop-k g l =
+    (goal.iterator-loop-k g).can_next l.k-iterator × (goal.iterator-loop-k g).is_finite l.k-iterator
+    × AreClosing (showing g.H.Shelf.has_place g.H.Shelf.given_back g.H.Shelf.faults g.H.Shelf.tells l.initial.shelf)
+    (showing g.H.Shelf.has_place g.H.Shelf.given_back g.H.Shelf.faults g.H.Shelf.tells l.shelf)
+    l.defs l.fn.resources.items (into_iter_items (enumerate_source l.k-iterator)) (enumerate_count l.k-iterator) l.kept l.traces.items

@@ -1,0 +1,47 @@
+use Rattle.std.proofs.Common.{◌≤◌, ◌∙◌, List, arith, length, sym, subst}
+use Rattle.scenario_reader.specs.declared.scenarios.ResourceDef.{ResourceDef}
+use Rattle.replay_runner.specs.Opened.{AreAll, AreDefsApart, AreReturned, HaveBoth, IsOfNone, IsSecondName}
+use Rattle.replay_runner.proofs.Closed.{all_back, all_others, showing, taken_stay}
+use Rattle.replay_runner.proofs.Names.{defs_apart}
+use Rattle.replay_runner.proofs.closings.close_servers.Goals as goal
+
+pub close_resources-requires-clause-few : goal.close_resources-requires-clause-few
+close_resources-requires-clause-few g c κs within = subst (λ (ds : List ResourceDef). length c.args.resources.items ≤ length ds) (sym c.as_slice-defs.ensures) c.requires.few
+
+pub close_resources-requires-clause-seconds : goal.close_resources-requires-clause-seconds
+close_resources-requires-clause-seconds g c κs within = subst (λ (ds : List ResourceDef). AreAll IsSecondName ds c.args.seconds.now) (sym c.as_slice-defs.ensures) c.requires.seconds
+
+pub close_resources-requires-clause-apart : goal.close_resources-requires-clause-apart
+close_resources-requires-clause-apart g c κs within = subst AreDefsApart (sym c.as_slice-defs.ensures) (defs_apart c.args.scenario.now c.requires.runnable)
+
+pub close_resources-requires-clause-taken : goal.close_resources-requires-clause-taken
+close_resources-requires-clause-taken g c κs within =
+    subst (λ (ds : List ResourceDef). HaveBoth (g.H.Shelf.has_place c.close_coordinator.new.shelf) ds (length c.args.resources.items)) (sym c.as_slice-defs.ensures)
+    (taken_stay (g.H.Shelf.has_place c.args.shelf.now) (g.H.Shelf.has_place c.close_coordinator.new.shelf) c.args.scenario.now.resources (length c.args.resources.items)
+    c.close_coordinator.ensures.keeps.places c.requires.taken.resources)
+
+pub returns-clause-back : goal.returns-clause-back
+returns-clause-back g c =
+    all_back c.args.scenario.now c.requires.runnable c.args.coordinator c.args.resources.items c.requires.few
+    (showing g.H.Shelf.has_place g.H.Shelf.given_back g.H.Shelf.faults g.H.Shelf.tells c.args.shelf.now)
+    (showing g.H.Shelf.has_place g.H.Shelf.given_back g.H.Shelf.faults g.H.Shelf.tells c.close_coordinator.new.shelf)
+    (showing g.H.Shelf.has_place g.H.Shelf.given_back g.H.Shelf.faults g.H.Shelf.tells c.close_resources.new.shelf) c.close_coordinator.ensures.back c.close_coordinator.ensures.keeps
+    (subst (λ (ds : List ResourceDef). AreReturned (g.H.Shelf.tells c.close_coordinator.new.shelf) (g.H.Shelf.given_back c.close_resources.new.shelf) ds c.args.resources.items) c.as_slice-defs.ensures
+    c.close_resources.ensures.back)
+    (λ n none. c.close_resources.ensures.others n (subst (λ (ds : List ResourceDef). IsOfNone ds (length c.args.resources.items) n) (sym c.as_slice-defs.ensures) none))
+
+pub returns-clause-others : goal.returns-clause-others
+returns-clause-others g c =
+    all_others c.args.scenario.now c.requires.runnable c.args.coordinator c.args.resources.items c.requires.few
+    (showing g.H.Shelf.has_place g.H.Shelf.given_back g.H.Shelf.faults g.H.Shelf.tells c.args.shelf.now)
+    (showing g.H.Shelf.has_place g.H.Shelf.given_back g.H.Shelf.faults g.H.Shelf.tells c.close_coordinator.new.shelf)
+    (showing g.H.Shelf.has_place g.H.Shelf.given_back g.H.Shelf.faults g.H.Shelf.tells c.close_resources.new.shelf) c.close_coordinator.ensures.back c.close_coordinator.ensures.keeps
+    (subst (λ (ds : List ResourceDef). AreReturned (g.H.Shelf.tells c.close_coordinator.new.shelf) (g.H.Shelf.given_back c.close_resources.new.shelf) ds c.args.resources.items) c.as_slice-defs.ensures
+    c.close_resources.ensures.back)
+    (λ n none. c.close_resources.ensures.others n (subst (λ (ds : List ResourceDef). IsOfNone ds (length c.args.resources.items) n) (sym c.as_slice-defs.ensures) none))
+
+pub returns-clause-faults : goal.returns-clause-faults
+returns-clause-faults g c = let one = c.close_coordinator.ensures.keeps.faults in let two = c.close_resources.ensures.faults in omega (arith, one, two)
+
+pub returns-clause-tells : goal.returns-clause-tells
+returns-clause-tells g c = c.close_resources.ensures.tells ∙ c.close_coordinator.ensures.keeps.tells

@@ -1,0 +1,49 @@
+use Rattle.std.proofs.Common.{◌≡◌, ◌∙◌, Bool, ap, arith, length, refl, sym, subst}
+use Rattle.disk_model.specs.Disk.{Rose}
+use Rattle.replay_runner.specs.Opened.{HaveBoth, IsNewResourceOf, StopsOpening}
+use Rattle.replay_runner.proofs.Finished.{rose_between, stops_later}
+use Rattle.replay_runner.proofs.NewNodes.{begin_first}
+use Rattle.replay_runner.proofs.openings.open_resources.Goals as goal
+
+pub loop-k-init : goal.loop-k-init
+loop-k-init g c =
+    let start = begin_first (IsNewResourceOf g.H.D.Disk.state c.args.scenario.now) c.args.scenario.now.resources c.args.opened.now.items c.requires.none in
+    (start.0, start.1, (λ k def below here. absurd (omega (arith, below))), (λ n here. here), omega arith, refl)
+
+pub returns-in-Err-clause-refused : goal.returns-in-Err-clause-refused
+returns-in-Err-clause-refused g c =
+    let i = c.loop-k.invariant in
+    let size : length c.open_next.new.opened.items ≡ c.loop-k.k = ap length c.in-Err.ensures.same ∙ i.1 in
+    subst (λ n. StopsOpening g.H.D.Disk.state (g.H.Shelf.tells c.args.shelf.now) (g.H.Shelf.given_back c.open_next.new.shelf)
+    (Rose (g.H.Shelf.faults c.args.shelf.now) (g.H.Shelf.faults c.open_next.new.shelf)) c.args.scenario.now n c.in-Err.fault) (sym size)
+    (stops_later g.H.D.Disk.state c.args.scenario.now (g.H.Shelf.tells c.args.shelf.now) (g.H.Shelf.given_back c.open_next.new.shelf)
+    (Rose (g.H.Shelf.faults c.loop-k.shelf) (g.H.Shelf.faults c.open_next.new.shelf)) (Rose (g.H.Shelf.faults c.args.shelf.now) (g.H.Shelf.faults c.open_next.new.shelf)) c.loop-k.k c.in-Err.fault
+    (rose_between (g.H.Shelf.faults c.args.shelf.now) (g.H.Shelf.faults c.loop-k.shelf) (g.H.Shelf.faults c.open_next.new.shelf) (g.H.Shelf.faults c.open_next.new.shelf) i.4 (omega arith))
+    (subst (λ (t : Bool). StopsOpening g.H.D.Disk.state t (g.H.Shelf.given_back c.open_next.new.shelf) (Rose (g.H.Shelf.faults c.loop-k.shelf) (g.H.Shelf.faults c.open_next.new.shelf))
+    c.args.scenario.now c.loop-k.k c.in-Err.fault) i.5 c.in-Err.ensures.refused))
+
+pub loop-k-preserved : goal.loop-k-preserved
+loop-k-preserved g c =
+    let i = c.loop-k.invariant in
+    let e = c.in_default.ensures in (
+      e.opened,
+      e.more,
+      subst (HaveBoth (g.H.Shelf.has_place c.open_next.new.shelf) c.args.scenario.now.resources) e.more e.taken,
+      (λ n here. e.places n (i.3 n here)),
+      (let one = i.4 in let two = e.faults in omega (arith, one, two)),
+      e.tells ∙ i.5,
+    )
+
+pub returns-clause-whole : goal.returns-clause-whole
+returns-clause-whole g c =
+    let i = c.loop-k.invariant in
+    let size = i.1 in
+    let past = c.loop-k-test.false in
+    let end = c.loop-k.auto.k-end in
+    let count = c.requires.seconds.count in
+    omega (arith, size, past, end, count)
+
+pub returns-clause-taken : goal.returns-clause-taken
+returns-clause-taken g c =
+    let i = c.loop-k.invariant in
+    subst (HaveBoth (g.H.Shelf.has_place c.loop-k.shelf) c.args.scenario.now.resources) (sym i.1) i.2

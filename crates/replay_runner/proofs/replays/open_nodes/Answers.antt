@@ -1,0 +1,68 @@
+use Rattle.std.proofs.Common.{◌∙◌, Bool, length, subst, sym}
+use Rattle.disk_model.specs.Disk.{Rose}
+use Rattle.scenario_nodes.specs.Nodes.{IsNewCoordinator}
+use Rattle.scenario_nodes.specs.Shelves.{coordinator_name, second_name}
+use Rattle.replay_runner.specs.Leaving.{FirstGivenBack}
+use Rattle.replay_runner.specs.Opened.{HaveBoth, StopsOpening, server_disks}
+use Rattle.replay_runner.proofs.Closed.{both_stay_taken, showing}
+use Rattle.replay_runner.proofs.Finished.{coordinator_refused, resource_refused, rose_between}
+use Rattle.replay_runner.proofs.Names.{coordinator_apart, next_of_none}
+use Rattle.replay_runner.proofs.NewNodes.{fresh_coordinator}
+use Rattle.replay_runner.proofs.replays.open_nodes.Goals as goal
+
+pub returns-in-Err-clause-refused : goal.returns-in-Err-clause-refused
+returns-in-Err-clause-refused g c =
+    coordinator_refused g.H.D.Disk.state c.args.scenario.now (showing g.H.Shelf.has_place g.H.Shelf.given_back g.H.Shelf.faults g.H.Shelf.tells c.args.shelf.now)
+    (showing g.H.Shelf.has_place g.H.Shelf.given_back g.H.Shelf.faults g.H.Shelf.tells c.open_coordinator.new.shelf) c.in-Err.fault c.open_coordinator.ensures.keeps.tells c.in-Err.ensures.refused
+
+pub close_servers-requires-clause-taken : goal.close_servers-requires-clause-taken
+close_servers-requires-clause-taken g c κs within = record {
+  coordinator = both_stay_taken (g.H.Shelf.has_place c.open_coordinator.new.shelf) (g.H.Shelf.has_place c.open_resources.new.shelf) coordinator_name c.open_resources.ensures.places c.in-Ok.ensures.both;
+  resources = c.open_resources.ensures.taken;
+}
+
+pub returns-in-Err-open_resources-clause-refused : goal.returns-in-Err-open_resources-clause-refused
+returns-in-Err-open_resources-clause-refused g c =
+    let tells = c.open_resources.ensures.tells ∙ c.open_coordinator.ensures.keeps.tells in
+    resource_refused g.H.D.Disk.state c.args.scenario.now (length c.args.scenario.now.managers) (length c.args.scenario.now.resources) c.in-Ok.coordinator c.in-Ok.ensures.new c.open_resources.new.opened.items
+    c.open_resources.ensures.opened (g.H.Shelf.tells c.args.shelf.now) (g.H.Shelf.given_back c.open_resources.new.shelf) (g.H.Shelf.given_back c.close_servers.new.shelf)
+    (Rose (g.H.Shelf.faults c.open_coordinator.new.shelf) (g.H.Shelf.faults c.open_resources.new.shelf)) (Rose (g.H.Shelf.faults c.args.shelf.now) (g.H.Shelf.faults c.close_servers.new.shelf))
+    c.in-Err-open_resources.fault
+    (rose_between (g.H.Shelf.faults c.args.shelf.now) (g.H.Shelf.faults c.open_coordinator.new.shelf) (g.H.Shelf.faults c.open_resources.new.shelf) (g.H.Shelf.faults c.close_servers.new.shelf)
+    c.open_coordinator.ensures.keeps.faults c.close_servers.ensures.faults)
+    (λ def here.
+    let apart = coordinator_apart c.args.scenario.now c.requires.runnable (length c.open_resources.new.opened.items) def here in
+    let none = next_of_none c.args.scenario.now c.requires.runnable (length c.open_resources.new.opened.items) def here in (
+      c.close_servers.ensures.others def.name (λ e. apart.firsts (sym e)) (λ e. apart.second (sym e)) none.0,
+      c.close_servers.ensures.others (second_name def.name) (λ e. apart.other (sym e)) (λ e. apart.seconds (sym e)) none.1,
+    ))
+    (subst (λ (t : Bool). FirstGivenBack t (g.H.Shelf.given_back c.close_servers.new.shelf) c.args.scenario.now (server_disks c.in-Ok.coordinator c.open_resources.new.opened.items)) tells c.close_servers.ensures.back)
+    (subst (λ (t : Bool). StopsOpening g.H.D.Disk.state t (g.H.Shelf.given_back c.open_resources.new.shelf)
+    (Rose (g.H.Shelf.faults c.open_coordinator.new.shelf) (g.H.Shelf.faults c.open_resources.new.shelf)) c.args.scenario.now (length c.open_resources.new.opened.items) c.in-Err-open_resources.fault)
+    c.open_coordinator.ensures.keeps.tells c.in-Err-open_resources.ensures.refused)
+
+pub returns-in-Err-open_resources-clause-tells : goal.returns-in-Err-open_resources-clause-tells
+returns-in-Err-open_resources-clause-tells g c = c.close_servers.ensures.tells ∙ c.open_resources.ensures.tells ∙ c.open_coordinator.ensures.keeps.tells
+
+pub new-requires : goal.new-requires
+new-requires g c = record {
+  fresh = fresh_coordinator g.H.D.Disk.state g.K.RunName.world g.K.RunName.past c.args.scenario.now c.in-Ok.coordinator (length c.args.scenario.now.managers) (length c.args.scenario.now.resources)
+      c.requires.world c.requires.past c.in-Ok.ensures.new;
+}
+
+pub returns-clause-new : goal.returns-clause-new
+returns-clause-new g c = record {
+  coordinator = record {
+    node = subst (IsNewCoordinator g.H.D.Disk.state c.args.scenario.now (length c.args.scenario.now.managers) (length c.args.scenario.now.resources)) (sym c.new.ensures.node) c.in-Ok.ensures.new;
+    traced = c.new.ensures.trace;
+    turned = c.new.ensures.turned;
+  };
+  resources = record { first = c.open_resources.ensures.opened; count = c.in_default.ensures.whole };
+  managers = c.requires.managers;
+}
+
+pub returns-clause-taken : goal.returns-clause-taken
+returns-clause-taken g c = record {
+  coordinator = both_stay_taken (g.H.Shelf.has_place c.open_coordinator.new.shelf) (g.H.Shelf.has_place c.open_resources.new.shelf) coordinator_name c.open_resources.ensures.places c.in-Ok.ensures.both;
+  resources = subst (HaveBoth (g.H.Shelf.has_place c.open_resources.new.shelf) c.args.scenario.now.resources) c.in_default.ensures.whole c.open_resources.ensures.taken;
+}

@@ -1,0 +1,51 @@
+use Rattle.std.proofs.Common.{sym, ◌∙◌, length}
+use Rattle.replay_runner.proofs.Finished.{ended, finished, unfinished}
+use Rattle.replay_runner.proofs.NewNodes.{are_nodes, nodes_go}
+use Rattle.replay_runner.proofs.Starting.{all_fit, can_start, count_of_resources, locals_stand}
+use Rattle.replay_runner.proofs.replays.play.Goals as goal
+
+pub new-run-requires : goal.new-run-requires
+new-run-requires g c = record { going = nodes_go g.H.D.Disk.state c.args.scenario.now c.args.nodes c.requires.new }
+
+pub play_all-played-requires-clause-can : goal.play_all-played-requires-clause-can
+play_all-played-requires-clause-can g c =
+    can_start c.args.scenario.now c.requires.runnable (length c.args.nodes.managers.items) (length c.args.nodes.resources.items) c.new-run.result c.new-run.ensures.goes
+    c.requires.new.managers.count c.requires.new.resources.count c.as_slice.result.now c.as_slice.ensures
+
+pub play_all-played-requires-clause-locals : goal.play_all-played-requires-clause-locals
+play_all-played-requires-clause-locals g c =
+    locals_stand c.args.scenario.now c.requires.runnable (length c.args.nodes.managers.items) (length c.args.nodes.resources.items) c.new-run.result c.new-run.ensures.goes
+    c.requires.new.managers.count c.requires.new.resources.count c.as_slice-locals.result.now c.as_slice-locals.ensures
+
+pub play_all-played-requires-clause-fits : goal.play_all-played-requires-clause-fits
+play_all-played-requires-clause-fits g c =
+    all_fit c.args.scenario.now c.requires.runnable (length c.args.nodes.managers.items) (length c.args.nodes.resources.items) c.new-run.result c.new-run.ensures.goes
+    c.requires.new.managers.count c.requires.new.resources.count c.as_slice-locals.result.now c.as_slice.result.now c.as_slice-locals.ensures c.as_slice.ensures
+
+pub returns-in-Err : goal.returns-in-Err
+returns-in-Err g c =
+    ended g.H.D.Disk.state c.args.scenario.now c.play_all-played.new.self
+    (c.play_all-played.ensures.count ∙ count_of_resources c.args.scenario.now c.requires.runnable (length c.args.nodes.managers.items) (length c.args.nodes.resources.items) c.new-run.result c.new-run.ensures.goes
+    c.requires.new.managers.count c.requires.new.resources.count)
+    (g.H.Shelf.tells c.args.shelf.now) (g.H.Shelf.given_back c.close-history.new.shelf) c.close-history.ensures.back c.play_all-played.result c.in-Err.fault c.in-Err.is
+    (λ all. c.play_all-played.ensures.played c.args.scenario.now c.requires.runnable (sym c.as_slice-locals.ensures) (sym c.as_slice.ensures)
+    (c.new-run.ensures.plays c.args.scenario.now (are_nodes g.H.D.Disk.state c.args.scenario.now c.args.nodes c.requires.new all)))
+
+pub returns-in-Ok : goal.returns-in-Ok
+returns-in-Ok g c =
+    finished g.H.D.Disk.state c.args.scenario.now c.play_all-played.new.self
+    (c.play_all-played.ensures.count ∙ count_of_resources c.args.scenario.now c.requires.runnable (length c.args.nodes.managers.items) (length c.args.nodes.resources.items) c.new-run.result c.new-run.ensures.goes
+    c.requires.new.managers.count c.requires.new.resources.count)
+    (g.H.Shelf.tells c.args.shelf.now) (g.H.Shelf.given_back c.close-history.new.shelf) c.close-history.ensures.back c.play_all-played.result c.in_default.field-0 c.in_default.is
+    (λ all. c.play_all-played.ensures.played c.args.scenario.now c.requires.runnable (sym c.as_slice-locals.ensures) (sym c.as_slice.ensures)
+    (c.new-run.ensures.plays c.args.scenario.now (are_nodes g.H.D.Disk.state c.args.scenario.now c.args.nodes c.requires.new all)))
+    c.in-Ok.history c.in-Ok.ensures.history
+
+pub returns-in-Err-history : goal.returns-in-Err-history
+returns-in-Err-history g c =
+    unfinished g.H.D.Disk.state c.args.scenario.now c.play_all-played.new.self
+    (c.play_all-played.ensures.count ∙ count_of_resources c.args.scenario.now c.requires.runnable (length c.args.nodes.managers.items) (length c.args.nodes.resources.items) c.new-run.result c.new-run.ensures.goes
+    c.requires.new.managers.count c.requires.new.resources.count)
+    (g.H.Shelf.tells c.args.shelf.now) (g.H.Shelf.given_back c.close-history.new.shelf) c.close-history.ensures.back c.play_all-played.result c.in_default.field-0 c.in_default.is
+    (λ all. c.play_all-played.ensures.played c.args.scenario.now c.requires.runnable (sym c.as_slice-locals.ensures) (sym c.as_slice.ensures)
+    (c.new-run.ensures.plays c.args.scenario.now (are_nodes g.H.D.Disk.state c.args.scenario.now c.args.nodes c.requires.new all)))

@@ -1,0 +1,107 @@
+-- The nodes of a replay before its first entry, and how their opening ends early.
+use Rattle.std.specs.Prelude.{◌≡◌, ◌≢◌, ◌⊎◌, ◌+◌, ◌<◌, ◌≤◌, ℕ, Bool, List, [], ◌∷◌, length, map, slice_get, Some, String, string_bytes}
+use Rattle.std.specs.declared.alloc.Global.{Global}
+use Rattle.disk_model.specs.Disk.{DiskState}
+use Rattle.seata_types.specs.declared.ids.Place.TheVariants as place
+use Rattle.scenario_reader.specs.declared.scenarios.ManagerDef.{ManagerDef}
+use Rattle.scenario_reader.specs.declared.scenarios.ResourceDef.{ResourceDef}
+use Rattle.scenario_reader.specs.declared.scenarios.Scenario.{Scenario}
+use Rattle.history_rules.specs.Nodes.{Role}
+use Rattle.coordinator_core.specs.declared.nodes.Coordinator.{Coordinator}
+use Rattle.resource_core.specs.declared.nodes.Resource.{Resource}
+use Rattle.manager_core.specs.declared.nodes.Manager.{Manager}
+use Rattle.node_seat.specs.declared.faults.RunFault.{RunFault}
+use Rattle.scenario_nodes.specs.Nodes.{IsNewCoordinator, IsNewManager, IsNewResource, coordinator_disks, resource_disks, resource_role}
+use Rattle.scenario_nodes.specs.Opening.{IsShelfFault, IsUnopened}
+use Rattle.scenario_nodes.specs.Shelves.{AllTell, AreGivenBack, HasBoth, coordinator_name, pair_of, second_name}
+use Rattle.replay_runner.specs.declared.members.Member.{Member}
+use Rattle.replay_runner.specs.declared.nodes.Nodes.{Nodes}
+
+-- ---- one for each definition
+
+-- of the first of these definitions there is one each, in order, with a property by its number, counted from 1
+pub record AreFirst {A B : Type 0} (P : ℕ → A → B → Type 0) (defs : List A) (found : List B) : Type 0 where
+  pub few : length found ≤ length defs
+  pub each : (k : ℕ) (def : A) (one : B) → slice_get defs k ≡ Some def → slice_get found k ≡ Some one → P (k + 1) def one
+
+-- of all of them
+pub record AreAll {A B : Type 0} (P : ℕ → A → B → Type 0) (defs : List A) (found : List B) : Type 0 where
+  pub first : AreFirst P defs found
+  pub count : length found ≡ length defs
+
+-- ---- names
+
+-- the name of a resource's second disk
+abbrev pub IsSecondName : ℕ → ResourceDef → String Global → Type 0
+IsSecondName n def name = string_bytes name ≡ second_name def.name
+
+-- two nodes whose disks have different names
+pub record AreApart (a b : List ℕ) : Type 0 where
+  pub firsts : a ≢ b
+  pub other : a ≢ second_name b
+  pub second : second_name a ≢ b
+  pub seconds : second_name a ≢ second_name b
+
+-- so have any two of these resources
+abbrev pub AreDefsApart : List ResourceDef → Type 0
+AreDefsApart defs = (j k : ℕ) (a b : ResourceDef) → j ≢ k → slice_get defs j ≡ Some a → slice_get defs k ≡ Some b → AreApart a.name b.name
+
+-- a name of no disk of the first of these resources
+abbrev pub IsOfNone : List ResourceDef → (count : ℕ) → List ℕ → Type 0
+IsOfNone defs count name = (k : ℕ) (def : ResourceDef) → k < count → slice_get defs k ≡ Some def → (name ≢ def.name) × (name ≢ second_name def.name)
+
+-- ---- nodes
+
+-- a node with a property, which made no entry
+pub record IsNewMember {N K : Type 0} (P : N → Type 0) (m : Member N K) : Type 0 where
+  pub node : P m.seat.node
+  pub traced : m.seat.trace ≡ []
+  pub turned : m.turned ≡ 0
+
+abbrev pub IsNewManagerOf : {K : Type 0} → Scenario → ℕ → ManagerDef → Member Manager K → Type 0
+IsNewManagerOf s n def m = IsNewMember (IsNewManager s n def) m
+
+abbrev pub IsNewResourceOf : {D K : Type 0} → (D → DiskState) → Scenario → ℕ → ResourceDef → Member (Resource D) K → Type 0
+IsNewResourceOf state s n def m = IsNewMember (IsNewResource state s n def) m
+
+-- all nodes of a scenario
+pub record AreNewNodes {D K : Type 0} (state : D → DiskState) (s : Scenario) (n : Nodes D K) : Type 0 where
+  pub coordinator : IsNewMember (IsNewCoordinator state s (length s.managers) (length s.resources)) n.coordinator
+  pub resources : AreAll (IsNewResourceOf state s) s.resources n.resources.items
+  pub managers : AreAll (IsNewManagerOf s) s.managers n.managers.items
+
+-- ---- disks
+
+-- both disks of each of the first of these resources were taken
+abbrev pub HaveBoth : (has_place : List ℕ → Type 0) → List ResourceDef → (count : ℕ) → Type 0
+HaveBoth has_place defs count = (k : ℕ) (def : ResourceDef) → k < count → slice_get defs k ≡ Some def → HasBoth has_place def.name
+
+-- so were the coordinator's
+pub record HaveTaken (has_place : List ℕ → Type 0) (defs : List ResourceDef) (count : ℕ) : Type 0 where
+  pub coordinator : HasBoth has_place coordinator_name
+  pub resources : HaveBoth has_place defs count
+
+abbrev pub member_pair : {D K : Type 0} → Member (Resource D) K → D × D
+member_pair m = resource_disks m.seat.node
+
+-- the disks of the coordinator and of these resources
+abbrev pub server_disks : {D K : Type 0} → Coordinator D → List (Member (Resource D) K) → List (D × D)
+server_disks c resources = coordinator_disks c ∷ map member_pair resources
+
+-- the disks of these resources were given back
+abbrev pub AreReturned : {D K : Type 0} → (tells : Bool) → (List ℕ → D → Type 0) → List ResourceDef → List (Member (Resource D) K) → Type 0
+AreReturned {D} {K} tells given_back defs resources =
+    (k : ℕ) (def : ResourceDef) (m : Member (Resource D) K) → slice_get defs k ≡ Some def → slice_get resources k ≡ Some m
+    → AreGivenBack tells given_back def.name (resource_disks m.seat.node)
+
+-- the disks of a node that wasn't opened were given back, and show it where they tell their bytes
+pub record IsReturned {D : Type 0} (state : D → DiskState) (tells : Bool) (given_back : List ℕ → D → Type 0) (role : Role) (name : List ℕ) (bytes : ℕ) (missed : RunFault) : Type 0 where
+  pub disks : D × D
+  pub back : AreGivenBack tells given_back name disks
+  pub unopened : AllTell state → IsUnopened role bytes (pair_of state disks) missed
+
+-- so many resources were opened, and the next one wasn't
+pub record StopsOpening {D : Type 0} (state : D → DiskState) (tells : Bool) (given_back : List ℕ → D → Type 0) (rose : Type 0) (s : Scenario) (count : ℕ) (missed : RunFault) : Type 0 where
+  pub def : ResourceDef
+  pub there : slice_get s.resources count ≡ Some def
+  pub refused : IsShelfFault (place.Res (count + 1)) rose missed ⊎ IsReturned state tells given_back (resource_role s (count + 1) def) def.name s.disk missed

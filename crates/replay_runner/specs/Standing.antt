@@ -1,0 +1,80 @@
+-- What the nodes of a replay stand for.
+use Rattle.std.specs.Prelude.{◌≡◌, ℕ, List, length, Option, Some, None}
+use Rattle.disk_model.specs.Disk.{DiskState}
+use Rattle.journal_checkpoint.specs.Images.{Pair}
+use Rattle.seata_types.specs.declared.ids.Place.{Place}
+use Rattle.seata_types.specs.declared.ids.Place.TheVariants as place
+use Rattle.scenario_reader.specs.declared.scenarios.Scenario.{Scenario}
+use Rattle.history_rules.specs.Own.{Own}
+use Rattle.history_rules.specs.Devices.{last_pick}
+use Rattle.history_rules.specs.Nodes.{Role, counted_at, no_past, role_at}
+use Rattle.history_rules.specs.Histories.{Moment, own}
+use Rattle.history_text.specs.Durable.{own_faults}
+use Rattle.history_text.specs.Promises.{AreTold, no_disks}
+use Rattle.history_text.specs.Worlds.{world_of}
+use Rattle.coordinator_core.specs.Standing as coordinator
+use Rattle.resource_core.specs.declared.nodes.Resource.{Resource}
+use Rattle.resource_core.specs.NodeStanding as resource
+use Rattle.resource_core.specs.Shown as shown
+use Rattle.manager_core.specs.declared.nodes.Manager.{Manager}
+use Rattle.manager_core.specs.Standing as manager
+use Rattle.node_seat.specs.Entering.{HaveLast}
+use Rattle.scenario_nodes.specs.Nodes.{HaveSize}
+use Rattle.replay_runner.specs.declared.members.Member.{Member}
+use Rattle.replay_runner.specs.declared.nodes.Nodes.{Nodes}
+use Rattle.replay_runner.specs.Members.{IsMember}
+
+-- ---- one node
+
+-- a node with disks of so many bytes, which tell their bytes and have the pick of its last restart
+pub record IsServer {N K : Type 0} (stands_for : N → Role → List Own → Type 0) (disks : N → Pair) (p : Place) (role : Role) (bytes : ℕ) (m : Member N K) (ms : List Moment) : Type 0 where
+  pub member : IsMember stands_for p role m ms
+  pub told : AreTold (disks m.seat.node)
+  pub picked : HaveLast (last_pick (own p ms)) (disks m.seat.node)
+  pub sized : HaveSize bytes (disks m.seat.node)
+
+-- the node at a place has this role, after these moments
+abbrev pub HasNode : {D K : Type 0} → (D → DiskState) → (bytes : ℕ) → Nodes D K → List Moment → Place → Role → Type 0
+HasNode state bytes n ms place.Net role = ⊥
+HasNode state bytes n ms place.Tc role =
+    IsServer (coordinator.StandsAs state) (coordinator.disks_of state) place.Tc role bytes n.coordinator ms
+HasNode {D} {K} state bytes n ms (place.Res k) role =
+    (m : Member (Resource D) K) × (counted_at n.resources.items k ≡ Some m)
+    × IsServer (resource.StandsAs state) (shown.disks_of state) (place.Res k) role bytes m ms
+HasNode {D} {K} state bytes n ms (place.Man k) role =
+    (m : Member Manager K) × (counted_at n.managers.items k ≡ Some m) × IsMember manager.StandsAs (place.Man k) role m ms
+
+-- ---- all nodes of a scenario, after these moments
+
+pub record AreNodes {D K : Type 0} (state : D → DiskState) (s : Scenario) (n : Nodes D K) (ms : List Moment) : Type 0 where
+  pub resources : length n.resources.items ≡ length s.resources
+  pub managers : length n.managers.items ≡ length s.managers
+  pub each : (p : Place) (role : Role) → role_at (world_of s) no_past p ≡ Some role → HasNode state s.disk n ms p role
+
+-- ---- once a replay has ended
+
+-- the node at a place stands for these own entries
+abbrev pub StandsAt : {D K : Type 0} → (D → DiskState) → Nodes D K → Place → Role → List Own → Type 0
+StandsAt state n place.Net role os = ⊥
+StandsAt state n place.Tc role os = coordinator.StandsAs state n.coordinator.seat.node role os
+StandsAt {D} {K} state n (place.Res k) role os = (m : Member (Resource D) K) × (counted_at n.resources.items k ≡ Some m) × resource.StandsAs state m.seat.node role os
+StandsAt {D} {K} state n (place.Man k) role os = (m : Member Manager K) × (counted_at n.managers.items k ≡ Some m) × manager.StandsAs m.seat.node role os
+
+-- so does each node for its own
+abbrev pub AllStand : {D K : Type 0} → (D → DiskState) → Scenario → Nodes D K → List Moment → Type 0
+AllStand state s n ms = (p : Place) (role : Role) → role_at (world_of s) no_past p ≡ Some role → StandsAt state n p role (own p ms)
+
+-- the disks of a resource, if there is one
+abbrev pub member_disks : {D K : Type 0} → (D → DiskState) → Option (Member (Resource D) K) → Pair
+member_disks state None = no_disks
+member_disks state (Some m) = shown.disks_of state m.seat.node
+
+-- the disks of the node at a place
+abbrev pub disks_at : {D K : Type 0} → (D → DiskState) → Nodes D K → Place → Pair
+disks_at state n place.Tc = coordinator.disks_of state n.coordinator.seat.node
+disks_at state n (place.Res k) = member_disks state (counted_at n.resources.items k)
+disks_at state n _ = no_disks
+
+-- how many own faults they counted
+abbrev pub counted_on : {D K : Type 0} → (D → DiskState) → Nodes D K → Place → ℕ
+counted_on state n p = own_faults (disks_at state n p)
