@@ -463,3 +463,19 @@ fences
 reads
 "#,
 ];
+
+/// A transfer between two databases, but for its schedule.
+pub const TRANSFER: &str =
+    r#"{"resources":[{"name":"A","tables":[{"name":"acc","mode":"AT","columns":[["id","int"],["m","int"]],"key":"id","rows":[[1,1000]]}]},{"name":"B","tables":[{"name":"acc","mode":"AT","columns":[["id","int"],["m","int"]],"key":"id","rows":[[1,0]]}]}],"managers":[{"name":"m1","calls":[{"at":"A","do":["UPDATE acc SET m = m - 100 WHERE id = 1"]},{"at":"B","do":["UPDATE acc SET m = m + 100 WHERE id = 1"]}],"end":"commit"}],"schedule":"#;
+
+/// How a report of it ends once it was made.
+pub const MADE: &str = r#"
+sessions
+tc:1 m1 9 Committed
+locks
+tables
+A.acc (1, 900)
+B.acc (1, 100)
+fences
+reads
+"#;

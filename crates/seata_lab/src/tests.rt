@@ -1,12 +1,12 @@
 //! Whole runs of `top` over memory: the words, the input, what is written, and the status.
-ghost use Rattle.std.specs.Prelude.{◌<◌, ◌≤◌, ◌≢◌};
+ghost use Rattle.std.specs.Prelude.{◌<◌, ◌≤◌, ◌≢◌, length};
 
 use crate::answers::ended;
 use crate::gallery::GALLERY;
 use crate::memory::{MemSink, MemSource};
 use crate::rows::{
-    CHOSEN, COMMIT_IN_TIME, CRASHED, FAULTS, FORGOTTEN, FRAMES, KEPT, LATE_ONES, NOTHING, POLLED,
-    REPEATED_MESSAGES, ROLLBACK, TIMEOUT,
+    CHOSEN, COMMIT_IN_TIME, CRASHED, FAULTS, FORGOTTEN, FRAMES, KEPT, LATE_ONES, MADE, NOTHING,
+    POLLED, REPEATED_MESSAGES, ROLLBACK, TIMEOUT, TRANSFER,
 };
 use crate::tops::top;
 use disk_model::MemShelf;
@@ -122,6 +122,49 @@ fn fills_a_disk(rt: HostRuntime) -> Result<(), Fail> {
     let ran = run(rt.alloc(), &["replay"], crowded.as_bytes(), SOUND)?;
     expect(&rt, &ran, 8, "full: tc needs 4106 of 4096\n");
     Ok(())
+}
+
+/// A transfer between two databases, of which a node is stopped after so many calls of its disk and restarted with a pick.
+fn stopped(alloc: Global, node: &str, calls: u32, pick: u32) -> Result<String, Fail> {
+    Ok(format!(in alloc;
+        "{TRANSFER}[\"stop {node} {calls}\",\"auto 29\",\"restart {node} {pick}\",\"wait 1000\",\"auto 400\"]}}"
+    )?)
+}
+
+/// Whether a part stands in a text.
+fn has(text: &[u8], part: &[u8]) -> bool
+    requires { 0 < length part.now }
+{
+    text.windows(part.len()).any(|piece| piece == part)
+}
+
+/// A stop after so many calls, with each pick: a record that all but its last two calls were made of is kept where the pick
+/// keeps what was pending, and the transfer is made once.
+fn expect_made(rt: &impl Abort, alloc: Global, node: &str, calls: u32) -> Result<(), Fail> {
+    for pick in [0, 1, 3] {
+        let input = stopped(alloc, node, calls, pick)?;
+        let ran = run(alloc, &["replay"], input.as_bytes(), SOUND)?;
+        assert_eq!(rt; ran.status, 0);
+        let kept = has(ran.written.as_slice(), b"| restarted kept ".as_slice());
+        assert_eq!(rt; kept, calls % 4 >= 2 && pick > 0);
+        assert_eq!(rt; ran.written.as_slice().ends_with(MADE.as_bytes()), true);
+    }
+    Ok(())
+}
+
+/// The same at each of so many calls.
+fn expect_each(rt: &impl Abort, alloc: Global, node: &str, most: u32) -> Result<(), Fail> {
+    for calls in 0..most {
+        expect_made(rt, alloc, node, calls)?;
+    }
+    Ok(())
+}
+
+#[test]
+fn a_stop_at_each_call_changes_no_end(rt: HostRuntime) -> Result<(), Fail> {
+    expect_each(&rt, rt.alloc(), "tc", 28)?;
+    expect_each(&rt, rt.alloc(), "A", 8)?;
+    expect_each(&rt, rt.alloc(), "B", 8)
 }
 
 /// A scenario, as it is read.
