@@ -15,4 +15,4 @@ mod sections;
 mod sent;
 
 pub use kept::{OpenWork, Origin};
-pub use reports::write_report;
+pub use reports::{node_names, write_report};

@@ -38,7 +38,7 @@ fn manager_names(alloc: Global, managers: &[ManagerDef]) -> Result<List<Text>, N
 }
 
 /// The names of a scenario's nodes.
-fn node_names(alloc: Global, scenario: &Scenario) -> Result<Names, NoMemory>
+pub fn node_names(alloc: Global, scenario: &Scenario) -> Result<Names, NoMemory>
     ensures { IfOk result (λ names. names ≡ report.names_of scenario.now) }
 {
     Ok(Names {

@@ -8,11 +8,10 @@ ghost use Rattle.disk_model.specs.Disk.{Rose};
 ghost use Rattle.replay_runner.specs.Leaving.{Replays as Replayed};
 ghost use Rattle.seata_lab.specs.Answers.{IsAnswerTo, IsEndText, Shelves, damaged_text, disk_text, end_text, fault_text, full_text, status_of, store_text};
 
-use crate::names::node_names;
 use disk_model::Shelf;
 use history_text::{Entry, Names, put_place};
 use replay_runner::{RunFault, replay};
-use report_text::write_report;
+use report_text::{node_names, write_report};
 use scenario_reader::{Scenario, ScenarioError, read};
 use seata_types::{Full, List, NoMemory, Place, Text};
 use std::alloc::{AllocError, Global};

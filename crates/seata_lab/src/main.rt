@@ -11,7 +11,6 @@ mod gallery;
 mod laws;
 mod listings;
 mod memory;
-mod names;
 #[cfg(test)]
 mod rows;
 mod standard;
