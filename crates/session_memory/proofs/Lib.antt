@@ -9,6 +9,7 @@ pub mod GrantLaws
 pub mod HolderLaws
 pub mod LookupLaws
 pub mod KeptLaws
+pub mod LatestLaws
 pub mod PlaceLaws
 mod SearchLaws
 pub mod LoadLaws

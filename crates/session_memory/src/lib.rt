@@ -4,6 +4,7 @@
 
 mod allowing;
 mod errors;
+mod latest;
 pub mod laws;
 mod loading;
 mod lookups;

@@ -13,6 +13,7 @@ ghost use Rattle.session_memory.specs.Answers.{Grants};
 ghost use Rattle.session_memory.specs.Loading.{LoadsSnapshot};
 
 use crate::errors::LoadError;
+use crate::latest::LatestTickets;
 use crate::{allowing, loading, lookups, sessions, snapshots, statuses};
 use durable_records::SessionRecord;
 use lock_table::{HoldError, LockTable, Steps};
@@ -23,22 +24,25 @@ use std::marker::Model;
 use std::sync::ledger::Ledger;
 
 /// All that a coordinator knows of its transactions: contracts see the snapshot of its records. The table of global locks
-/// beside it has the rows that the snapshot's branches hold.
+/// beside it has the rows that the snapshot's branches hold, and no branch has a later ticket than the latest of its
+/// resource, so that a new ticket is looked for in no branch.
 #[derive(Drop)]
 pub struct Memory {
     snapshot: Snapshot,
     locks: LockTable,
+    latest: LatestTickets,
 }
 
 impl Model for Memory {
     ghost use Rattle.session_log.specs.declared.sessions.Snapshot.{Snapshot as Known};
     ghost use Rattle.session_memory.specs.Order.{IsKept};
+    ghost use Rattle.session_memory.specs.Latest.{AreReached};
 
     ghost Value = { Known };
 
     ghost view = { λ m. m.snapshot };
 
-    ghost invariant = { λ m. IsKept m.snapshot m.locks };
+    ghost invariant = { λ m. IsKept m.snapshot m.locks × AreReached m.latest m.snapshot.sessions };
 }
 
 impl Memory {
@@ -56,6 +60,7 @@ impl Memory {
         Memory {
             snapshot,
             locks: LockTable::new(alloc),
+            latest: LatestTickets::new(alloc),
         }
     }
 
@@ -68,9 +73,17 @@ impl Memory {
         requires { IsCounted snapshot }
         ensures { LoadsSnapshot snapshot result }
     {
+        let Ok(latest) = LatestTickets::of(alloc, snapshot.sessions.as_slice()) else {
+            drop(snapshot);
+            return Err(LoadError::NoMemory);
+        };
         let mut locks = LockTable::new(alloc);
         match loading::take_all(alloc, &mut locks, snapshot.sessions.as_slice(), steps) {
-            Ok(()) => Ok(Memory { snapshot, locks }),
+            Ok(()) => Ok(Memory {
+                snapshot,
+                locks,
+                latest,
+            }),
             Err(error) => {
                 drop(snapshot);
                 Err(error)
@@ -123,6 +136,9 @@ impl Memory {
     pub fn ticket_leg(&self, resource: u16, ticket: Ticket) -> Option<Leg>
         ensures { result ≡ ticket_leg self.now resource ticket }
     {
+        if !self.latest.reaches(resource, ticket) {
+            return None;
+        }
         lookups::ticket_leg(self.snapshot.sessions.as_slice(), resource, ticket)
     }
 
@@ -319,7 +335,8 @@ impl Memory {
             hold: rows,
             ended: false,
         };
-        if snapshots::register(alloc, &mut self.snapshot, xid, branch).is_err() {
+        let latest = &mut self.latest;
+        if snapshots::register(alloc, &mut self.snapshot, latest, xid, branch).is_err() {
             self.locks.release(leg);
             return Err(HoldError::NoMemory);
         }

@@ -3,8 +3,10 @@ ghost use Rattle.std.specs.Prelude.{◌≡◌, ◌<◌, ◌+◌, ◌^◌, OnOk, 
 ghost use Rattle.durable_records.specs.declared.coordinators.SessionRecord.TheVariants as log;
 ghost use Rattle.session_log.specs.Soundness.{entry_xid};
 ghost use Rattle.session_memory.specs.Order.{AreRising};
+ghost use Rattle.session_memory.specs.Latest.{IsReached, StayReached};
 ghost use Rattle.session_memory.specs.Changes.{after, with_turned, with_registered};
 
+use crate::latest::LatestTickets;
 use crate::sessions;
 use durable_records::SessionRecord;
 use seata_types::{GlobalStatus, List, NoMemory, Xid};
@@ -47,10 +49,11 @@ pub(crate) fn begin(
     Ok(())
 }
 
-/// A branch is registered for a transaction. After an error all is as before.
+/// A branch is registered for a transaction, with its ticket. After an error the snapshot is as before.
 pub(crate) fn register(
     alloc: Global,
     snapshot: &mut Snapshot,
+    latest: &mut LatestTickets,
     xid: Xid,
     branch: Branch,
 ) -> Result<(), NoMemory>
@@ -59,7 +62,10 @@ pub(crate) fn register(
     requires rising { AreRising entry_xid snapshot.old.sessions }
     ensures ok { OnOk result (snapshot.new ≡ with_registered snapshot.old xid.0 branch) }
     ensures err { OnErr result (snapshot.new ≡ snapshot.old) }
+    ensures reached { OnOk result (IsReached latest.new branch) }
+    ensures others { StayReached latest.old latest.new }
 {
+    latest.raise(branch.place.resource, branch.place.ticket)?;
     let mut entries = sessions::take_items(alloc, &mut snapshot.sessions);
     let added = sessions::add_branch(alloc, &mut entries, xid, branch);
     snapshot.sessions = List::of(entries);

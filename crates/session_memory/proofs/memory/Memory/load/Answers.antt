@@ -1,12 +1,17 @@
-use Rattle.std.proofs.Common.{refl}
+use Rattle.std.proofs.Common.{List, refl, subst}
+use Rattle.session_log.specs.declared.sessions.SessionEntry.{SessionEntry}
+use Rattle.session_memory.specs.Latest.{AreReached}
 use Rattle.session_memory.proofs.LoadLaws.{loads_kept, loads_once, loads_not}
 use Rattle.session_memory.proofs.memory.Memory.load.Goals as goal
 
 pub invariant_of-result : goal.invariant_of-result
-invariant_of-result g c = loads_kept c.args.snapshot c.requires c.new-locks.result c.take_all.new.locks c.as_slice.result.now c.new-locks.ensures c.as_slice.ensures c.in-Ok.ensures.1
+invariant_of-result g c = (
+  loads_kept c.args.snapshot c.requires c.new-locks.result c.take_all.new.locks c.as_slice-2.result.now c.new-locks.ensures c.as_slice-2.ensures c.in-Ok-take_all.ensures.1,
+  subst (λ (es : List SessionEntry). AreReached c.in-Ok.latest es) c.as_slice.ensures c.in-Ok.ensures,
+)
 
-pub returns-in-Ok : goal.returns-in-Ok
-returns-in-Ok g c = (loads_once c.args.snapshot c.requires c.new-locks.result c.take_all.new.locks c.as_slice.result.now c.new-locks.ensures c.as_slice.ensures c.in-Ok.ensures.0, refl)
+pub returns-in-Ok-take_all : goal.returns-in-Ok-take_all
+returns-in-Ok-take_all g c = (loads_once c.args.snapshot c.requires c.new-locks.result c.take_all.new.locks c.as_slice-2.result.now c.new-locks.ensures c.as_slice-2.ensures c.in-Ok-take_all.ensures.0, refl)
 
 pub returns-in-Err : goal.returns-in-Err
-returns-in-Err g c = loads_not c.args.snapshot c.requires c.new-locks.result c.take_all.new.locks c.as_slice.result.now c.new-locks.ensures c.as_slice.ensures c.in-Err.error c.in-Err.ensures
+returns-in-Err g c = loads_not c.args.snapshot c.requires c.new-locks.result c.take_all.new.locks c.as_slice-2.result.now c.new-locks.ensures c.as_slice-2.ensures c.in-Err.error c.in-Err.ensures
