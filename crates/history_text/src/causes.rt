@@ -4,6 +4,7 @@ ghost use Rattle.history_text.specs.Lines as lines;
 
 use crate::entries::{Cause, Names};
 use crate::parts::add_place;
+use crate::words::add_numbered;
 use std::alloc::AllocError;
 
 /// The cause of an entry.
@@ -13,7 +14,8 @@ pub(crate) fn add_cause(out: &mut String, cause: &Cause, names: &Names) -> Resul
     match cause {
         Cause::Turn => out.push_str("turn"),
         Cause::Deliver { stamp, from } => {
-            write!(out, "deliver {stamp} ")?;
+            add_numbered(out, "deliver ", u64::from(*stamp))?;
+            out.push_str(" ")?;
             add_place(out, *from, names)
         }
         Cause::Missing { stamp } => write!(out, "deliver {stamp}"),

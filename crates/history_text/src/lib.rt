@@ -18,8 +18,9 @@ pub mod steps;
 mod words;
 
 pub use entries::{Cause, Entry, Names, Sent};
-pub use lines::{put_entry, put_key, put_note, put_place, put_row, write_entry};
+pub use lines::{add_entry, put_entry, put_key, put_note, put_place, put_row, write_entry};
 pub use messages::add_note;
 pub use nodes::Node;
 pub use notes::{Note, note_of};
+pub use parts::{add_key, add_place, add_row};
 pub use steps::{sends, still};

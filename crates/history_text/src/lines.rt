@@ -1,5 +1,5 @@
 //! The line of an entry.
-ghost use Rattle.std.specs.Prelude.{◌≡◌, ◌++◌, OnOk, OnErr, IfOk, string_bytes};
+ghost use Rattle.std.specs.Prelude.{◌≡◌, ◌++◌, codes, OnOk, OnErr, IfOk, string_bytes};
 ghost use Rattle.history_text.specs.Lines as lines;
 
 use crate::acts::add_act;
@@ -8,7 +8,8 @@ use crate::entries::{Entry, Names, Sent};
 use crate::messages::add_note;
 use crate::notes::Note;
 use crate::parts::{add_key, add_place, add_row};
-use seata_types::{NoMemory, Place, Row, RowKey};
+use crate::words::{add_number, add_numbered};
+use seata_types::{Act, NoMemory, Place, Row, RowKey};
 use std::alloc::{AllocError, Global};
 
 /// The line of an entry, without its line feed.
@@ -75,16 +76,32 @@ pub fn put_row(out: &mut String, row: &Row) -> Result<(), AllocError>
     out.push_str(text.as_str())
 }
 
-/// The line of an entry.
+/// Appends the line of an entry, without its line feed; where memory ends a part of it may stand. `put_entry` appends all of it
+/// or nothing.
 #[tactic(auto, unfolding(crate::specs::Lines::entry_text))]
-fn add_entry(out: &mut String, of: &Entry, names: &Names) -> Result<(), AllocError>
+pub fn add_entry(out: &mut String, of: &Entry, names: &Names) -> Result<(), AllocError>
     ensures { OnOk result (string_bytes out.new ≡ string_bytes out.old ++ lines.entry_text names.now of.entry.now) }
 {
     add_origin(out, of, names)?;
+    add_done(out, &of.act, &of.sent, names)
+}
+
+/// What an entry did, and what it sent. Most entries of a run did nothing and sent nothing.
+fn add_done(
+    out: &mut String,
+    act: &Act,
+    sent: &Option<Sent>,
+    names: &Names,
+) -> Result<(), AllocError>
+    ensures { OnOk result (string_bytes out.new ≡ string_bytes out.old ++ (codes " | " ++ (lines.act_text names.now act.now ++ (codes " | " ++ lines.sent_text names.now sent.now)))) }
+{
+    if let (Act::Nothing, None) = (act, sent) {
+        return out.push_str(" | none | -");
+    }
     out.push_str(" | ")?;
-    add_act(out, &of.act, names)?;
+    add_act(out, act, names)?;
     out.push_str(" | ")?;
-    add_sent(out, &of.sent, names)
+    add_sent(out, sent, names)
 }
 
 /// The number of an entry, its place, its moment and its cause.
@@ -92,9 +109,11 @@ fn add_entry(out: &mut String, of: &Entry, names: &Names) -> Result<(), AllocErr
 fn add_origin(out: &mut String, of: &Entry, names: &Names) -> Result<(), AllocError>
     ensures { OnOk result (string_bytes out.new ≡ string_bytes out.old ++ lines.origin_text names.now of.entry.now) }
 {
-    write!(out, "{} ", of.stamp)?;
+    add_number(out, u64::from(of.stamp))?;
+    out.push_str(" ")?;
     add_place(out, of.place, names)?;
-    write!(out, " {} ", of.now)?;
+    add_numbered(out, " ", of.now)?;
+    out.push_str(" ")?;
     add_cause(out, &of.cause, names)
 }
 

@@ -7,7 +7,9 @@ use crate::locks::{add_held, add_lock, add_opener};
 use crate::notes::Note;
 use crate::parts::{add_keys, add_place};
 use crate::reasons::add_why;
-use crate::words::{add_after_space, add_word_call, add_word_leg, add_word_status, add_word_xid};
+use crate::words::{
+    add_after_space, add_numbered, add_word_call, add_word_leg, add_word_status, add_word_xid,
+};
 use seata_types::{BranchKind, CallAnswer, Place, Registered, RowKey, Ticket, Xid};
 use std::alloc::AllocError;
 
@@ -146,7 +148,7 @@ fn add_reply(out: &mut String, answer: &CallAnswer, names: &Names) -> Result<(),
     ensures { OnOk result (string_bytes out.new ≡ string_bytes out.old ++ lines.reply_text names.now answer.now) }
 {
     match answer {
-        CallAnswer::Done { branch } => write!(out, "done b{}", branch.0),
+        CallAnswer::Done { branch } => add_numbered(out, "done b", branch.0),
         CallAnswer::Busy { key, by } => {
             out.push_str("busy")?;
             add_opener(out, key, *by, names)

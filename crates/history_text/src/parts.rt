@@ -4,6 +4,7 @@ ghost use Rattle.std.specs.Prelude.{◌≡◌, ◌++◌, codes, OnOk, string_byt
 ghost use Rattle.history_text.specs.Lines as lines;
 
 use crate::entries::Names;
+use crate::words::add_signed;
 use seata_types::{List, Place, Row, RowKey, Text, Value};
 use std::alloc::AllocError;
 
@@ -19,8 +20,8 @@ fn add_name(out: &mut String, letter: &str, names: &[Text], n: u16) -> Result<()
     write!(out, "{letter}{n}")
 }
 
-/// A place, by its node's name.
-pub(crate) fn add_place(out: &mut String, place: Place, names: &Names) -> Result<(), AllocError>
+/// Appends a place, by its node's name; where memory ends a part of it may stand. `put_place` appends all of it or nothing.
+pub fn add_place(out: &mut String, place: Place, names: &Names) -> Result<(), AllocError>
     ensures { OnOk result (string_bytes out.new ≡ string_bytes out.old ++ lines.place_text names.now place) }
 {
     match place {
@@ -48,7 +49,7 @@ fn add_literal(out: &mut String, value: &Value) -> Result<(), AllocError>
     ensures { OnOk result (string_bytes out.new ≡ string_bytes out.old ++ lines.literal_text value.now) }
 {
     match value {
-        Value::Int(number) => write!(out, "{number}"),
+        Value::Int(number) => add_signed(out, *number),
         Value::Text(text) => {
             out.push_str("'")?;
             add_quoted(out, text.as_str())?;
@@ -78,8 +79,8 @@ fn add_parts(out: &mut String, pk: &List<Value>) -> Result<(), AllocError>
     add_values(out, "_", pk.as_slice())
 }
 
-/// A key, as `A.seat:1_2`.
-pub(crate) fn add_key(out: &mut String, key: &RowKey, names: &Names) -> Result<(), AllocError>
+/// Appends a key, as `A.seat:1_2`; where memory ends a part of it may stand. `put_key` appends all of it or nothing.
+pub fn add_key(out: &mut String, key: &RowKey, names: &Names) -> Result<(), AllocError>
     ensures { OnOk result (string_bytes out.new ≡ string_bytes out.old ++ lines.key_text names.now key.now) }
 {
     add_name(out, "r", names.resources.as_slice(), key.resource)?;
@@ -112,8 +113,8 @@ pub(crate) fn add_keys(out: &mut String, keys: &[RowKey]) -> Result<(), AllocErr
     Ok(())
 }
 
-/// A row, as `(1, 900)`.
-pub(crate) fn add_row(out: &mut String, row: &Row) -> Result<(), AllocError>
+/// Appends a row, as `(1, 900)`; where memory ends a part of it may stand. `put_row` appends all of it or nothing.
+pub fn add_row(out: &mut String, row: &Row) -> Result<(), AllocError>
     ensures { OnOk result (string_bytes out.new ≡ string_bytes out.old ++ lines.row_text row.now) }
 {
     out.push_str("(")?;

@@ -8,7 +8,7 @@ ghost use Rattle.history_text.specs.Report as report;
 ghost use Rattle.report_text.specs.Sections.{failed_at, line_in, holder_in, rows_of_tables, reads_text};
 
 use durable_records::ResourceRecord;
-use history_text::{Entry, Names, put_entry, put_key, put_place, put_row};
+use history_text::{Entry, Names, add_entry, add_key, add_place, add_row};
 use local_tables::TableDef;
 use seata_types::{BranchId, GlobalStatus, Leg, Place, ReadRow, Row, RowKey, Xid};
 use session_log::SessionEntry;
@@ -24,7 +24,7 @@ pub(crate) fn put_entries(
     ensures { OnOk result (string_bytes out.new ≡ string_bytes out.old ++ report.lines (entry_text names.now) entries.now) }
 {
     for entry in entries {
-        put_entry(out, entry, names)?;
+        add_entry(out, entry, names)?;
         out.push_str("\n")?;
     }
     Ok(())
@@ -71,7 +71,7 @@ fn put_session(out: &mut String, of: &SessionEntry, names: &Names) -> Result<(),
     ensures { OnOk result (string_bytes out.new ≡ string_bytes out.old ++ report.line (report.session_text names.now (line_in of.now))) }
 {
     write!(out, "tc:{} ", of.xid.0)?;
-    put_place(out, Place::Man(of.session.manager), names)?;
+    add_place(out, Place::Man(of.session.manager), names)?;
     let status = of.session.status;
     write!(out, " {} {}", status.code(), status_name(status))?;
     put_failed(out, of.session.failed)?;
@@ -96,7 +96,7 @@ pub(crate) fn put_sessions(
 fn put_lock(out: &mut String, key: &RowKey, holder: Xid, names: &Names) -> Result<(), AllocError>
     ensures { OnOk result (string_bytes out.new ≡ string_bytes out.old ++ report.line (report.holder_text names.now (key.now, holder.0))) }
 {
-    put_key(out, key, names)?;
+    add_key(out, key, names)?;
     write!(out, " tc:{}\n", holder.0)
 }
 
@@ -120,9 +120,9 @@ pub(crate) fn put_locks(
 fn put_table_row(out: &mut String, key: &RowKey, row: &Row, names: &Names) -> Result<(), AllocError>
     ensures { OnOk result (string_bytes out.new ≡ string_bytes out.old ++ report.line (report.table_row_text names.now (key.now, row.now))) }
 {
-    put_place(out, Place::Res(key.resource), names)?;
+    add_place(out, Place::Res(key.resource), names)?;
     write!(out, ".{} ", key.table.as_str())?;
-    put_row(out, row)?;
+    add_row(out, row)?;
     out.push_str("\n")
 }
 
@@ -189,7 +189,7 @@ fn put_fence(
 ) -> Result<(), AllocError>
     ensures { OnOk result (string_bytes out.new ≡ string_bytes out.old ++ report.line (report.fence_text names.now (resource, entry_of (leg, status)))) }
 {
-    put_place(out, Place::Res(resource), names)?;
+    add_place(out, Place::Res(resource), names)?;
     write!(
         out,
         " tc:{} b{} {}\n",
