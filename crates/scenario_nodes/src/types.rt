@@ -3,7 +3,7 @@ ghost use Rattle.std.specs.Prelude.{All, OnOk};
 ghost use Rattle.scenario_nodes.specs.Calls.{AreFramable, AreRead, HasType, HasTypes, IsFramableAction, IsFramableCall, IsFramableWork, IsReadAction, IsReadCall, IsReadWork};
 
 use seata_types::{Action, NoMemory, Row, Stmt, Text, Value, Work};
-use sql_reader::write_stmt;
+use statement_laws::tell_stmt;
 use std::alloc::Global;
 
 /// Tells of a value what its type says.
@@ -39,14 +39,13 @@ pub(crate) fn tell_rows(opening: &[(Text, Row)])
     }
 }
 
-/// Tells of statements that they can be framed: the canonical text of each, which is written and let go, is UTF-8 as every text.
+/// Tells of statements that they can be framed: the canonical text of each is UTF-8.
 pub(crate) fn tell_stmts(alloc: Global, stmts: &[Stmt]) -> Result<(), NoMemory>
     requires { AreRead stmts.now }
     ensures { OnOk result (AreFramable stmts.now) }
 {
     for stmt in stmts {
-        let text = write_stmt(alloc, stmt)?;
-        let _text = text.as_str();
+        tell_stmt(alloc, stmt)?;
     }
     Ok(())
 }

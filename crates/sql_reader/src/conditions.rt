@@ -43,6 +43,7 @@ fn operator(tokens: &mut Cursor<'_>) -> Result<Op, Stop>
     Ok(op)
 }
 
+#[inline(always)]
 #[tactic(auto, unfolding(crate::specs::Grammar::comparison))]
 fn comparison(alloc: Global, tokens: &mut Cursor<'_>) -> Result<Cond, Stop>
     ensures { Reads (spec.comparison tokens.old) result tokens.new }

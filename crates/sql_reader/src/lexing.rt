@@ -230,6 +230,8 @@ fn text_token<'a>(alloc: Global, rest: &'a str) -> Result<(Token<'a>, usize), No
     Ok((Token::Quoted(utf8_text(value)), len + 1))
 }
 
+// Inlined, so that a token stays in registers up to its place in the list.
+#[inline(always)]
 #[tactic(auto, unfolding(crate::specs::Lexing::token_at))]
 fn token_at<'a>(alloc: Global, text: &'a str, at: usize) -> Result<(Token<'a>, usize), NoMemory>
     requires { at < length text.now }
@@ -261,9 +263,9 @@ pub fn lex<'a>(alloc: Global, text: &'a str) -> Result<Vec<Token<'a>>, NoMemory>
     ensures { IfOk result (λ found. found.items ≡ spec.tokens text.now) }
 {
     let bytes = text.as_bytes();
-    // Most texts have at most one token for each two bytes; in steps of 64, so that the next text finds
+    // Most texts have at most two tokens for each five bytes; in steps of 16, so that the next text finds
     // room of the same size.
-    let room = bytes.len() / 128 * 64 + 64;
+    let room = bytes.len() / 40 * 16 + 16;
     let mut tokens = Vec::with_capacity(alloc, room).map_err(|_| NoMemory)?;
     let mut at = 0;
     while at < bytes.len() {

@@ -10,6 +10,7 @@ use crate::tokens::Token;
 use seata_types::{Duplicate, Expr, List, Sign, Term, Text, Value};
 use std::alloc::Global;
 
+#[inline(always)]
 #[tactic(auto, unfolding(crate::specs::Grammar::name))]
 pub fn name(alloc: Global, tokens: &mut Cursor<'_>) -> Result<Text, Stop>
     ensures { Reads (spec.name tokens.old) result tokens.new }
@@ -27,6 +28,7 @@ pub fn name(alloc: Global, tokens: &mut Cursor<'_>) -> Result<Text, Stop>
     }
 }
 
+#[inline(always)]
 #[tactic(auto, unfolding(crate::specs::Grammar::literal))]
 pub fn literal(alloc: Global, tokens: &mut Cursor<'_>) -> Result<Value, Stop>
     ensures { Reads (spec.literal tokens.old) result tokens.new }

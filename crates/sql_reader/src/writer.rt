@@ -1,6 +1,7 @@
 //! A text that grows piece by piece, with the spaces between.
 ghost use Rattle.std.specs.Prelude.{◌≡◌, ◌≢◌, ◌++◌, ◌∷◌, [], ◌||◌, OnOk, IfOk, string_bytes, true, false};
 ghost use Rattle.std.specs.Fmt.{signed_decimal};
+ghost use Rattle.std.specs.Str.{byte};
 ghost use Rattle.sql_reader.specs.Canonical as spec;
 
 use crate::symbols::Symbol;
@@ -8,9 +9,11 @@ use seata_types::NoMemory;
 use std::alloc::Global;
 use std::marker::Model;
 
+/// Room for most statements, so that a text seldom grows. In bytes.
+const ROOM: usize = 128;
+
 #[derive(Drop)]
 pub struct Writer {
-    alloc: Global,
     text: String,
     /// No space comes before the next piece: it is the first, or stands behind "(".
     is_tight: bool,
@@ -28,25 +31,21 @@ impl Model for Writer {
 }
 
 impl Writer {
-    pub fn new(alloc: Global) -> Writer
-        ensures { result ≡ record { text = []; is_tight = true } }
+    pub fn new(alloc: Global) -> Result<Writer, NoMemory>
+        ensures { IfOk result (λ w. w ≡ record { text = []; is_tight = true }) }
     {
-        Writer {
-            alloc,
-            text: String::new(alloc),
+        let text = String::with_capacity(alloc, ROOM).map_err(|_| NoMemory)?;
+        Ok(Writer {
+            text,
             is_tight: true,
-        }
+        })
     }
 
     /// The text so far.
     pub fn into_text(self) -> String
         ensures { string_bytes result ≡ self.text }
     {
-        let Writer {
-            alloc: _,
-            text,
-            is_tight: _,
-        } = self;
+        let Writer { text, is_tight: _ } = self;
         text
     }
 
@@ -62,10 +61,11 @@ impl Writer {
     pub fn symbol(&mut self, symbol: Symbol) -> Result<(), NoMemory>
         ensures { OnOk result (self.new ≡ spec.put self.old (spec.Fixed symbol)) }
     {
-        if !self.is_tight && !clings(symbol) {
-            self.push(" ")?;
+        if self.is_tight || clings(symbol) {
+            self.push(&spaced_text(symbol)[1..])?;
+        } else {
+            self.push(spaced_text(symbol))?;
         }
-        self.push(symbol_text(symbol))?;
         self.is_tight = opens(symbol);
         Ok(())
     }
@@ -95,9 +95,8 @@ impl Writer {
     pub fn number(&mut self, number: i64) -> Result<(), NoMemory>
         ensures { OnOk result (self.new ≡ spec.put self.old (spec.Number number)) }
     {
-        let digits = number.to_string(self.alloc).map_err(|_| NoMemory)?;
         self.space()?;
-        self.push(digits.as_str())?;
+        write!(self.text, "{number}").map_err(|_| NoMemory)?;
         Ok(())
     }
 
@@ -139,35 +138,36 @@ fn clings(symbol: Symbol) -> bool
     matches!(symbol, Symbol::Comma | Symbol::Close)
 }
 
-fn symbol_text(symbol: Symbol) -> &'static str
-    ensures { result.now ≡ spec.symbol_text symbol }
+/// A keyword or a mark with a space before it.
+fn spaced_text(symbol: Symbol) -> &'static str
+    ensures { result.now ≡ byte " " ∷ spec.symbol_text symbol }
 {
     match symbol {
-        Symbol::Insert => "INSERT",
-        Symbol::Into => "INTO",
-        Symbol::Values => "VALUES",
-        Symbol::Update => "UPDATE",
-        Symbol::Set => "SET",
-        Symbol::Where => "WHERE",
-        Symbol::Delete => "DELETE",
-        Symbol::From => "FROM",
-        Symbol::Select => "SELECT",
-        Symbol::For => "FOR",
-        Symbol::And => "AND",
-        Symbol::Or => "OR",
-        Symbol::Not => "NOT",
-        Symbol::Open => "(",
-        Symbol::Close => ")",
-        Symbol::Comma => ",",
-        Symbol::Star => "*",
-        Symbol::Semicolon => ";",
-        Symbol::Plus => "+",
-        Symbol::Minus => "-",
-        Symbol::Equal => "=",
-        Symbol::NotEqual => "<>",
-        Symbol::Less => "<",
-        Symbol::LessOrEqual => "<=",
-        Symbol::Greater => ">",
-        Symbol::GreaterOrEqual => ">=",
+        Symbol::Insert => " INSERT",
+        Symbol::Into => " INTO",
+        Symbol::Values => " VALUES",
+        Symbol::Update => " UPDATE",
+        Symbol::Set => " SET",
+        Symbol::Where => " WHERE",
+        Symbol::Delete => " DELETE",
+        Symbol::From => " FROM",
+        Symbol::Select => " SELECT",
+        Symbol::For => " FOR",
+        Symbol::And => " AND",
+        Symbol::Or => " OR",
+        Symbol::Not => " NOT",
+        Symbol::Open => " (",
+        Symbol::Close => " )",
+        Symbol::Comma => " ,",
+        Symbol::Star => " *",
+        Symbol::Semicolon => " ;",
+        Symbol::Plus => " +",
+        Symbol::Minus => " -",
+        Symbol::Equal => " =",
+        Symbol::NotEqual => " <>",
+        Symbol::Less => " <",
+        Symbol::LessOrEqual => " <=",
+        Symbol::Greater => " >",
+        Symbol::GreaterOrEqual => " >=",
     }
 }

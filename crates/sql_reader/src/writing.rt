@@ -150,7 +150,7 @@ fn condition(alloc: Global, writer: &mut Writer, cond: &Cond) -> Result<(), NoMe
     ensures { OnOk result (writer.new ≡ written writer.old (spec.condition_pieces cond.now)) }
 {
     let mut tasks: Vec<Task<'_>> = Vec::new(alloc);
-    later(&mut tasks, Task::Part(cond))?;
+    begin(writer, &mut tasks, cond)?;
     while let Some(task) = tasks.pop() {
         match task {
             Task::Symbol(symbol) => writer.symbol(symbol)?,
@@ -304,7 +304,7 @@ pub fn write_stmt(alloc: Global, stmt: &Stmt) -> Result<String, NoMemory>
     ensures text { IfOk result (λ t. string_bytes t ≡ canonical_text stmt.now) }
     ensures reads_back { IfOk result (λ t. reading (string_bytes t) ≡ Ok stmt.now) }
 {
-    let mut writer = Writer::new(alloc);
+    let mut writer = Writer::new(alloc)?;
     statement(alloc, &mut writer, stmt)?;
     Ok(writer.into_text())
 }

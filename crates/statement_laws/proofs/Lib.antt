@@ -1,4 +1,6 @@
 mod Payments
+mod Passes
+mod PlainPieces
 mod PlainTexts
 mod Productions
 mod ReadTexts

@@ -68,15 +68,15 @@ module _ (xs ys : List ℕ) (q : ℕ) (ascii : q < 128) (whole : IsUtf8 (xs ++ q
   boundary : IsCharBoundary (xs ++ q ∷ ys) (length xs)
   boundary = IsCharBoundary-before_ascii (xs ++ q ∷ ys) (length xs) (omega (arith, length-append xs (q ∷ ys))) (subst (λ n. n < 128) (sym (get_or-append_seam xs q ys 0)) ascii)
 
-  utf8_before : IsUtf8 xs
+  pub utf8_before : IsUtf8 xs
   utf8_before = subst IsUtf8 (take-append_seam xs (q ∷ ys)) (IsUtf8-take (xs ++ q ∷ ys) (length xs) whole boundary)
 
-  utf8_behind : IsUtf8 ys
+  pub utf8_behind : IsUtf8 ys
   utf8_behind =
       let rest : IsUtf8 (q ∷ ys) = subst IsUtf8 (drop-append_seam xs (q ∷ ys)) (IsUtf8-drop (xs ++ q ∷ ys) (length xs) whole boundary) in
       IsUtf8-drop (q ∷ ys) 1 rest (IsCharBoundary-after_ascii (q ∷ ys) 0 rest (omega arith) ascii)
 
-quoted-utf8 : (t : List ℕ) → IsUtf8 (doubled t) → IsUtf8 (piece_text (Quoted t))
+pub quoted-utf8 : (t : List ℕ) → IsUtf8 (doubled t) → IsUtf8 (piece_text (Quoted t))
 unfolding piece_text
 quoted-utf8 t inner =
     let one : IsUtf8 (quote ∷ []) = plain-utf8 (quote ∷ []) refl in
@@ -97,13 +97,18 @@ gap-utf8 : (b : Bool) → IsUtf8 (gap b)
 gap-utf8 true = IsUtf8-nil
 gap-utf8 false = plain-utf8 (gap false) refl
 
-spaced-utf8 : (tight : Bool) (ps : List Piece) → AllByRecursion (λ p. is_utf8 (piece_text p) ≡ true) ps → IsUtf8 (spaced tight ps)
+-- pieces in UTF-8 make a text in UTF-8
+pub spaced-text : (tight : Bool) (ps : List Piece) → AllByRecursion (λ p. IsUtf8 (piece_text p)) ps → IsUtf8 (spaced tight ps)
 unfolding spaced
-spaced-utf8 tight [] are = IsUtf8-nil
-spaced-utf8 tight (p ∷ ps) are =
+spaced-text tight [] are = IsUtf8-nil
+spaced-text tight (p ∷ ps) are =
     let space = gap (tight || clings p) in
-    IsUtf8-append (space ++ piece_text p) (spaced (opens p) ps) (IsUtf8-append space (piece_text p) (gap-utf8 (tight || clings p)) (IsUtf8-from_is_utf8 (piece_text p) are.0)) (spaced-utf8 (opens p) ps are.1)
+    IsUtf8-append (space ++ piece_text p) (spaced (opens p) ps) (IsUtf8-append space (piece_text p) (gap-utf8 (tight || clings p)) are.0) (spaced-text (opens p) ps are.1)
+
+tested-utf8 : (ps : List Piece) → AllByRecursion (λ p. is_utf8 (piece_text p) ≡ true) ps → AllByRecursion (λ p. IsUtf8 (piece_text p)) ps
+tested-utf8 [] are = tt
+tested-utf8 (p ∷ ps) are = (IsUtf8-from_is_utf8 (piece_text p) are.0, tested-utf8 ps are.1)
 
 pub written_utf8 : (text : List ℕ) (s : Stmt) → IsUtf8 text → reading text ≡ Ok s → IsUtf8 (canonical_text s)
 unfolding canonical_text
-written_utf8 text s utf8 is = spaced-utf8 true (pieces s) (pieces-pass is_utf8 IsEndOfUtf8 utf8_passes text s ([], utf8) is)
+written_utf8 text s utf8 is = spaced-text true (pieces s) (tested-utf8 (pieces s) (pieces-pass is_utf8 IsEndOfUtf8 utf8_passes text s ([], utf8) is))

@@ -1,4 +1,4 @@
-use Rattle.std.proofs.Common.{refl, subst, ◌∙◌, arith}
+use Rattle.std.proofs.Common.{refl, arith}
 use Rattle.std.specs.Prelude.{IsUtf8}
 use Rattle.std.proofs.lemmas.Option.{slice_get_read}
 use Rattle.sql_reader.specs.Canonical.{canonical_text}
@@ -7,8 +7,8 @@ use Rattle.scenario_nodes.proofs.Framable.{framable, readable}
 use Rattle.scenario_nodes.proofs.Passes.{before_all, before_more, placed}
 use Rattle.scenario_nodes.proofs.types.tell_stmts.Goals as goal
 
-pub write_stmt-requires : goal.write_stmt-requires
-write_stmt-requires c =
+pub tell_stmt-requires : goal.tell_stmt-requires
+tell_stmt-requires c =
     readable c.stmt-item.result (placed IsRead c.args.stmts.now c.loop-stmt.stmt-index c.stmt-item.result
     (slice_get_read c.args.stmts.now _ c.loop-stmt.stmt-index _ refl c.loop-stmt-test.true c.stmt-item.is) c.requires.each)
 
@@ -16,7 +16,7 @@ pub loop-stmt-preserved : goal.loop-stmt-preserved
 loop-stmt-preserved c =
     before_more (λ s. IsUtf8 (canonical_text s)) c.args.stmts.now c.loop-stmt.stmt-index c.stmt-item.result
     (slice_get_read c.args.stmts.now _ c.loop-stmt.stmt-index _ refl c.loop-stmt-test.true c.stmt-item.is)
-    (subst IsUtf8 (c.as_str-text.ensures.value ∙ c.in_ok-text.ensures.text) c.as_str-text.utf8) c.loop-stmt.invariant
+    c.in_ok-tell_stmt.ensures c.loop-stmt.invariant
 
 pub returns : goal.returns
 returns c = framable c.args.stmts.now c.requires (before_all (λ s. IsUtf8 (canonical_text s)) c.args.stmts.now c.loop-stmt.stmt-index (omega arith) c.loop-stmt.invariant)
