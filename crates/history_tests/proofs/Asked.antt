@@ -18,7 +18,7 @@ use Rattle.byte_fields.specs.Parts.{FitsXid}
 use Rattle.durable_records.specs.SessionOrder.{is_counted}
 use Rattle.frame_codec.specs.Limits.{AreKeysWithin, IsKeyWithin}
 use Rattle.coordinator_core.specs.Serving.{ServesInput}
-use Rattle.history_tests.specs.Served.{asked_key, asked_rows}
+use Rattle.history_tests.specs.Served.{IsAsked, asked_key, asked_rows}
 
 key_fits : FitsKey asked_key
 key_fits = record {
@@ -42,6 +42,12 @@ none_fit = record { count = omega arith; each = All-nil FitsKey; order = tt }
 none_within : AreKeysWithin []
 none_within = record { count = omega arith; each = All-nil IsKeyWithin }
 
+pub rows_asked : (rows : List RowKey) → rows ≡ asked_rows → IsAsked rows
+rows_asked rows e = subst IsAsked (sym e) (record { fits = rows_fit; within = rows_within; numbers = refl })
+
+pub none_asked : (rows : List RowKey) → rows ≡ [] → IsAsked rows
+none_asked rows e = subst IsAsked (sym e) (record { fits = none_fit; within = none_within; numbers = refl })
+
 counted : (manager : ℕ) → 1 ≤ manager → manager ≤ 2 → is_counted 2 manager ≡ true
 counted manager low high = grind (arith, nat_tests, low, high)
 
@@ -51,17 +57,15 @@ begin_served from manager timeout (low, high) (some, most) = record {
   numbers = counted manager low high;
 }
 
-pub register_served : (from : Place) (xid : Xid) (ticket : Ticket) (kind : BranchKind) (hold check : List RowKey) → FitsXid xid → FitsTicket ticket → hold ≡ asked_rows → check ≡ []
-    → ServesInput 2 1 (input.Message from (message.Register xid 1 1 ticket kind hold check))
-register_served from xid ticket kind hold check fits known held none =
-    subst (λ h. ServesInput 2 1 (input.Message from (message.Register xid 1 1 ticket kind h check))) (sym held)
-    (subst (λ c. ServesInput 2 1 (input.Message from (message.Register xid 1 1 ticket kind asked_rows c))) (sym none) (record {
-      framable = record {
-        layout = (fits, omega arith, omega arith, known, rows_fit, none_fit);
-        limits = ((omega arith, omega arith), (omega arith, omega arith), rows_within, none_within);
-      };
-      numbers = (refl, refl);
-    }))
+pub register_served : (from : Place) (xid : Xid) (call : ℕ) (ticket : Ticket) (kind : BranchKind) (hold check : List RowKey) → FitsXid xid → (1 ≤ call) × (call ≤ 2) → FitsTicket ticket → IsAsked hold → IsAsked check
+    → ServesInput 2 1 (input.Message from (message.Register xid 1 call ticket kind hold check))
+register_served from xid call ticket kind hold check fits (low, high) known held free = record {
+  framable = record {
+    layout = (fits, omega arith, omega (arith, high), known, held.fits, free.fits);
+    limits = ((omega arith, omega arith), (low, omega (arith, high)), held.within, free.within);
+  };
+  numbers = (refl, held.numbers);
+}
 
 pub query_served : (from : Place) (ticket : Ticket) (check : List RowKey) → FitsTicket ticket → check ≡ asked_rows → ServesInput 2 1 (input.Message from (message.LockQuery 1 ticket check))
 query_served from ticket check known asked =

@@ -13,7 +13,8 @@ use std::process::Abort;
 use std::test::Fail;
 
 /// What the coordinator is given: of its one manager's or its one resource's messages the number of the transaction, which is
-/// that of the manager, of the ticket and of the branch too.
+/// that of the manager, of the ticket and of the branch too. `Register` is to hold the row, `Check` to have it free, and
+/// `Second` registers the second call, with ticket 3.
 #[derive(Clone, Copy)]
 enum Given {
     Turn,
@@ -21,6 +22,8 @@ enum Given {
     Commit(u16),
     RollBack(u16),
     Register(u16),
+    Check(u16),
+    Second(u16),
     Query(u16),
     Committed(u16, BranchStatus),
     Rollbacked(u16, BranchStatus),
@@ -214,6 +217,50 @@ const TIMES_OUT: [Row; 12] = [
     (5011, Given::Turn, "1 tc 0 turn | none | -"),
 ];
 
+/// A row that another transaction holds and then rolls back, and what a transaction that rolls back is answered.
+const REGISTERS: [Row; 8] = [
+    (
+        0,
+        Given::Begin(1, 60000),
+        "1 tc 0 turn | begun tc:1 | begun tc:1 to m1",
+    ),
+    (
+        0,
+        Given::Begin(2, 60000),
+        "1 tc 0 turn | begun tc:2 | begun tc:2 to m2",
+    ),
+    (
+        0,
+        Given::Register(1),
+        "1 tc 0 turn | granted tc:1 b1 | granted t1.1 tc:1 b1 to r1",
+    ),
+    (
+        0,
+        Given::Check(2),
+        "1 tc 0 turn | conflict tc:2 r1.acc:1 tc:1 held | conflict t1.2 tc:2 r1.acc:1 tc:1 held to r1",
+    ),
+    (
+        0,
+        Given::RollBack(1),
+        "1 tc 0 turn | decided tc:1 rollback | rollback-status tc:1 4 to m1",
+    ),
+    (
+        0,
+        Given::Check(2),
+        "1 tc 0 turn | conflict tc:2 r1.acc:1 tc:1 rolling | conflict t1.2 tc:2 r1.acc:1 tc:1 rolling to r1",
+    ),
+    (
+        0,
+        Given::Second(1),
+        "1 tc 0 turn | closed tc:1 4 | closed t1.3 tc:1 4 to r1",
+    ),
+    (
+        0,
+        Given::Register(1),
+        "1 tc 0 turn | regranted tc:1 b1 | granted t1.1 tc:1 b1 to r1",
+    ),
+];
+
 /// The line of the coordinator's next step.
 fn line(
     alloc: Global,
@@ -240,6 +287,8 @@ fn input(alloc: Global, given: Given) -> Result<Input, Fail>
         Given::Commit(number) => Ok(served::commit(number)),
         Given::RollBack(number) => Ok(served::roll_back(number)),
         Given::Register(number) => served::register(alloc, number),
+        Given::Check(number) => served::register_check(alloc, number),
+        Given::Second(number) => Ok(served::register_second(alloc, number)),
         Given::Query(number) => served::query(alloc, number),
         Given::Committed(number, status) => Ok(served::committed(number, status)),
         Given::Rollbacked(number, status) => Ok(served::rollbacked(number, status)),
@@ -273,4 +322,9 @@ fn rolls_back(rt: HostRuntime) -> Result<(), Fail> {
 #[test]
 fn times_out(rt: HostRuntime) -> Result<(), Fail> {
     plays(&rt, rt.alloc(), &TIMES_OUT, 0)
+}
+
+#[test]
+fn registers(rt: HostRuntime) -> Result<(), Fail> {
+    plays(&rt, rt.alloc(), &REGISTERS, 2)
 }

@@ -1,4 +1,4 @@
-//! Tests of histories' lines, written and read, and of the coordinator and a manager, over their public calls.
+//! Tests of histories' lines, written and read, and of the coordinator, a resource and a manager, over their public calls.
 #![tactic(auto)]
 
 #[cfg(test)]
@@ -6,12 +6,18 @@ mod branches;
 #[cfg(test)]
 mod coordinator;
 #[cfg(test)]
+mod kept_bytes;
+#[cfg(test)]
 mod lines;
 #[cfg(test)]
 mod manager;
 #[cfg(test)]
 mod reading;
 #[cfg(test)]
+mod resources;
+#[cfg(test)]
 mod served;
 #[cfg(test)]
 mod steps;
+#[cfg(test)]
+mod stops;

@@ -1,18 +1,19 @@
 //! A coordinator on blank disks, of a scenario with two managers and one resource, and what it is given: each number is that
 //! of a transaction, of its manager, of its ticket and of its branch.
 ghost use Rattle.std.specs.Prelude.{◌≡◌, ◌≤◌, [], IfOk};
+ghost use Rattle.disk_model.specs.Disk.{IsSettled};
+ghost use Rattle.disk_model.specs.Memory.{memory_state};
 ghost use Rattle.seata_types.specs.declared.limits.TheConstants.{TICKS};
 ghost use Rattle.coordinator_core.specs.Serving.{ServesInput};
 ghost use Rattle.byte_fields.specs.Layout.{FitsTicket};
 ghost use Rattle.byte_fields.specs.Parts.{FitsBranch, FitsXid};
 ghost use Rattle.seata_types.specs.declared.ids.Place.TheVariants as place;
 ghost use Rattle.seata_types.specs.declared.messages.Input.TheVariants as input;
-ghost use Rattle.history_tests.specs.Served.{Serves, asked_key, asked_rows};
+ghost use Rattle.history_tests.specs.Served.{Serves, IsAsked, asked_key, asked_rows};
 
-use crate::steps::line_of;
+use crate::steps::step_line;
 use coordinator_core::Coordinator;
 use disk_model::{MemDisk, MemShelf, Shelf};
-use history_text::Node;
 use seata_types::limits::TICKS;
 use seata_types::{
     BranchId, BranchKind, BranchStatus, Input, List, Message, NoMemory, Place, RowKey, Text,
@@ -23,7 +24,19 @@ use std::test::Fail;
 
 const NO_MEMORY: &str = "no memory";
 
-/// The coordinator, which asks again after 1000 ticks and forgets nothing.
+/// The coordinator on two disks, which asks again after 1000 ticks and forgets nothing.
+pub fn open_on(alloc: Global, first: MemDisk, second: MemDisk) -> Result<Coordinator<MemDisk>, Fail>
+    requires first { IsSettled (memory_state first) }
+    requires second { IsSettled (memory_state second) }
+    ensures { IfOk result Serves }
+{
+    match Coordinator::open(alloc, first, second, 1000, 0, 2, 1) {
+        Ok(tc) => Ok(tc),
+        Err(_) => Err(Fail::from("not open")),
+    }
+}
+
+/// The coordinator on blank disks.
 pub fn open(alloc: Global) -> Result<Coordinator<MemDisk>, Fail>
     ensures { IfOk result Serves }
 {
@@ -34,10 +47,7 @@ pub fn open(alloc: Global) -> Result<Coordinator<MemDisk>, Fail>
     ) else {
         return Err(Fail::from(NO_MEMORY));
     };
-    match Coordinator::open(alloc, first, second, 1000, 0, 2, 1) {
-        Ok(tc) => Ok(tc),
-        Err(_) => Err(Fail::from("not open")),
-    }
+    open_on(alloc, first, second)
 }
 
 /// The line of its next step.
@@ -51,16 +61,7 @@ pub fn line(
     requires served { ServesInput 2 1 input }
     ensures { Serves tc.new }
 {
-    if tc.is_down() || tc.steps_left() == 0 {
-        return Err(Fail::from("no step is left"));
-    }
-    match tc.step(alloc, input, u64::from(now)) {
-        Ok(step) => match line_of(alloc, Place::Tc, step) {
-            Ok(line) => Ok(line),
-            Err(NoMemory) => Err(Fail::from(NO_MEMORY)),
-        },
-        Err(_) => Err(Fail::from("no step")),
-    }
+    step_line(alloc, tc, input, now)
 }
 
 fn from_manager(number: u16, message: Message) -> Input
@@ -201,22 +202,46 @@ pub fn register(alloc: Global, number: u16) -> Result<Input, Fail>
     ensures { IfOk result (ServesInput 2 1) }
 {
     match row(alloc) {
-        Ok(hold) => Ok(registration(number, hold, no_rows(alloc))),
+        Ok(hold) => Ok(registration(number, number, 1, hold, no_rows(alloc))),
         Err(NoMemory) => Err(Fail::from(NO_MEMORY)),
     }
 }
 
-fn registration(number: u16, hold: List<RowKey>, check: List<RowKey>) -> Input
-    requires hold { hold ≡ asked_rows }
-    requires check { check ≡ [] }
+/// A registration that holds nothing, where the row is to be free.
+pub fn register_check(alloc: Global, number: u16) -> Result<Input, Fail>
+    ensures { IfOk result (ServesInput 2 1) }
+{
+    match row(alloc) {
+        Ok(check) => Ok(registration(number, number, 1, no_rows(alloc), check)),
+        Err(NoMemory) => Err(Fail::from(NO_MEMORY)),
+    }
+}
+
+/// A registration of the transaction's second call, with ticket 3 and without rows.
+pub fn register_second(alloc: Global, number: u16) -> Input
+    ensures { ServesInput 2 1 result }
+{
+    registration(number, 3, 2, no_rows(alloc), no_rows(alloc))
+}
+
+fn registration(
+    number: u16,
+    ticket: u16,
+    call: u16,
+    hold: List<RowKey>,
+    check: List<RowKey>,
+) -> Input
+    requires call { (1 ≤ call) × (call ≤ 2) }
+    requires hold { IsAsked hold }
+    requires check { IsAsked check }
     ensures { ServesInput 2 1 result }
 {
     let xid = xid_of(number);
-    let ticket = ticket_of(number);
+    let ticket = ticket_of(ticket);
     from_resource(Message::Register {
         xid,
         resource: 1,
-        call: 1,
+        call,
         ticket,
         kind: BranchKind::At,
         hold,

@@ -8,4 +8,4 @@ use Rattle.history_tests.proofs.served.registration.Goals as goal
 pub returns : goal.returns
 returns c =
     subst (ServesInput 2 1) (sym c.from_resource.ensures)
-    (register_served (place.Res 1) c.xid_of-xid.result c.ticket_of-ticket.result kind.At c.args.hold c.args.check c.xid_of-xid.ensures c.ticket_of-ticket.ensures c.requires.hold c.requires.check)
+    (register_served (place.Res 1) c.xid_of-xid.result c.args.call c.ticket_of-ticket.result kind.At c.args.hold c.args.check c.xid_of-xid.ensures c.requires.call c.ticket_of-ticket.ensures c.requires.hold c.requires.check)

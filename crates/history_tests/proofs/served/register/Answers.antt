@@ -1,0 +1,8 @@
+use Rattle.history_tests.proofs.Asked.{none_asked, rows_asked}
+use Rattle.history_tests.proofs.served.register.Goals as goal
+
+pub registration-requires-clause-hold : goal.registration-requires-clause-hold
+registration-requires-clause-hold c = rows_asked _ c.in-Ok.ensures
+
+pub registration-requires-clause-check : goal.registration-requires-clause-check
+registration-requires-clause-check c = none_asked _ c.no_rows.ensures
