@@ -230,17 +230,27 @@ fn arm(alloc: Global, resource: &mut Resource<MemDisk>, count: u32) -> Result<bo
     opened
 }
 
+/// Whether a stop failed a call of the disk that it lends.
+fn is_stopped(resource: &mut Resource<MemDisk>) -> bool
+    requires { ServesAll resource.old }
+    ensures { ServesAll resource.new }
+{
+    resource.disk_mut().is_stopped()
+}
+
 /// Whether a resource that is armed has these lines.
 fn has_lines(
     alloc: Global,
     resource: &mut Resource<MemDisk>,
     keeps: bool,
+    fails: bool,
     wanted: [&str; 4],
 ) -> Result<bool, Fail>
     requires { ServesAll resource.old }
 {
     Ok(
         grants(alloc, resource, wanted[0])?
+            && is_stopped(resource) == fails
             && restarts(alloc, resource, keeps, wanted[1])?
             && calls(alloc, resource, 1, wanted[2])?
             && calls(alloc, resource, 2, wanted[3])?,
@@ -250,7 +260,10 @@ fn has_lines(
 /// Whether a resource that is stopped has them.
 fn comes_back(alloc: Global, count: u32, keeps: bool, wanted: [&str; 4]) -> Result<bool, Fail> {
     let mut resource = open(alloc)?;
-    Ok(arm(alloc, &mut resource, count)? && has_lines(alloc, &mut resource, keeps, wanted)?)
+    Ok(
+        arm(alloc, &mut resource, count)?
+            && has_lines(alloc, &mut resource, keeps, count < 4, wanted)?,
+    )
 }
 
 /// The first stop from which a resource doesn't come back so.

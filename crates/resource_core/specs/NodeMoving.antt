@@ -1,8 +1,10 @@
 -- What the calls of a resource as a node do, apart from its steps.
 use Rattle.std.specs.Prelude.{◌≡◌, ◌+◌, ℕ, nat_lt, true, false, if◌then◌else◌, List, Option, Some, None, Result, Ok, Err}
+use Rattle.std.specs.Borrow.{Lends, Fml, RattleType, MutBor}
 use Rattle.disk_model.specs.Disk.{DiskState}
 use Rattle.disk_model.specs.Stop.{state_of}
 use Rattle.disk_model.specs.declared.stoppable.Stoppable.{Stoppable}
+use Rattle.disk_model.specs.contracts.stoppable.Stoppable.{the_row as stoppable_row}
 use Rattle.journal_checkpoint.specs.Images.{Pair}
 use Rattle.seata_types.specs.declared.acts.Act.{Act}
 use Rattle.seata_types.specs.declared.acts.Act.TheVariants as act
@@ -18,8 +20,9 @@ use Rattle.local_txn.specs.Answers.{no_tickets}
 use Rattle.history_text.specs.Durable.{own_faults}
 use Rattle.resource_store.specs.declared.store.Store.{Store}
 use Rattle.resource_store.specs.Meaning.{Setting}
-use Rattle.resource_store.specs.Keeping.{setting_of, known, found_of, is_down as store_is_down, KeepsRecords, Changes, boot_record}
+use Rattle.resource_store.specs.Keeping.{setting_of, known, found_of, is_down as store_is_down, KeepsRecords, Changes, boot_record, with_disk as store_with}
 use Rattle.resource_core.specs.declared.nodes.Resource.{Resource}
+use Rattle.resource_core.specs.contracts.nodes.Resource.{the_row}
 use Rattle.resource_core.specs.Shown.{store_of, pair_of, active_of}
 
 -- all stays but the store
@@ -91,3 +94,13 @@ Boots state kept old new (Err (open_error.Full full)) =
 Boots state kept old new (Err open_error.NoMemory) = new ≡ old
 Boots state kept old new (Err open_error.Failed) = ⊥
 Boots state kept old new (Err (open_error.Damaged second at)) = ⊥
+
+-- ---- a disk that is lent
+
+module _ (D : RattleType) where
+  abbrev pub with_disk : Resource D.Denot → Stoppable D.Denot → Resource D.Denot
+  with_disk r disk = with_store r (store_with (store_of r) disk)
+
+  -- it ends with the last disk behind d as the active one
+  abbrev pub LendsActive : MutBor (Resource D.Denot) → MutBor (Stoppable D.Denot) → Fml
+  LendsActive r d = Lends (the_row D) (stoppable_row D) r d (with_disk r.now)

@@ -38,10 +38,11 @@ fn give_back<D: Disk>(
 
 impl<D: Disk> Resource<D> {
     ghost use Rattle.std.specs.Prelude.{◌≡◌, ◌<◌, ◌≤◌, ◌^◌, true, false, List as Items, IfOk, IfErr};
+    ghost use Rattle.std.specs.Borrow.{sem};
     ghost use Rattle.disk_model.specs.Disk.{IsSettled};
     ghost use Rattle.disk_model.specs.Stop.{below, state_of};
     ghost use Rattle.disk_model.specs.declared.disk.TheConstants.{LAST_PICK};
-    ghost use Rattle.journal_checkpoint.specs.Keeping.{first_disk, second_disk};
+    ghost use Rattle.journal_checkpoint.specs.Keeping.{active_disk, first_disk, second_disk};
     ghost use Rattle.durable_records.specs.declared.resources.ResourceRecord.{ResourceRecord};
     ghost use Rattle.history_rules.specs.Own.{Own};
     ghost use Rattle.history_rules.specs.ResourceMemory.{Setup as RuleSetup, memory};
@@ -49,7 +50,7 @@ impl<D: Disk> Resource<D> {
     ghost use Rattle.resource_store.specs.Keeping.{is_down as store_is_down};
     ghost use Rattle.resource_core.specs.NodeOpening.{IsSetupWithin, IsOpened, HandsBack};
     ghost use Rattle.resource_core.specs.NodeStanding.{StandsOver, IsSound, serves};
-    ghost use Rattle.resource_core.specs.NodeMoving.{kept_of, Misses, Arms, ArmsWith, Boots};
+    ghost use Rattle.resource_core.specs.NodeMoving.{kept_of, Misses, Arms, ArmsWith, Boots, LendsActive};
     ghost use Rattle.resource_core.specs.NodeStepping.{StepsBy, RestartsBy};
     ghost use Rattle.resource_core.specs.Shown.{store_of, stands_at, steps_left, is_down};
 
@@ -116,6 +117,16 @@ impl<D: Disk> Resource<D> {
         ensures { result ≡ found_of (store_of self.now) }
     {
         self.branches.store.found()
+    }
+
+    /// The active disk with its stop, to arm it or to read it; takes no memory. The resource stands for what it stood for only
+    /// where no call changes the images or what a stop lets pass.
+    pub fn disk_mut(&mut self) -> &mut Stoppable<D>
+        ensures* lends { sem 𝓛 (LendsActive D.row self.entry result) }
+        ensures disk { result.now ≡ active_disk (twin (store_of self.old)) }
+    {
+        let branches = &mut self.branches;
+        branches.store.disk_mut()
     }
 
     /// Its two disks, in their order; takes no memory.
