@@ -78,6 +78,15 @@ put_restored rows k row old s was =
     by q true e = was ∙ ap (row_at rows) (same_key k q e)
     by q false e = refl
 
+-- a row that takes the place of the one at its key is put there
+pub put_there : (rows after : Rows) (k : RowKey) (row copy old : Row) → IsMap rows → copy ≡ row → row_at rows k ≡ Some old → after ≡ set_value (is_key k) rows copy → after ≡ put rows k (Some row)
+put_there rows after k row copy old s same was is =
+    let there : IsSome (row_at rows k) = subst (λ (o : Option Row). IsSome o) (sym was) refl in
+    is
+    ∙ ap (set_value (is_key k) rows) same
+    ∙ same_entries (set_value (is_key k) rows row) (put rows k (Some row)) (map_restored rows k (Some row) s) (map_put rows k (Some row) s) (λ q.
+    restored_at rows k q (Some row) s there ∙ sym (row_at_put rows k (Some row) q s))
+
 -- ---- the tables stay sound
 
 sound_sides : (v : Database) (direction : Way) (images : List Image) (rows : Rows) → IsSound v.schema rows → AllByRecursion (IsImageOf v) images → IsSound v.schema (put_all rows (map (side direction) images))

@@ -1,5 +1,5 @@
 //! Images put on the tables, or taken back.
-ghost use Rattle.std.specs.Prelude.{◌≡◌, ◌∷◌, [], map, filter, Some, None, IfOk, OnOk, OnErr};
+ghost use Rattle.std.specs.Prelude.{◌≡◌, ◌∷◌, [], map, filter, Some, None, IfOk, IfErr, OnOk, OnErr};
 ghost use Rattle.std.specs.List.{IsDistinct};
 ghost use Rattle.std.specs.Map.{set_value};
 ghost use Rattle.local_tables.specs.Rows.{IsMap, is_key, key_of, put, put_all, row_at, side};
@@ -10,6 +10,7 @@ use crate::tables::Tables;
 use seata_types::{Duplicate, Image, NoMemory, Row, RowKey};
 use std::alloc::Global;
 use std::collections::BTreeMap;
+use std::mem;
 
 impl Tables {
     ghost use Rattle.std.specs.Prelude.{◌≡◌, OnOk, OnErr};
@@ -56,6 +57,41 @@ fn put_sides(
 
 /// Puts the rows of one side of the images. Without memory all is as before.
 fn put_rows(
+    alloc: Global,
+    rows: &mut BTreeMap<RowKey, Row>,
+    images: &[Image],
+    way: Way,
+) -> Result<(), NoMemory>
+    requires { IsMap rows.old.entries }
+    ensures done { OnOk result (rows.new.entries ≡ put_all rows.old.entries (filter puts (map (side way) images.now))) }
+    ensures failed { OnErr result (rows.new.entries ≡ rows.old.entries) }
+{
+    // Most calls touch one row, for which nothing has to be kept.
+    match images {
+        [image] => put_alone(alloc, rows, image, way),
+        _ => put_several(alloc, rows, images, way),
+    }
+}
+
+/// Puts the row of one side of an image, if it has one there. Without memory all is as before.
+fn put_alone(
+    alloc: Global,
+    rows: &mut BTreeMap<RowKey, Row>,
+    image: &Image,
+    way: Way,
+) -> Result<(), NoMemory>
+    requires { IsMap rows.old.entries }
+    ensures done { OnOk result (rows.new.entries ≡ put_all rows.old.entries (filter puts (side way image.now ∷ []))) }
+    ensures failed { OnErr result (rows.new.entries ≡ rows.old.entries) }
+{
+    if let Some(row) = side(image, way) {
+        exchange(alloc, rows, &image.key, row)?;
+    }
+    Ok(())
+}
+
+/// Puts the rows of one side of several images. Without memory all is as before.
+fn put_several(
     alloc: Global,
     rows: &mut BTreeMap<RowKey, Row>,
     images: &[Image],
@@ -135,9 +171,30 @@ fn exchange(
     ensures failed { OnErr result (rows.new.entries ≡ rows.old.entries) }
     ensures in_order { IsMap rows.new.entries }
 {
-    let (key, row) = (key.copy(alloc)?, row.copy(alloc)?);
-    let old = rows.insert(key, row).map_err(|_| NoMemory)?;
-    Ok(old)
+    let row = row.copy(alloc)?;
+    // A key that stands there already isn't copied.
+    match exchange_there(rows, key, row) {
+        Ok(old) => Ok(Some(old)),
+        Err(row) => {
+            let key = key.copy(alloc)?;
+            let old = rows.insert(key, row).map_err(|_| NoMemory)?;
+            Ok(old)
+        }
+    }
+}
+
+/// Puts a row in the place of the one at a key: the one that stood there, or the row that came where none did. Takes no
+/// memory.
+fn exchange_there(rows: &mut BTreeMap<RowKey, Row>, key: &RowKey, row: Row) -> Result<Row, Row>
+    ensures old { IfOk result (λ old. row_at rows.old.entries key.now ≡ Some old) }
+    ensures done { OnOk result (rows.new.entries ≡ set_value (is_key key.now) rows.old.entries row) }
+    ensures back { IfErr result (λ back. back ≡ row) }
+    ensures same { OnErr result (rows.new.entries ≡ rows.old.entries) }
+{
+    match rows.get_mut(key) {
+        Some(place) => Ok(mem::replace(place, row)),
+        None => Err(row),
+    }
 }
 
 /// Takes the row at a key away; takes no memory.

@@ -1,7 +1,7 @@
 use Rattle.std.proofs.Common.{◌≡◌, drop, map, filter}
 use Rattle.local_tables.specs.Rows.{IsMap, put_all, side}
 use Rattle.local_tables.specs.Sound.{given_back, kept_at, puts}
-use Rattle.local_tables.proofs.applying.put_rows.Given as goal
+use Rattle.local_tables.proofs.applying.put_several.Given as goal
 
 abbrev pub invariant-loop-image : goal.invariant-loop-image
 invariant-loop-image l = record {
