@@ -44,6 +44,18 @@ pub trait StateMachine {
         ensures ok { OnOk result (memory.new ≡ (meaning self.now).after item.now memory.old) }
         ensures err { OnErr result (memory.new ≡ memory.old) };
 
+    /// Takes in a record that may come and is of no more use. After want of memory all is as before.
+    fn take(
+        &self,
+        alloc: Global,
+        memory: &mut Self::Memory,
+        item: Self::Record,
+    ) -> Result<(), NoMemory>
+        requires allowed { (meaning self.now).may_come memory.old item ≡ true }
+        requires room { (meaning self.now).acts memory.old + 1 < 2 ^ 32 }
+        ensures ok { OnOk result (memory.new ≡ (meaning self.now).after item memory.old) }
+        ensures err { OnErr result (memory.new ≡ memory.old) };
+
     /// How many records a memory stands for; takes no memory.
     fn acts(&self, memory: &Self::Memory) -> u32
         ensures { result ≡ (meaning self.now).acts memory.now };

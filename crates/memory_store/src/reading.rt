@@ -57,7 +57,7 @@ fn take_in<M: StateMachine>(
     let item = machine.read_record(alloc, body)?;
     let counted = machine.acts(memory) < u32::MAX;
     if counted && machine.allows(memory, &item) {
-        return match machine.apply(alloc, memory, &item) {
+        return match machine.take(alloc, memory, item) {
             Ok(()) => Ok(()),
             Err(NoMemory) => Err(ReadError::NoMemory),
         };

@@ -194,6 +194,52 @@ impl<K: Drop, M: StateMachine<Memory = K> + Drop, D: Disk> Store<M, K, D> {
         }
     }
 
+    /// `add` of a record that is of no more use, which the memory keeps without a copy.
+    ///
+    /// `Full` and `NoMemory` come before any call of a disk. After `Failed` the store is down, and is to be restarted; its
+    /// memory then has the record, and the disks may have it.
+    pub fn take(&mut self, alloc: Global, item: M::Record, body: &[u8]) -> Result<(), StoreError>
+        requires up { is_down self.old ≡ false }
+        requires allowed { (M.meaning (machine_of self.old)).may_come (memory_of self.old) item ≡ true }
+        requires is { (M.meaning (machine_of self.old)).record_of body.now ≡ Some item }
+        requires small { length body.now ≤ BODY_BYTES }
+
+        ensures keeps { OnOk result ((found : Found) → Keeps D.state (M.meaning (machine_of self.old)) found self.old →
+            Keeps D.state (M.meaning (machine_of self.old)) (with_record found body.now) self.new) }
+        ensures memory { ChangesMemory (M.meaning (machine_of self.old)) item result self.old self.new }
+
+        // A crash at any moment of the call, however it ends, leaves what was there, with the new record or without.
+        ensures any_moment { (found : Found) → KeepsPair D.state found (twin_of self.old) →
+            LeavesPairs (disks D.state (twin_of self.old)) (disks D.state (twin_of self.new)) (Either found (with_record found body.now)) }
+        // Where a stop lets fewer calls pass than the first write with its sync, no image has the new record.
+        ensures not_begun { (found : Found) → KeepsPair D.state found (twin_of self.old) →
+            (calls : ℕ) → (D.state (active_disk (twin_of self.old))).counts.left ≡ Some calls → calls < 2 →
+            LeavesPairs (disks D.state (twin_of self.old)) (disks D.state (twin_of self.new)) (PairStandsFor found) }
+
+        ensures took { OnOk result (Takes D.state (twin_of self.old) (twin_of self.new)) }
+        ensures failed { result ≡ Err StoreError.Failed → Falls D.state (twin_of self.old) (twin_of self.new) }
+        ensures full { (full : Full) → result ≡ Err (StoreError.Full full) →
+            IsFullFor D.state (length body.now) self.old full ⊎ IsAtEnd (M.meaning (machine_of self.old)) self.old }
+        ensures exact { (found : Found) (full : Full) → Keeps D.state (M.meaning (machine_of self.old)) found self.old →
+            result ≡ Err (StoreError.Full full) → IsFullFor D.state (length body.now) self.old full }
+        ensures room { HasRoomIfTaken D.state (length body.now) result self.old }
+        ensures down { IsTrue (is_down self.new) ↔ (result ≡ Err StoreError.Failed) }
+        ensures machine { machine_of self.new ≡ machine_of self.old }
+        ensures found { found_of self.new ≡ found_of self.old }
+    {
+        if let Err(full) = self.fits(body.len()) {
+            drop(item);
+            return Err(StoreError::Full(full));
+        }
+        if let Err(NoMemory) = self.machine.take(alloc, &mut self.memory, item) {
+            return Err(StoreError::NoMemory);
+        }
+        match self.append(body) {
+            Ok(()) => Ok(()),
+            Err(_) => Err(StoreError::Failed),
+        }
+    }
+
     /// Puts a record on the disks that the memory knows already, by a call of the owner's own: `fits`, then a change through
     /// `memory_mut`, then this. After `Failed` the store is down, and is to be restarted.
     pub fn append(&mut self, body: &[u8]) -> Result<(), Failed>

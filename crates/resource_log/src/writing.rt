@@ -124,12 +124,15 @@ fn put_fields(out: &mut Vec<u8>, item: &ResourceRecord) -> Result<(), NoMemory>
     }
 }
 
+/// Room for the bytes of a record of one row with short values, as most are.
+const SHORT_RECORD: usize = 128;
+
 /// The bytes of a record, in the layout that is written.
 pub fn write_record(alloc: Global, item: &ResourceRecord) -> Result<Vec<u8>, NoMemory>
     requires { FitsRecord item.now }
     ensures { IfOk result (λ bytes. bytes.items ≡ record_bytes item.now) }
 {
-    let mut out = Vec::new(alloc);
+    let mut out = Vec::with_capacity(alloc, SHORT_RECORD).map_err(|_| NoMemory)?;
     put_u8(&mut out, tag(item))?;
     put_fields(&mut out, item)?;
     Ok(out)

@@ -1,19 +1,40 @@
 -- What the parts of a memory are given back, and take in again.
-use Rattle.std.proofs.Common.{◌≡◌, ◌==◌, ◌++◌, ℕ, Bool, true, false, cond, List, ◌∷◌, None, ap, ◌∙◌}
+use Rattle.std.proofs.Common.{◌≡◌, ◌==◌, ◌++◌, ℕ, Bool, true, false, true≢false, cond, List, ◌∷◌, Some, None, Result, Ok, Err, is_err, OnOk, ap, sym, ◌∙◌}
+use Rattle.std.proofs.lemmas.Cmp.{tied_itself}
 use Rattle.std.specs.BTreeMap.{insert_entry}
 use Rattle.std.specs.List.Sorted.{IsStrictlySortedBy}
 use Rattle.std.specs.Map.{lookup, keys_of}
+use Rattle.std.specs.Ordering.{is_eq}
 use Rattle.seata_types.specs.declared.ids.Leg.{Leg}
+use Rattle.seata_types.specs.declared.rows.Image.{Image}
+use Rattle.seata_types.specs.declared.rows.ReadRow.{ReadRow}
 use Rattle.durable_records.specs.Fences.{Fence, leg_cmp, with_fence}
 use Rattle.undo_log.specs.Entries.{Log, IsInOrder, is_leg, order, entry_at, with_entry, without_entry}
 use Rattle.undo_log.specs.declared.records.UndoEntry.{UndoEntry}
 use Rattle.tcc_fence.specs.Meanings.{Fences, fence_at, pair_of, without_fence}
 use Rattle.resource_log.specs.declared.states.FenceItem.{FenceItem}
+use Rattle.resource_memory.specs.Changes.{undo_images, undo_record}
 use Rattle.resource_memory.specs.Known.{Calls, with_call}
 use Rattle.resource_memory.specs.Lookups.{without_call}
 use Rattle.resource_memory.specs.Snapshots.{calls_in}
 use Rattle.resource_memory.proofs.Legs.{pair_total, pair_exact, leg_total, leg_exact}
-use Rattle.resource_memory.proofs.Maps.{remove_insert, remove_none, put_last}
+use Rattle.resource_memory.proofs.Maps.{at_insert, remove_insert, remove_none, put_last}
+
+-- ---- put
+
+-- what holds of a value, where no error came
+pub put_well : {A E : Type 0} (r : Result A E) (P : Type 0) → false ≡ is_err r → OnOk r P → P
+put_well (Ok v) P well p = p
+put_well (Err e) P well p = absurd (true≢false (sym well))
+
+-- an entry that was put is found
+pub entry_put : (log : Log) (leg : Leg) (e : UndoEntry) → entry_at (with_entry log leg e) leg ≡ Some e
+entry_put log leg e = at_insert order leg_total leg_exact log leg e leg ∙ ap (λ o. cond (is_eq o) (Some e) (entry_at log leg)) (tied_itself leg_total leg)
+
+-- the images of an undo record that was put
+pub images_put : (log new : Log) (leg : Leg) (call : ℕ) (images : List Image) (reads : List ReadRow) → new ≡ with_entry log leg (undo_record leg call images reads) → undo_images (entry_at new leg) ≡ images
+images_put log new leg call images reads is =
+    ap (λ (l : Log). undo_images (entry_at l leg)) is ∙ ap undo_images (entry_put log leg (undo_record leg call images reads))
 
 -- ---- given back
 

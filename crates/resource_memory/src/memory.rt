@@ -17,7 +17,7 @@ use crate::{fitting, loading, parts, saving};
 use durable_records::ResourceRecord;
 use local_tables::{Schema, Tables, Way};
 use resource_log::{ResourceSnapshot, write_snapshot};
-use seata_types::{BranchId, Image, Leg, List, NoMemory, ReadRow, Row, Text, Xid};
+use seata_types::{BranchId, Duplicate, Image, Leg, List, NoMemory, ReadRow, Row, Text, Xid};
 use std::alloc::Global;
 use std::marker::Model;
 use tcc_fence::{Fence, FenceAnswer, FenceStatus};
@@ -255,7 +255,7 @@ impl Memory {
                 call,
                 images,
                 reads,
-            } => self.commit(alloc, *xid, *branch, *call, images, reads),
+            } => self.commit_copy(alloc, *xid, *branch, *call, images, reads),
             ResourceRecord::Undone { xid, branch } => self.undo(alloc, *xid, *branch),
             ResourceRecord::Marked { xid, branch } => self.mark(*xid, *branch),
             ResourceRecord::Cleared { xid, branch } => self.clear(*xid, *branch),
@@ -296,18 +296,41 @@ impl Memory {
         Ok(())
     }
 
+    /// Takes in one more record that may come, without a copy of a local commit's images. After an error all is as before.
+    pub fn take(&mut self, alloc: Global, item: ResourceRecord) -> Result<(), NoMemory>
+        requires allowed { may_come self.old item ≡ true }
+        requires room { self.old.acts + 1 < 2 ^ 32 }
+        ensures ok { OnOk result (self.new ≡ after item self.old) }
+        ensures err { OnErr result (self.new ≡ self.old) }
+    {
+        match item {
+            ResourceRecord::Committed {
+                xid,
+                branch,
+                call,
+                images,
+                reads,
+            } => self.commit(alloc, xid, branch, call, images, reads),
+            other => {
+                let taken = self.apply(alloc, &other);
+                drop(other);
+                taken
+            }
+        }
+    }
+
     fn commit(
         &mut self,
         alloc: Global,
         xid: Xid,
         branch: BranchId,
         call: u16,
-        images: &List<Image>,
-        reads: &List<ReadRow>,
+        images: List<Image>,
+        reads: List<ReadRow>,
     ) -> Result<(), NoMemory>
-        requires allowed { may_come self.old (log.Committed xid branch call images.now reads.now) ≡ true }
+        requires allowed { may_come self.old (log.Committed xid branch call images reads) ≡ true }
         requires room { self.old.acts + 1 < 2 ^ 32 }
-        ensures ok { OnOk result (self.new ≡ after (log.Committed xid branch call images.now reads.now) self.old) }
+        ensures ok { OnOk result (self.new ≡ after (log.Committed xid branch call images reads) self.old) }
         ensures err { OnErr result (self.new ≡ self.old) }
     {
         let leg = Leg { xid, branch };
@@ -322,6 +345,25 @@ impl Memory {
         )?;
         self.acts += 1;
         Ok(())
+    }
+
+    // `commit` of images and reads that are of use still.
+    fn commit_copy(
+        &mut self,
+        alloc: Global,
+        xid: Xid,
+        branch: BranchId,
+        call: u16,
+        images: &List<Image>,
+        reads: &List<ReadRow>,
+    ) -> Result<(), NoMemory>
+        requires allowed { may_come self.old (log.Committed xid branch call images.now reads.now) ≡ true }
+        requires room { self.old.acts + 1 < 2 ^ 32 }
+        ensures ok { OnOk result (self.new ≡ after (log.Committed xid branch call images.now reads.now) self.old) }
+        ensures err { OnErr result (self.new ≡ self.old) }
+    {
+        let (images, reads) = (images.copy(alloc)?, reads.copy(alloc)?);
+        self.commit(alloc, xid, branch, call, images, reads)
     }
 
     fn undo(&mut self, alloc: Global, xid: Xid, branch: BranchId) -> Result<(), NoMemory>

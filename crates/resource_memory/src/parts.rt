@@ -12,7 +12,7 @@ ghost use Rattle.resource_memory.specs.Known.{with_call};
 
 use crate::tried::TriedCalls;
 use local_tables::{Tables, Way};
-use seata_types::{Duplicate, Image, Leg, List, NoMemory, ReadRow};
+use seata_types::{Image, Leg, List, NoMemory, ReadRow};
 use std::alloc::Global;
 use tcc_fence::{Fence, FenceStatus};
 use undo_log::{UndoEntry, UndoLog, UndoRecord};
@@ -32,24 +32,25 @@ pub(crate) fn commit(
     log: &mut UndoLog,
     leg: Leg,
     call: u16,
-    images: &List<Image>,
-    reads: &List<ReadRow>,
+    images: List<Image>,
+    reads: List<ReadRow>,
 ) -> Result<(), NoMemory>
     requires free { entry_at log.old leg ≡ None }
-    requires fits { AreImagesOf tables.old images.now }
-    ensures tables { OnOk result (tables.new ≡ applied way.Do images.now tables.old) }
-    ensures log { OnOk result (log.new ≡ with_entry log.old leg (undo_record leg call images.now reads.now)) }
+    requires fits { AreImagesOf tables.old images }
+    ensures tables { OnOk result (tables.new ≡ applied way.Do images tables.old) }
+    ensures log { OnOk result (log.new ≡ with_entry log.old leg (undo_record leg call images reads)) }
     ensures same_tables { OnErr result (tables.new ≡ tables.old) }
     ensures same_log { OnErr result (log.new ≡ log.old) }
 {
     let record = UndoRecord {
         leg,
         call,
-        images: images.copy(alloc)?,
-        reads: reads.copy(alloc)?,
+        images,
+        reads,
     };
     enter(log, leg, UndoEntry::Normal(record))?;
-    if tables.apply(alloc, images.as_slice(), Way::Do).is_err() {
+    // The images are put from the record, which has them now.
+    if put_images(alloc, tables, log, leg, Way::Do).is_err() {
         drop(log.remove(leg));
         return Err(NoMemory);
     }
@@ -69,19 +70,25 @@ pub(crate) fn undo(
     ensures same_tables { OnErr result (tables.new ≡ tables.old) }
     ensures same_log { OnErr result (log.new ≡ log.old) }
 {
-    put_back(alloc, tables, log, leg)?;
+    put_images(alloc, tables, log, leg, Way::Undo)?;
     drop(log.remove(leg));
     Ok(())
 }
 
-// Puts the rows of a branch's undo record back.
-fn put_back(alloc: Global, tables: &mut Tables, log: &UndoLog, leg: Leg) -> Result<(), NoMemory>
+// Puts one side of the images of a branch's undo record.
+fn put_images(
+    alloc: Global,
+    tables: &mut Tables,
+    log: &UndoLog,
+    leg: Leg,
+    way: Way,
+) -> Result<(), NoMemory>
     requires fits { AreImagesOf tables.old (undo_images (entry_at log.now leg)) }
-    ensures tables { OnOk result (tables.new ≡ applied way.Undo (undo_images (entry_at log.now leg)) tables.old) }
+    ensures tables { OnOk result (tables.new ≡ applied way (undo_images (entry_at log.now leg)) tables.old) }
     ensures same_tables { OnErr result (tables.new ≡ tables.old) }
 {
     match log.find(leg) {
-        Some(UndoEntry::Normal(record)) => tables.apply(alloc, record.images.as_slice(), Way::Undo),
+        Some(UndoEntry::Normal(record)) => tables.apply(alloc, record.images.as_slice(), way),
         Some(UndoEntry::Finished) => Ok(()),
         None => Ok(()),
     }

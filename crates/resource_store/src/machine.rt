@@ -116,6 +116,15 @@ impl StateMachine for ResourceMachine {
         memory.apply(alloc, item)
     }
 
+    fn take(
+        &self,
+        alloc: Global,
+        memory: &mut Memory,
+        item: ResourceRecord,
+    ) -> Result<(), NoMemory> {
+        memory.take(alloc, item)
+    }
+
     fn acts(&self, memory: &Memory) -> u32 {
         memory.acts()
     }

@@ -191,7 +191,7 @@ impl<D: Disk> Store<D> {
         let Some(number) = self.boot().checked_add(1) else {
             return Err(StoreError::Full(UNCOUNTED));
         };
-        self.make(alloc, &ResourceRecord::Boot { number })
+        self.make(alloc, ResourceRecord::Boot { number })
     }
 
     /// Whether a record may come: what each change asks of what is known, of its branch and of its images and reads. Takes no
@@ -203,15 +203,16 @@ impl<D: Disk> Store<D> {
     }
 
     // Makes a record that may come.
-    fn make(&mut self, alloc: Global, item: &ResourceRecord) -> Result<(), StoreError>
+    fn make(&mut self, alloc: Global, item: ResourceRecord) -> Result<(), StoreError>
         requires up { is_down self.old ≡ false }
-        requires taken { IsTaken item.now self.old }
-        ensures { Changes D.state item.now result self.old self.new }
+        requires taken { IsTaken item self.old }
+        ensures { Changes D.state item result self.old self.new }
     {
-        let Ok(body) = resource_log::write_record(alloc, item) else {
+        let Ok(body) = resource_log::write_record(alloc, &item) else {
+            drop(item);
             return Err(StoreError::NoMemory);
         };
-        self.kept.add(alloc, item, &body)
+        self.kept.take(alloc, item, &body)
     }
 
     /// A branch without an undo record or a marker commits what its open local transaction did.
@@ -233,7 +234,7 @@ impl<D: Disk> Store<D> {
             images,
             reads,
         };
-        self.make(alloc, &item)
+        self.make(alloc, item)
     }
 
     /// The rows of a branch's undo record are put back, and the record is taken out.
@@ -246,7 +247,7 @@ impl<D: Disk> Store<D> {
             xid: leg.xid,
             branch: leg.branch,
         };
-        self.make(alloc, &item)
+        self.make(alloc, item)
     }
 
     /// A branch's undo record is taken out.
@@ -259,7 +260,7 @@ impl<D: Disk> Store<D> {
             xid: leg.xid,
             branch: leg.branch,
         };
-        self.make(alloc, &item)
+        self.make(alloc, item)
     }
 
     /// A branch without an undo record or a marker is marked as rolled back.
@@ -272,7 +273,7 @@ impl<D: Disk> Store<D> {
             xid: leg.xid,
             branch: leg.branch,
         };
-        self.make(alloc, &item)
+        self.make(alloc, item)
     }
 
     /// The Try of a branch without a fence ran for a call, counted from 1.
@@ -293,7 +294,7 @@ impl<D: Disk> Store<D> {
             call,
             images,
         };
-        self.make(alloc, &item)
+        self.make(alloc, item)
     }
 
     /// The Confirm of a tried branch ran.
@@ -312,7 +313,7 @@ impl<D: Disk> Store<D> {
             branch: leg.branch,
             images,
         };
-        self.make(alloc, &item)
+        self.make(alloc, item)
     }
 
     /// The Cancel of a tried branch ran.
@@ -331,7 +332,7 @@ impl<D: Disk> Store<D> {
             branch: leg.branch,
             images,
         };
-        self.make(alloc, &item)
+        self.make(alloc, item)
     }
 
     /// A Cancel came to a branch without a fence, whose Try never runs from now on.
@@ -344,7 +345,7 @@ impl<D: Disk> Store<D> {
             xid: leg.xid,
             branch: leg.branch,
         };
-        self.make(alloc, &item)
+        self.make(alloc, item)
     }
 
     /// A local transaction whose rows no transaction holds committed; they are counted from 1.
@@ -358,7 +359,7 @@ impl<D: Disk> Store<D> {
         requires taken { IsTaken (log.LocalCommitted number images) self.old }
         ensures { Changes D.state (log.LocalCommitted number images) result self.old self.new }
     {
-        self.make(alloc, &ResourceRecord::LocalCommitted { number, images })
+        self.make(alloc, ResourceRecord::LocalCommitted { number, images })
     }
 
     /// A local transaction wrote without asking for the global lock.
@@ -372,7 +373,7 @@ impl<D: Disk> Store<D> {
         requires taken { IsTaken (log.Outside number images) self.old }
         ensures { Changes D.state (log.Outside number images) result self.old self.new }
     {
-        self.make(alloc, &ResourceRecord::Outside { number, images })
+        self.make(alloc, ResourceRecord::Outside { number, images })
     }
 
     /// How often the resource was opened; takes no memory.

@@ -92,6 +92,17 @@ impl StateMachine for SessionMachine {
         uncounted::apply(alloc, memory, item)
     }
 
+    fn take(
+        &self,
+        alloc: Global,
+        memory: &mut Memory,
+        item: SessionRecord,
+    ) -> Result<(), NoMemory> {
+        let taken = uncounted::apply(alloc, memory, &item);
+        drop(item);
+        taken
+    }
+
     fn acts(&self, memory: &Memory) -> u32 {
         memory.snapshot().acts
     }
