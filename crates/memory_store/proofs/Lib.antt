@@ -1,4 +1,5 @@
 pub mod Replaying
+pub mod Adding
 pub mod TwinFacts
 pub mod Damages
 pub mod DiskFacts

@@ -3,4 +3,5 @@ pub mod Holdings
 pub mod Replays
 pub mod Settling
 pub mod Keeping
+pub mod Adding
 pub mod Readings

@@ -30,6 +30,7 @@ impl<K: Drop, M: StateMachine<Memory = K> + Drop, D: Disk> Store<M, K, D> {
     ghost use Rattle.journal_checkpoint.specs.Images.{FailsItself, PairStandsFor, LeavesPairs, Either, with_record};
     ghost use Rattle.journal_checkpoint.specs.Keeping.{KeepsPair, active_disk, first_disk, second_disk, disks};
     ghost use Rattle.memory_store.specs.Settling.{GoesOn, RunsOn, IsNoDamage};
+    ghost use Rattle.memory_store.specs.Adding.{Adds};
     ghost use Rattle.memory_store.specs.Keeping.{machine_of, memory_of, twin_of, found_of, is_down, Keeps, Takes, Falls, IsAtEnd, IsFullFor, HasRoomFor, HasRoomIfTaken, ChangesMemory, IsDamage, IsOf, IsNotFull, IsRead, FindsFirst, ComesUp, IsBack, IsTold, first_after, second_after, LendsMemory, LendsActive};
 
     /// Reads two disks, and changes no byte. The disks come back where it fails: `Damaged` where their bytes hold nothing,
@@ -159,28 +160,7 @@ impl<K: Drop, M: StateMachine<Memory = K> + Drop, D: Disk> Store<M, K, D> {
         requires is { (M.meaning (machine_of self.old)).record_of body.now ≡ Some item.now }
         requires small { length body.now ≤ BODY_BYTES }
 
-        ensures keeps { OnOk result ((found : Found) → Keeps D.state (M.meaning (machine_of self.old)) found self.old →
-            Keeps D.state (M.meaning (machine_of self.old)) (with_record found body.now) self.new) }
-        ensures memory { ChangesMemory (M.meaning (machine_of self.old)) item.now result self.old self.new }
-
-        // A crash at any moment of the call, however it ends, leaves what was there, with the new record or without.
-        ensures any_moment { (found : Found) → KeepsPair D.state found (twin_of self.old) →
-            LeavesPairs (disks D.state (twin_of self.old)) (disks D.state (twin_of self.new)) (Either found (with_record found body.now)) }
-        // Where a stop lets fewer calls pass than the first write with its sync, no image has the new record.
-        ensures not_begun { (found : Found) → KeepsPair D.state found (twin_of self.old) →
-            (calls : ℕ) → (D.state (active_disk (twin_of self.old))).counts.left ≡ Some calls → calls < 2 →
-            LeavesPairs (disks D.state (twin_of self.old)) (disks D.state (twin_of self.new)) (PairStandsFor found) }
-
-        ensures took { OnOk result (Takes D.state (twin_of self.old) (twin_of self.new)) }
-        ensures failed { result ≡ Err StoreError.Failed → Falls D.state (twin_of self.old) (twin_of self.new) }
-        ensures full { (full : Full) → result ≡ Err (StoreError.Full full) →
-            IsFullFor D.state (length body.now) self.old full ⊎ IsAtEnd (M.meaning (machine_of self.old)) self.old }
-        ensures exact { (found : Found) (full : Full) → Keeps D.state (M.meaning (machine_of self.old)) found self.old →
-            result ≡ Err (StoreError.Full full) → IsFullFor D.state (length body.now) self.old full }
-        ensures room { HasRoomIfTaken D.state (length body.now) result self.old }
-        ensures down { IsTrue (is_down self.new) ↔ (result ≡ Err StoreError.Failed) }
-        ensures machine { machine_of self.new ≡ machine_of self.old }
-        ensures found { found_of self.new ≡ found_of self.old }
+        ensures { Adds D.state (M.meaning (machine_of self.old)) item.now body.now result self.old self.new }
     {
         if let Err(full) = self.fits(body.len()) {
             return Err(StoreError::Full(full));
@@ -204,28 +184,7 @@ impl<K: Drop, M: StateMachine<Memory = K> + Drop, D: Disk> Store<M, K, D> {
         requires is { (M.meaning (machine_of self.old)).record_of body.now ≡ Some item }
         requires small { length body.now ≤ BODY_BYTES }
 
-        ensures keeps { OnOk result ((found : Found) → Keeps D.state (M.meaning (machine_of self.old)) found self.old →
-            Keeps D.state (M.meaning (machine_of self.old)) (with_record found body.now) self.new) }
-        ensures memory { ChangesMemory (M.meaning (machine_of self.old)) item result self.old self.new }
-
-        // A crash at any moment of the call, however it ends, leaves what was there, with the new record or without.
-        ensures any_moment { (found : Found) → KeepsPair D.state found (twin_of self.old) →
-            LeavesPairs (disks D.state (twin_of self.old)) (disks D.state (twin_of self.new)) (Either found (with_record found body.now)) }
-        // Where a stop lets fewer calls pass than the first write with its sync, no image has the new record.
-        ensures not_begun { (found : Found) → KeepsPair D.state found (twin_of self.old) →
-            (calls : ℕ) → (D.state (active_disk (twin_of self.old))).counts.left ≡ Some calls → calls < 2 →
-            LeavesPairs (disks D.state (twin_of self.old)) (disks D.state (twin_of self.new)) (PairStandsFor found) }
-
-        ensures took { OnOk result (Takes D.state (twin_of self.old) (twin_of self.new)) }
-        ensures failed { result ≡ Err StoreError.Failed → Falls D.state (twin_of self.old) (twin_of self.new) }
-        ensures full { (full : Full) → result ≡ Err (StoreError.Full full) →
-            IsFullFor D.state (length body.now) self.old full ⊎ IsAtEnd (M.meaning (machine_of self.old)) self.old }
-        ensures exact { (found : Found) (full : Full) → Keeps D.state (M.meaning (machine_of self.old)) found self.old →
-            result ≡ Err (StoreError.Full full) → IsFullFor D.state (length body.now) self.old full }
-        ensures room { HasRoomIfTaken D.state (length body.now) result self.old }
-        ensures down { IsTrue (is_down self.new) ↔ (result ≡ Err StoreError.Failed) }
-        ensures machine { machine_of self.new ≡ machine_of self.old }
-        ensures found { found_of self.new ≡ found_of self.old }
+        ensures { Adds D.state (M.meaning (machine_of self.old)) item body.now result self.old self.new }
     {
         if let Err(full) = self.fits(body.len()) {
             drop(item);

@@ -1,25 +1,18 @@
-use Rattle.std.proofs.Common.{inl, ap, ◌∙◌, sym}
-use Rattle.journal_checkpoint.proofs.Kept.{kept_pairs}
-use Rattle.memory_store.proofs.TwinFacts.{pairs_weaker}
-use Rattle.memory_store.proofs.Replaying.{held_more, may_follow_now, known_is}
+use Rattle.std.proofs.Common.{ap, ◌∙◌}
+use Rattle.std.specs.Prelude.{is_err}
+use Rattle.memory_store.proofs.Adding.{is_full, no_memory, is_added}
 use Rattle.memory_store.proofs.store.Store.take.Goals as goal
 
-pub returns-in-Err-clause-any_moment : goal.returns-in-Err-clause-any_moment
-returns-in-Err-clause-any_moment g c = λ found keeps. pairs_weaker (kept_pairs g.D.Disk.state g.met.D.Disk.lawful found c.args.self.now.twin keeps) (λ a b is. inl is)
+pub returns-in-Err : goal.returns-in-Err
+returns-in-Err g c =
+    is_full g.D.Disk.state g.met.D.Disk.lawful (g.M.StateMachine.meaning c.args.self.now.machine) c.args.item c.args.body.now c.args.self.now c.requires.up c.in-Err.full c.in-Err.ensures.full c.in-Err.ensures.exact
 
-pub returns-in-Err-clause-not_begun : goal.returns-in-Err-clause-not_begun
-returns-in-Err-clause-not_begun g c = λ found keeps calls left few. kept_pairs g.D.Disk.state g.met.D.Disk.lawful found c.args.self.now.twin keeps
+pub returns-in-Err-take : goal.returns-in-Err-take
+returns-in-Err-take g c =
+    no_memory g.D.Disk.state g.met.D.Disk.lawful (g.M.StateMachine.meaning c.args.self.now.machine) c.args.item c.args.body.now c.args.self.now c.requires.up c.take.new.memory c.in-Err-take.ensures.err
 
-pub returns-in-Err-take-clause-any_moment : goal.returns-in-Err-take-clause-any_moment
-returns-in-Err-take-clause-any_moment g c = λ found keeps. pairs_weaker (kept_pairs g.D.Disk.state g.met.D.Disk.lawful found c.args.self.now.twin keeps) (λ a b is. inl is)
-
-pub returns-in-Err-take-clause-not_begun : goal.returns-in-Err-take-clause-not_begun
-returns-in-Err-take-clause-not_begun g c = λ found keeps calls left few. kept_pairs g.D.Disk.state g.met.D.Disk.lawful found c.args.self.now.twin keeps
-
-pub returns-in-Ok-clause-keeps : goal.returns-in-Ok-clause-keeps
-returns-in-Ok-clause-keeps g c = λ found keeps. record {
-  pair = c.in-Ok.ensures.acknowledged found keeps.pair;
-  held = held_more (g.M.StateMachine.meaning c.args.self.now.machine) c.args.self.now.memory c.args.body.now c.args.item c.requires.is
-      (may_follow_now (g.M.StateMachine.meaning c.args.self.now.machine) c.args.self.now.memory c.args.item c.in_default.ensures.room c.requires.allowed) found keeps.held
-      ∙ ap (λ (k : g.row.K.Denot). known_is k) (sym (c.append.ensures.memory ∙ c.in_default-take.ensures.ok));
-}
+pub returns-in-Ok : goal.returns-in-Ok
+returns-in-Ok g c =
+    is_added g.D.Disk.state g.met.D.Disk.lawful (g.M.StateMachine.meaning c.args.self.now.machine) c.args.item c.args.body.now c.args.self.now c.requires.up c.append.new.self
+    c.requires.is c.requires.allowed c.in_default.ensures.room c.in_default.ensures.ok (c.append.ensures.memory ∙ c.in_default-take.ensures.ok) c.in-Ok.ensures.acknowledged
+    c.append.ensures.any_moment c.append.ensures.not_begun c.in-Ok.ensures.took (c.append.ensures.down ∙ ap is_err c.in-Ok.is) c.append.ensures.machine c.append.ensures.found
