@@ -1,12 +1,9 @@
 -- Frames in pieces: frames one behind the other join, and bytes behind them change nothing.
-use Rattle.std.proofs.Common.{◌≡◌, ℕ, zero, suc, ◌+◌, ◌-◌, ◌≤◌, ◌<◌, Bool, true, false, leb, cond, Option, Some, None, List, [], ◌∷◌, ◌++◌, length, take, drop, Result, Ok, Err, refl, sym, ap, subst, ◌∙◌, append_assoc, arith}
-use Rattle.std.specs.Prelude.{◌==◌, slice_range}
-use Rattle.std.proofs.lemmas.List.{take-append-drop, length-append, length-take, length-drop}
+use Rattle.std.proofs.Common.{◌≡◌, ℕ, ◌+◌, ◌<◌, List, [], ◌∷◌, ◌++◌, length, drop, Ok, sym, ap, subst, ◌∙◌, append_assoc, arith}
+use Rattle.std.proofs.lemmas.List.{take-append-drop, length-take}
 use Rattle.std.proofs.lemmas.List.Elements.{All-drop}
 use Rattle.seata_types.specs.declared.messages.Message.{Message}
 use Rattle.byte_fields.specs.Exactness.{AreBytes}
-use Rattle.frame_codec.specs.declared.errors.FrameError.{FrameError}
-use Rattle.frame_codec.specs.declared.errors.FrameError.TheVariants as errors
 use Rattle.frame_codec.specs.declared.framed.Framed.{Framed}
 use Rattle.frame_codec.specs.Frames.{frame_bytes, decoded, BeginsWithFrame}
 use Rattle.frame_codec.specs.Feeding.{FramesIn}

@@ -12,7 +12,6 @@ use Rattle.seata_types.specs.declared.ids.Xid.{Xid}
 use Rattle.seata_types.specs.declared.statements.Stmt.{Stmt}
 use Rattle.seata_types.specs.declared.statements.Work.{Work}
 use Rattle.seata_types.specs.declared.statements.Work.TheVariants as work
-use Rattle.sql_reader.specs.Canonical.{canonical_text}
 use Rattle.seata_types.specs.declared.errors.StmtError.{StmtError}
 use Rattle.seata_types.specs.declared.errors.StmtError.TheVariants as stmt
 use Rattle.seata_types.specs.declared.errors.Why.{Why}

@@ -1,5 +1,5 @@
 -- Each part of a message is read back, and what is read as one stands there.
-use Rattle.std.proofs.Common.{◌≡◌, ℕ, ◌+◌, ◌^◌, ◌<◌, Bool, Some, None, List, [], ◌∷◌, ◌++◌, refl}
+use Rattle.std.proofs.Common.{◌≡◌, ℕ, ◌^◌, ◌<◌, Bool, Some, None, List, [], ◌∷◌, ◌++◌, refl}
 use Rattle.std.specs.Int.{w16, to_be_bytes}
 use Rattle.seata_types.specs.declared.ids.Xid.{Xid}
 use Rattle.seata_types.specs.declared.ids.Ticket.{Ticket}

@@ -1,22 +1,18 @@
 -- Statements and work are read back, and what is read as such stands there.
-use Rattle.std.proofs.Common.{◌≡◌, ℕ, ◌+◌, Bool, true, false, cond, All, IsTrue, Option, Some, None, List, [], ◌∷◌, ◌++◌, length, Result, Ok, Err, refl, sym, ap, subst, ◌∙◌}
-use Rattle.std.specs.Prelude.{nat_eq}
-use lib.Pointwise.{pointwise, bytes_decides}
+use Rattle.std.proofs.Common.{◌≡◌, ℕ, Bool, true, false, cond, IsTrue, Option, Some, None, List, [], ◌∷◌, ◌++◌, Result, Ok, Err, refl, sym, ap, subst}
+use lib.Pointwise.{bytes_decides}
 use Rattle.seata_types.specs.Orders.{same_text}
 use Rattle.seata_types.specs.declared.statements.Stmt.{Stmt}
-use Rattle.seata_types.specs.declared.statements.Action.{Action}
-use Rattle.seata_types.specs.declared.statements.Work.{Work}
 use Rattle.seata_types.specs.declared.statements.Work.TheVariants as work
 use Rattle.sql_reader.specs.declared.errors.SqlError.{SqlError}
 use Rattle.sql_reader.specs.Answer.{reading}
 use Rattle.sql_reader.specs.Readable.{IsReadable}
 use Rattle.sql_reader.specs.Canonical.{canonical_text}
 use Rattle.sql_reader.proofs.ReadBack.{reading_canonical, reading_readable}
-use Rattle.byte_fields.specs.declared.errors.FieldError.TheVariants as errors
 use Rattle.byte_fields.specs.Layout.{any_order, may_come, FitsText, text_bytes}
-use Rattle.byte_fields.specs.Reading.{Position, Reader, gives, text_at, list_at}
-use Rattle.byte_fields.specs.Exactness.{AreBytes, Stands, ReadsExactly}
-use Rattle.byte_fields.proofs.Chains.{ReadsParts, part, last_part, whole, step_ok, ok_is}
+use Rattle.byte_fields.specs.Reading.{Position, text_at, list_at}
+use Rattle.byte_fields.specs.Exactness.{Stands, ReadsExactly}
+use Rattle.byte_fields.proofs.Chains.{ReadsParts, part, last_part, step_ok, ok_is}
 use Rattle.byte_fields.proofs.Texts.{text_exact}
 use Rattle.byte_fields.proofs.KeyLaws.{in_no_order}
 use Rattle.byte_fields.proofs.Sequences.{FollowsExactly, list_exact}

@@ -1,5 +1,5 @@
 -- Messages as fields behind a type code.
-use Rattle.std.specs.Prelude.{ℕ, ◌<◌, ◌^◌, ◌+◌, ◌%◌, Bool, is_some, List, [], ◌∷◌, ◌++◌}
+use Rattle.std.specs.Prelude.{ℕ, ◌<◌, ◌^◌, ◌+◌, ◌%◌, Bool, is_some, List, [], ◌∷◌}
 use Rattle.std.specs.Int.{w16, w64, to_be_bytes}
 use Rattle.seata_types.specs.declared.messages.Message.{Message}
 use Rattle.seata_types.specs.declared.messages.Message.TheVariants as message

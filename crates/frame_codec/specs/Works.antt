@@ -2,7 +2,6 @@
 use Rattle.std.specs.Prelude.{ℕ, ◌<◌, ◌^◌, All, Option, Some, None, List, ◌∷◌, [], ◌++◌, length, Result, Ok, Err, if◌then◌else◌}
 use Rattle.std.specs.Int.{w16}
 use Rattle.seata_types.specs.declared.statements.Stmt.{Stmt}
-use Rattle.seata_types.specs.declared.statements.Action.{Action}
 use Rattle.seata_types.specs.declared.statements.Work.{Work}
 use Rattle.seata_types.specs.declared.statements.Work.TheVariants as work
 use Rattle.seata_types.specs.Orders.{same_text}

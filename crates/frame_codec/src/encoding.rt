@@ -299,13 +299,16 @@ fn put_head(out: &mut Vec<u8>, head: Head) -> Result<(), NoMemory>
     Ok(())
 }
 
+/// Room for the fields of most messages.
+const SHORT_BODY: usize = 64;
+
 /// The one frame of the message with this stamp.
 #[tactic(auto, unfolding(crate::specs::Frames::frame_bytes))]
 pub(crate) fn frame(alloc: Global, message: &Message, stamp: u32) -> Result<Vec<u8>, NoMemory>
     requires { HasFrame message.now stamp }
     ensures { IfOk result (λ bytes. bytes.items ≡ frame_bytes message.now stamp) }
 {
-    let mut body = Vec::new(alloc);
+    let mut body = Vec::with_capacity(alloc, SHORT_BODY).map_err(|_| NoMemory)?;
     put_body(alloc, &mut body, message)?;
     let head = Head {
         magic: MAGIC,
@@ -317,7 +320,7 @@ pub(crate) fn frame(alloc: Global, message: &Message, stamp: u32) -> Result<Vec<
         compressor: 0,
         stamp,
     };
-    let mut bytes = Vec::new(alloc);
+    let mut bytes = Vec::with_capacity(alloc, HEAD_BYTES + body.len()).map_err(|_| NoMemory)?;
     put_head(&mut bytes, head)?;
     bytes.extend_from_slice(&body).map_err(|_| NoMemory)?;
     Ok(bytes)

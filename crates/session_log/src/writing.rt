@@ -123,12 +123,15 @@ fn put_fields(out: &mut Vec<u8>, item: &SessionRecord) -> Result<(), NoMemory>
     }
 }
 
+/// Room for the bytes of most records.
+const SHORT_RECORD: usize = 64;
+
 /// The bytes of a record, in the layout that is written.
 pub fn write_record(alloc: Global, item: &SessionRecord) -> Result<Vec<u8>, NoMemory>
     requires { FitsRecord item.now }
     ensures { IfOk result (λ bytes. bytes.items ≡ record_bytes item.now) }
 {
-    let mut out = Vec::new(alloc);
+    let mut out = Vec::with_capacity(alloc, SHORT_RECORD).map_err(|_| NoMemory)?;
     put_u8(&mut out, tag(item))?;
     put_fields(&mut out, item)?;
     Ok(out)

@@ -1,4 +1,3 @@
-use Rattle.std.proofs.Common.{◌≡◌, refl}
 use Rattle.frame_codec.proofs.FeedLaws.{frames_push, size_some}
 use Rattle.frame_codec.proofs.scanning.next.Goals as goal
 

@@ -1,4 +1,4 @@
-use Rattle.std.proofs.Common.{ℕ, ◌≤◌, ◌+◌, ◌-◌, length, drop}
+use Rattle.std.proofs.Common.{◌≤◌, ◌+◌, ◌-◌, length, drop}
 use Rattle.frame_codec.specs.Feeding.{FramesIn}
 use Rattle.frame_codec.proofs.scanning.scan.Given as goal
 
