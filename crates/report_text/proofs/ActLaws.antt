@@ -1,5 +1,5 @@
 -- The statements of an entry, found by what is printed of it, are those that the rules take.
-use Rattle.std.proofs.Common.{◌≡◌, ◌+◌, ℕ, zero, suc, Bool, true, false, if◌then◌else◌, List, [], slice_get, Option, Some, None, option_map, refl, sym, ap, ◌∙◌, subst, arith}
+use Rattle.std.proofs.Common.{◌≡◌, ◌+◌, ℕ, zero, suc, Bool, true, false, if◌then◌else◌, List, slice_get, Option, Some, None, option_map, refl, sym, ap, ◌∙◌, subst, arith}
 use Rattle.std.specs.Option.{option_and_then}
 use Rattle.seata_types.specs.declared.ids.BranchId.{BranchId}
 use Rattle.seata_types.specs.declared.ids.Place.{Place}
@@ -15,7 +15,6 @@ use Rattle.seata_types.specs.declared.statements.Stmt.{Stmt}
 use Rattle.seata_types.specs.declared.statements.Work.{Work}
 use Rattle.seata_types.specs.declared.statements.Work.TheVariants as work
 use Rattle.seata_types.specs.declared.statuses.BranchKind.{BranchKind}
-use Rattle.local_tables.specs.Calls.{effect}
 use Rattle.local_tables.specs.Rows.{Database}
 use Rattle.local_tables.specs.declared.schemas.Effect.{Effect}
 use Rattle.durable_records.specs.declared.coordinators.SessionRecord.{SessionRecord}

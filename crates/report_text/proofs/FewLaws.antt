@@ -1,5 +1,5 @@
 -- The statements of a scenario that can be run, and of the open tickets that are kept, are no more than an effect is taken of.
-use Rattle.std.proofs.Common.{◌≡◌, ◌==◌, ◌≤◌, ℕ, zero, suc, Bool, true, false, cond, if◌then◌else◌, List, [], ◌∷◌, All, length, slice_get, Option, Some, None, option_map, arith}
+use Rattle.std.proofs.Common.{◌==◌, ◌≤◌, ℕ, zero, suc, Bool, true, false, cond, if◌then◌else◌, List, [], ◌∷◌, All, length, slice_get, Option, Some, None, option_map, arith}
 use Rattle.std.specs.Map.{lookup}
 use Rattle.std.specs.Option.{option_and_then}
 use Rattle.std.specs.Prelude.{IfSome}

@@ -170,11 +170,7 @@ impl ResourceLeft {
         ensures { OnOk result (self.new ≡ with_record made self.old) }
     {
         match made {
-            Some(record) => {
-                let result = add(alloc, &mut self.memory, &record);
-                drop(record);
-                result
-            }
+            Some(record) => add(alloc, &mut self.memory, record),
             None => Ok(()),
         }
     }
@@ -184,9 +180,7 @@ impl ResourceLeft {
         ensures { OnOk result (self.new ≡ booted self.old) }
     {
         let record = self.next_boot();
-        let result = add(alloc, &mut self.memory, &record);
-        drop(record);
-        result
+        add(alloc, &mut self.memory, record)
     }
 
     fn next_boot(&self) -> ResourceRecord
@@ -264,13 +258,14 @@ impl ResourceLeft {
 }
 
 // One more record stands; no legal history has one that may not come.
-fn add(alloc: Global, memory: &mut Memory, record: &ResourceRecord) -> Result<(), NoMemory>
-    ensures { OnOk result (memory.new ≡ known_with record.now memory.old) }
+fn add(alloc: Global, memory: &mut Memory, item: ResourceRecord) -> Result<(), NoMemory>
+    ensures { OnOk result (memory.new ≡ known_with item memory.old) }
 {
-    if memory.acts() == u32::MAX || !memory.allows(record) {
+    if memory.acts() == u32::MAX || !memory.allows(&item) {
+        drop(item);
         return Ok(());
     }
-    memory.apply(alloc, record)
+    memory.take(alloc, item)
 }
 
 // A copy of statements, none of which may be there.

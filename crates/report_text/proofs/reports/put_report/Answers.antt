@@ -1,4 +1,4 @@
-use Rattle.std.proofs.Common.{◌≡◌, ◌++◌, ◌∙◌, string_bytes, sym, ap, subst}
+use Rattle.std.proofs.Common.{◌≡◌, ◌++◌, ◌∙◌, string_bytes, ap, subst}
 use Rattle.report_text.specs.Folds.{FoldedKept}
 use Rattle.report_text.specs.Sections.{text_kept}
 use Rattle.report_text.proofs.PrintedLaws.{text_printed}
