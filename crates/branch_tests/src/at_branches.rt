@@ -135,10 +135,10 @@ fn grant(
     alloc: Global,
     store: &mut Resource,
     txns: &mut LocalTxns,
-    record: &ResourceRecord,
+    item: &ResourceRecord,
     free: &ResourceRecord,
 ) -> Result<Granted, Fail>
-    requires { HasPlace record.now }
+    requires { HasPlace item.now }
 {
     let ResourceRecord::Committed {
         xid,
@@ -146,7 +146,7 @@ fn grant(
         call,
         images,
         reads,
-    } = record
+    } = item
     else {
         return Err(Fail::from("no local commit"));
     };

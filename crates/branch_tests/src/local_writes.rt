@@ -46,14 +46,14 @@ fn is_local_as(
     txn: &OpenTxn,
     number: u16,
     images: &List<Image>,
-    record: &ResourceRecord,
+    item: &ResourceRecord,
 ) -> bool
-    ensures { result ≡ true → IsLocalAs (known store.now) number images.now record.now (open_of txn.now) }
+    ensures { result ≡ true → IsLocalAs (known store.now) number images.now item.now (open_of txn.now) }
 {
     txn.xid.0 == 0
         && txn.call == number
         && are_same(txn.images.as_slice(), images.as_slice())
-        && store.allows(record)
+        && store.allows(item)
 }
 
 /// The answer to a lock query of the ticket that no transaction holds a row: the local transaction of a record commits.
@@ -61,17 +61,17 @@ fn free(
     alloc: Global,
     store: &mut Resource,
     txns: &mut LocalTxns,
-    record: &ResourceRecord,
+    item: &ResourceRecord,
 ) -> Result<Option<u16>, Fail>
-    requires { HasPlace record.now }
+    requires { HasPlace item.now }
 {
-    let ResourceRecord::LocalCommitted { number, images } = record else {
+    let ResourceRecord::LocalCommitted { number, images } = item else {
         return Err(Fail::from("no local transaction"));
     };
     let Some(txn) = txns.find(TICKET) else {
         return Ok(None);
     };
-    if store.is_down() || !is_local_as(store, txn, *number, images, record) {
+    if store.is_down() || !is_local_as(store, txn, *number, images, item) {
         return Err(Fail::from("another one"));
     }
     match local_guard::on_free(alloc, store, txns, TICKET) {
@@ -110,11 +110,11 @@ fn write_as(
     store: &mut Resource,
     txns: &LocalTxns,
     stmts: &[Stmt],
-    record: &ResourceRecord,
+    item: &ResourceRecord,
 ) -> Result<bool, Fail>
-    requires { HasPlace record.now }
+    requires { HasPlace item.now }
 {
-    let ResourceRecord::Outside { number, images } = record else {
+    let ResourceRecord::Outside { number, images } = item else {
         return Err(Fail::from("no outside write"));
     };
     if store.is_down() || !has_images(alloc, store, stmts, images) {

@@ -65,16 +65,16 @@ fn grant(
     alloc: Global,
     store: &mut Resource,
     txns: &mut LocalTxns,
-    record: &ResourceRecord,
+    item: &ResourceRecord,
 ) -> Result<TryAnswer, Fail>
-    requires { HasPlace record.now }
+    requires { HasPlace item.now }
 {
     let ResourceRecord::Tried {
         xid,
         branch,
         call,
         images,
-    } = record
+    } = item
     else {
         return Err(Fail::from("no Try"));
     };
@@ -108,12 +108,12 @@ fn try_call(
     alloc: Global,
     store: &mut Resource,
     action: &Action,
-    record: &ResourceRecord,
+    item: &ResourceRecord,
 ) -> Result<&'static str, Fail>
-    requires { HasPlace record.now }
+    requires { HasPlace item.now }
 {
     let mut txns = LocalTxns::new(alloc, 1);
-    try_as(alloc, store, &mut txns, action, record)
+    try_as(alloc, store, &mut txns, action, item)
 }
 
 fn try_as(
@@ -121,15 +121,15 @@ fn try_as(
     store: &mut Resource,
     txns: &mut LocalTxns,
     action: &Action,
-    record: &ResourceRecord,
+    item: &ResourceRecord,
 ) -> Result<&'static str, Fail>
-    requires place { HasPlace record.now }
+    requires place { HasPlace item.now }
     requires few { txns.old.opened ≤ 100 }
 {
     if prepare(alloc, txns, action)? != TICKET {
         return Err(Fail::from("another ticket"));
     }
-    let answer = grant(alloc, store, txns, record)?;
+    let answer = grant(alloc, store, txns, item)?;
     Ok(word_of_try(&answer))
 }
 
@@ -148,15 +148,15 @@ fn confirm_as(
     alloc: Global,
     store: &mut Resource,
     action: &Action,
-    record: &ResourceRecord,
+    item: &ResourceRecord,
 ) -> Result<&'static str, Fail>
-    requires { HasPlace record.now }
+    requires { HasPlace item.now }
 {
     let ResourceRecord::Confirmed {
         xid,
         branch,
         images,
-    } = record
+    } = item
     else {
         return Err(Fail::from("no Confirm"));
     };
@@ -178,15 +178,15 @@ fn cancel_as(
     alloc: Global,
     store: &mut Resource,
     action: &Action,
-    record: &ResourceRecord,
+    item: &ResourceRecord,
 ) -> Result<&'static str, Fail>
-    requires { HasPlace record.now }
+    requires { HasPlace item.now }
 {
     let ResourceRecord::Cancelled {
         xid,
         branch,
         images,
-    } = record
+    } = item
     else {
         return Err(Fail::from("no Cancel"));
     };

@@ -278,7 +278,7 @@ module _ (w : World) (past : Past) (ms : List Moment) (next : Past) (numbered : 
     a = e.at n s is
 
     ever_next : (rs : List ResourceRecord) → AllEver tc.records n m rs → AllEver next.sessions n m' rs
-    ever_next rs all u i = backs_next w past ms next numbered c leaves n s is u (all u i)
+    ever_next _ all u i = backs_next w past ms next numbered c leaves n s is u (all u i)
 
     ever_boot : (rs : List ResourceRecord) → AllEver next.sessions n m' rs → AllEver next.sessions n m' (boot_over rs ∷ rs)
     ever_boot rs all u (inl same) = absurd (other same)
@@ -315,7 +315,7 @@ module _ (w : World) (past : Past) (ms : List Moment) (next : Past) (numbered : 
     settled_next x b (inr (k, d)) = inr (rollback_stays x k, done_next on_cancel cancel_closes x b d)
 
   settles_next : (rs : List SessionRecord) → EndsSettled w tc.records (memory_of past ms) rs → EndsSettled w next.sessions (memory_of next []) rs
-  settles_next rs ends x b d =
+  settles_next _ ends x b d =
       let f = ends x b d in record {
         branch = f.branch;
         granted = f.granted;

@@ -220,8 +220,8 @@ module _ (w : World) (past : Past) (names : NamesItsNodes w) (k : ℕ) (settings
 
   last_after : (sent : Option Outgoing) → SentIs settings Free IsManager sent → (before : Option Message) → LastIs settings Free IsManager before
       → LastIs settings Free IsManager (sent_after sent before)
-  last_after None is before last = last
-  last_after (Some out) is before last = is.0
+  last_after None is _ last = last
+  last_after (Some out) is _ last = is.0
 
   -- what it sent last
   last_is : (os : List Own) → Ran (Manager settings) os → LastIs settings Free IsManager (last_sent os)

@@ -112,7 +112,7 @@ chain_allowed w past ms ((before, entries) ∷ rest) chain =
 
 shorter_chain : (w : World) (past : Past) (ms : List Moment) (rest : List (Past × List Moment)) → IsChain w ((past, ms) ∷ rest) → IsChain w rest
 shorter_chain w past ms [] chain = tt
-shorter_chain w past ms ((before, entries) ∷ rest) chain = chain.0
+shorter_chain w past ms (_ ∷ rest) chain = chain.0
 
 pub sessions_of_chains : SessionsOfChains
 sessions_of_chains w [] chain = tt

@@ -96,15 +96,15 @@ module _ (w : World) (past : Past) (n : ℕ) (s : Setup) (is : counted_at w.reso
 
   since : AreNumbered w → Covers w past [] → (before later : List Moment) → Legal w past (later ++ before) → GrantBy (coordinator_left past before) (memory_of past before) before
       → GrantBy (coordinator_left past (later ++ before)) (memory_of past (later ++ before)) (later ++ before)
-  since numbered start before [] legal i = i
-  since numbered start before (m ∷ later) legal i =
-      by_entry w past numbered GrantBy since_keep (later ++ before) m legal (covers w past numbered start (later ++ before) legal.0) (since numbered start before later legal.0 i)
+  since numbered start older [] legal i = i
+  since numbered start older (m ∷ later) legal i =
+      by_entry w past numbered GrantBy since_keep (later ++ older) m legal (covers w past numbered start (later ++ older) legal.0) (since numbered start older later legal.0 i)
 
 -- ---- what is claimed
 
 legal_before : (w : World) (past : Past) (later before : List Moment) → Legal w past (later ++ before) → Legal w past before
-legal_before w past [] before legal = legal
-legal_before w past (m ∷ later) before legal = legal_before w past later before legal.0
+legal_before w past [] older legal = legal
+legal_before w past (m ∷ later) older legal = legal_before w past later older legal.0
 
 module _ (w : World) (past : Past) (numbered : AreNumbered w) (start : Covers w past []) (first : Rows w past []) (later before : List Moment) (legal : Legal w past (later ++ before))
     (n : ℕ) (s : Setup) (is : counted_at w.resources n ≡ Some s) (g : Grant) (at : g.kind ≡ kind.At) (here : g.resource ≡ n) where

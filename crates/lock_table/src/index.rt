@@ -16,6 +16,7 @@ use std::cmp::Ordering;
 // One comparison of two keys, which is a step.
 fn compare<C: Count>(key: &RowKey, other: &RowKey, steps: &mut C) -> Ordering
     ensures order { result ≡ key_cmp key.now other.now }
+    ensures counted { C.count steps.new ≡ (if C.counts then C.count steps.old + 1 else C.count steps.old) }
     ensures cost { C.count steps.new ≤ C.count steps.old + 1 }
 {
     steps.step();

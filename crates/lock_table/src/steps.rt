@@ -1,5 +1,5 @@
 //! How many steps a call took. Counting has no cost when it runs.
-ghost use Rattle.std.specs.Prelude.{◌≡◌, ◌+◌, ◌<◌, ◌≤◌, ℕ};
+ghost use Rattle.std.specs.Prelude.{◌≡◌, ◌+◌, ◌<◌, ℕ, Bool, if◌then◌else◌};
 
 use std::marker::Model;
 use std::sync::ledger::{Blank, Book, Ledger, Share};
@@ -41,16 +41,23 @@ impl<L: Ledger> Steps<L> {
     }
 }
 
-/// What is told of each step.
+/// Who is told of each step.
 pub(crate) trait Count {
     ghost count: { Self → ℕ };
 
+    // whether somebody counts
+    ghost counts: { Bool };
+
     fn step(&mut self)
-        ensures { count self.new ≤ count self.old + 1 };
+        ensures { count self.new ≡ (if counts then count self.old + 1 else count self.old) };
 }
 
 impl<L: Ledger> Count for Steps<L> {
+    ghost use Rattle.std.specs.Prelude.{true};
+
     ghost count = { λ s. s };
+
+    ghost counts = { true };
 
     fn step(&mut self) {
         self.tick();
@@ -62,7 +69,11 @@ impl<L: Ledger> Count for Steps<L> {
 pub(crate) struct Uncounted;
 
 impl Count for Uncounted {
+    ghost use Rattle.std.specs.Prelude.{false};
+
     ghost count = { λ u. 0 };
+
+    ghost counts = { false };
 
     fn step(&mut self) {}
 }

@@ -102,9 +102,9 @@ impl CoordinatorLeft {
         ensures { OnOk result (self.new ≡ with_sessions made self.old) }
     {
         match made {
-            Some(record) => {
-                let result = self.add(alloc, &record);
-                drop(record);
+            Some(item) => {
+                let result = self.add(alloc, &item);
+                drop(item);
                 result
             }
             None => Ok(()),
@@ -112,24 +112,24 @@ impl CoordinatorLeft {
     }
 
     // One more record stands; no legal history has one that may not come.
-    fn add(&mut self, alloc: Global, record: &SessionRecord) -> Result<(), NoMemory>
-        ensures { OnOk result (self.new ≡ with_session record.now self.old) }
+    fn add(&mut self, alloc: Global, item: &SessionRecord) -> Result<(), NoMemory>
+        ensures { OnOk result (self.new ≡ with_session item.now self.old) }
     {
-        if self.memory.snapshot().acts == u32::MAX || !may_come(&self.memory, record) {
+        if self.memory.snapshot().acts == u32::MAX || !may_come(&self.memory, item) {
             return Ok(());
         }
-        apply(alloc, &mut self.memory, record)?;
-        self.count(record)
+        apply(alloc, &mut self.memory, item)?;
+        self.count(item)
     }
 
     // The manager of a transaction, or the call of a branch, is found by its number from now on.
-    fn count(&mut self, record: &SessionRecord) -> Result<(), NoMemory>
-        ensures managers { OnOk result (self.new.managers ≡ with_manager record.now self.old.managers) }
-        ensures calls { OnOk result (self.new.calls ≡ with_call record.now self.old.calls) }
+    fn count(&mut self, item: &SessionRecord) -> Result<(), NoMemory>
+        ensures managers { OnOk result (self.new.managers ≡ with_manager item.now self.old.managers) }
+        ensures calls { OnOk result (self.new.calls ≡ with_call item.now self.old.calls) }
         ensures known { self.new.known ≡ self.old.known }
         ensures flight { self.new.flight ≡ self.old.flight }
     {
-        match record {
+        match item {
             SessionRecord::Begun { manager, .. } => {
                 self.managers.push(*manager).map_err(|_| NoMemory)?;
                 Ok(())
@@ -144,46 +144,46 @@ impl CoordinatorLeft {
 }
 
 // Whether a record may come.
-fn may_come(memory: &Memory, record: &SessionRecord) -> bool
-    ensures { result ≡ may_come memory.now record.now }
+fn may_come(memory: &Memory, item: &SessionRecord) -> bool
+    ensures { result ≡ may_come memory.now item.now }
 {
-    allows_counted::<Brand>(memory, record, Blank::new(1))
+    allows_counted::<Brand>(memory, item, Blank::new(1))
 }
 
-fn allows_counted<L: Ledger>(memory: &Memory, record: &SessionRecord, blank: Blank) -> bool
+fn allows_counted<L: Ledger>(memory: &Memory, item: &SessionRecord, blank: Blank) -> bool
     requires name { blank.name ≡ L.name }
     requires parts { blank.parts ≡ L.parts }
     requires some { 0 < blank.parts }
-    ensures { result ≡ may_come memory.now record.now }
+    ensures { result ≡ may_come memory.now item.now }
 {
     let mut steps = Steps::<L>::new(blank);
-    memory.allows(record, &mut steps)
+    memory.allows(item, &mut steps)
 }
 
 // Takes in a record that may come.
-fn apply(alloc: Global, memory: &mut Memory, record: &SessionRecord) -> Result<(), NoMemory>
-    requires allowed { may_come memory.old record.now ≡ true }
+fn apply(alloc: Global, memory: &mut Memory, item: &SessionRecord) -> Result<(), NoMemory>
+    requires allowed { may_come memory.old item.now ≡ true }
     requires room { memory.old.acts + 1 < 2 ^ 32 }
-    ensures { OnOk result (memory.new ≡ after record.now memory.old) }
+    ensures { OnOk result (memory.new ≡ after item.now memory.old) }
 {
-    apply_counted::<Brand>(alloc, memory, record, Blank::new(1))
+    apply_counted::<Brand>(alloc, memory, item, Blank::new(1))
 }
 
 fn apply_counted<L: Ledger>(
     alloc: Global,
     memory: &mut Memory,
-    record: &SessionRecord,
+    item: &SessionRecord,
     blank: Blank,
 ) -> Result<(), NoMemory>
     requires name { blank.name ≡ L.name }
     requires parts { blank.parts ≡ L.parts }
     requires some { 0 < blank.parts }
-    requires allowed { may_come memory.old record.now ≡ true }
+    requires allowed { may_come memory.old item.now ≡ true }
     requires room { memory.old.acts + 1 < 2 ^ 32 }
-    ensures { OnOk result (memory.new ≡ after record.now memory.old) }
+    ensures { OnOk result (memory.new ≡ after item.now memory.old) }
 {
     let mut steps = Steps::<L>::new(blank);
-    memory.apply(alloc, record, &mut steps)
+    memory.apply(alloc, item, &mut steps)
 }
 
 // The resource that sent the message that a cause delivers.

@@ -249,12 +249,12 @@ fn put_commit_reads(
 /// The lines of the rows that a record's local commit read; none of any other record. Nothing is said where memory ends.
 pub(crate) fn put_reads(
     out: &mut String,
-    record: &Option<ResourceRecord>,
+    made: &Option<ResourceRecord>,
     names: &Names,
 ) -> Result<(), AllocError>
-    ensures { OnOk result (string_bytes out.new ≡ string_bytes out.old ++ reads_text names.now record.now) }
+    ensures { OnOk result (string_bytes out.new ≡ string_bytes out.old ++ reads_text names.now made.now) }
 {
-    match record {
+    match made {
         Some(
             ResourceRecord::Committed {
                 xid,

@@ -7,5 +7,5 @@ use Rattle.branch_tests.proofs.at_branches.grant.Goals as goal
 
 pub on_grant-requires-clause-may : goal.on_grant-requires-clause-may
 on_grant-requires-clause-may c =
-    may_commit (known c.args.store.now).tables _ _ _ _ (open_of c.in-Some.txn.now) _ c.args.record.now c.requires c.in-Committed.is (c.if-not-is_open_as.ensures refl)
+    may_commit (known c.args.store.now).tables _ _ _ _ (open_of c.in-Some.txn.now) _ c.args.item.now c.requires c.in-Committed.is (c.if-not-is_open_as.ensures refl)
     (sym (sym c.find.ensures ∙ ap (λ (o : Option _). option_map open_of (option_copied o)) c.in-Some.is))

@@ -7,5 +7,5 @@ use Rattle.branch_tests.proofs.local_writes.free.Goals as goal
 
 pub on_free-requires-clause-may : goal.on_free-requires-clause-may
 on_free-requires-clause-may c =
-    may_free (known c.args.store.now) _ _ (open_of c.in-Some.txn.now) _ c.args.record.now c.requires c.in-LocalCommitted.is (c.if-not-is_local_as.ensures refl)
+    may_free (known c.args.store.now) _ _ (open_of c.in-Some.txn.now) _ c.args.item.now c.requires c.in-LocalCommitted.is (c.if-not-is_local_as.ensures refl)
     (sym (sym c.find.ensures ∙ ap (λ (o : Option _). option_map open_of (option_copied o)) c.in-Some.is))

@@ -9,4 +9,4 @@ outside-requires-clause-statements c = c.if-not-has_images.ensures.few refl
 
 pub outside-requires-clause-places : goal.outside-requires-clause-places
 outside-requires-clause-places c =
-    has_places (known c.args.store.now).tables c.args.stmts.now (log.Outside c.in-Outside.number) c.in-Outside.images c.args.record.now c.requires c.in-Outside.is (c.if-not-has_images.ensures.same refl)
+    has_places (known c.args.store.now).tables c.args.stmts.now (log.Outside c.in-Outside.number) c.in-Outside.images c.args.item.now c.requires c.in-Outside.is (c.if-not-has_images.ensures.same refl)

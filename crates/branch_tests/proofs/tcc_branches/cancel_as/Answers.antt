@@ -12,4 +12,4 @@ cancel-requires-clause-statements c = subst (λ (ss : List Stmt). length ss ≤ 
 pub cancel-requires-clause-places : goal.cancel-requires-clause-places
 cancel-requires-clause-places c =
     subst (λ (ss : List Stmt). HasPlaces (known c.args.store.now).tables ss (log.Cancelled c.in-Cancelled.xid c.in-Cancelled.branch)) c.as_slice.ensures
-    (has_places (known c.args.store.now).tables _ (log.Cancelled c.in-Cancelled.xid c.in-Cancelled.branch) c.in-Cancelled.images c.args.record.now c.requires c.in-Cancelled.is (c.if-not-has_images.ensures.same refl))
+    (has_places (known c.args.store.now).tables _ (log.Cancelled c.in-Cancelled.xid c.in-Cancelled.branch) c.in-Cancelled.images c.args.item.now c.requires c.in-Cancelled.is (c.if-not-has_images.ensures.same refl))

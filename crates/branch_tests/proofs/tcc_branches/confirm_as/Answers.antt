@@ -12,4 +12,4 @@ confirm-requires-clause-statements c = subst (λ (ss : List Stmt). length ss ≤
 pub confirm-requires-clause-places : goal.confirm-requires-clause-places
 confirm-requires-clause-places c =
     subst (λ (ss : List Stmt). HasPlaces (known c.args.store.now).tables ss (log.Confirmed c.in-Confirmed.xid c.in-Confirmed.branch)) c.as_slice.ensures
-    (has_places (known c.args.store.now).tables _ (log.Confirmed c.in-Confirmed.xid c.in-Confirmed.branch) c.in-Confirmed.images c.args.record.now c.requires c.in-Confirmed.is (c.if-not-has_images.ensures.same refl))
+    (has_places (known c.args.store.now).tables _ (log.Confirmed c.in-Confirmed.xid c.in-Confirmed.branch) c.in-Confirmed.images c.args.item.now c.requires c.in-Confirmed.is (c.if-not-has_images.ensures.same refl))
