@@ -173,6 +173,7 @@ impl<D: Disk> Coordinator<D> {
         requires moment { now ≤ 2 ^ 63 }
         requires served { serves self.old input }
         ensures steps { StepsBy D.state self.old self.new input now result }
+        ensures start { start_of self.new ≡ start_of self.old }
         ensures cost { InputCosts input (held_rows self.old.table) steps.old steps.new }
     {
         let records = self.table.sessions.records();
@@ -193,7 +194,8 @@ impl<D: Disk> Coordinator<D> {
     // A step ended without an answer. Where the disks failed, its act is in flight over so many records.
     fn miss(&mut self, records: u32, error: NodeError)
         requires able { 0 < steps_left self.old }
-        ensures { Misses records error self.old self.new }
+        ensures misses { Misses records error self.old self.new }
+        ensures start { start_of self.new ≡ start_of self.old }
     {
         if let NodeError::Failed { at } = error {
             self.flight = Some(at);

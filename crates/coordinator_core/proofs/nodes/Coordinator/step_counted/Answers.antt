@@ -12,4 +12,4 @@ pub returns-in-Err-clause-steps : goal.returns-in-Err-clause-steps
 returns-in-Err-clause-steps g c =
     let s = c.args.self.now in
     missed_after g.D.Disk.state (stopped g.D.Disk.state g.met.D.Disk.lawful) s c.miss.new.self c.args.input c.args.now c.requires.up c.requires.served
-    (record s { table = c.answer.new.self }) c.records-records.result c.records-records.ensures refl c.in-Err.error c.in-Err.ensures.answers c.miss.ensures
+    (record s { table = c.answer.new.self }) c.records-records.result c.records-records.ensures refl c.in-Err.error c.in-Err.ensures.answers c.miss.ensures.misses
