@@ -20,7 +20,7 @@ use Rattle.history_text.specs.Promises.{Does, StaysItself, own_entry}
 use Rattle.coordinator_core.specs.declared.nodes.Coordinator.{Coordinator}
 use Rattle.coordinator_core.specs.Knowledge.{knowledge, times_in}
 use Rattle.coordinator_core.specs.Moving.{ArmsPair, ArmsSessions, Arms}
-use Rattle.coordinator_core.specs.Standing.{StandsAs, StandsOver, course, pair_of, disks_of, sessions_of, is_down, times_of, serves}
+use Rattle.coordinator_core.specs.Standing.{StandsAs, StandsOver, course, pair_of, disks_of, sessions_of, start_of, is_down, times_of, serves}
 use Rattle.coordinator_core.specs.Stepping.{stands_at}
 use Rattle.coordinator_core.specs.Tracks.{Follows}
 use Rattle.coordinator_core.proofs.Disks.{false_true, Moved, pair_on, same_kind, on_armed, on_crashed}
@@ -153,6 +153,7 @@ module _ {D : Type 0} (state : D → DiskState) where
           same ∙ ap times_in same_knowledge,
           record {
             disks = on_armed state law (sessions_of c) (sessions_of c') past owns s.disks up now calls a.sessions;
+            starts = a.rest.start ∙ s.starts;
             follows = λ e. subst (λ k. Follows k (course past (own_entry (Stopped calls) now (still act.Armed) ∷ owns))) same_knowledge (record { tracks = (s.follows (upon c past owns up s)).tracks });
             fallen = λ e. false_true (sym (upon c past owns up s) ∙ e);
           },
@@ -175,7 +176,7 @@ module _ {D : Type 0} (state : D → DiskState) where
       pub crash_picks : SamePicks (disks_of state c) (disks_of state c')
       crash_picks = same_picks state c c' (remains_fallen (sessions_of c) (sessions_of c') disks opening)
 
-      module _ (times : times_of c ≡ times_of c') (flight : c'.flight ≡ None) (count : c'.records ≡ (known (sessions_of c)).acts) where
+      module _ (times : times_of c ≡ times_of c') (clock : start_of c' ≡ start_of c) (flight : c'.flight ≡ None) (count : c'.records ≡ (known (sessions_of c)).acts) where
         pub crash_does : (now : ℕ) → Does (StandsAs state) c c' Crashed now (still (act.Down None None))
         crash_does now (CoordinatorRole role past) owns (same, s) =
             let keeps = s.disks.keeps (upon c past owns up s) in
@@ -185,6 +186,7 @@ module _ {D : Type 0} (state : D → DiskState) where
                 same ∙ times,
                 record {
                   disks = on_crashed state law (sessions_of c) (sessions_of c') past owns s.disks up now disks opening down;
+                  starts = clock ∙ s.starts;
                   follows = λ e. false_true (sym e);
                   fallen = λ e. record {
                     flight = flight;

@@ -23,9 +23,8 @@ use Rattle.session_store.specs.Standing.{StandsForSessions}
 use Rattle.session_memory.proofs.Small.{and_left, and_right}
 use Rattle.coordinator_core.specs.declared.nodes.Coordinator.{Coordinator}
 use Rattle.coordinator_core.specs.declared.nodes.TheConstants.{NODE_STEPS}
-use Rattle.coordinator_core.specs.Moving.{start_of}
 use Rattle.coordinator_core.specs.Opening.{GoOnAs, HandsBack, IsOpened, IsOpenedDisk}
-use Rattle.coordinator_core.specs.Standing.{StandsOver, pair_of, active_of, sessions_of, is_down, managers, resources}
+use Rattle.coordinator_core.specs.Standing.{StandsOver, pair_of, active_of, sessions_of, start_of, is_down, managers, resources}
 use Rattle.coordinator_core.specs.Starting.{started_on, no_moments, start_in}
 use Rattle.coordinator_core.specs.Tracks.{Tracks, IsSendable, AreSendable}
 use Rattle.coordinator_core.proofs.Disks.{false_true, keeps_images}
@@ -52,7 +51,7 @@ sendable_all managers resources (r ∷ rs) few is = (
 module _ {D : Type 0} (state : D → DiskState) (law : (d : Stoppable D) → IsLawful (state_of state d)) (c : Coordinator D) (rs : List SessionRecord)
     (keeps : KeepsRecords (state_of state) rs (sessions_of c)) (sendable : AreSendable rs) (up : is_down c ≡ false) (unarmed : (active_of state (sessions_of c)).counts.left ≡ None)
     (starts_at : start_of c ≡ start_in (known (sessions_of c))) (moments : c.table.moments ≡ started_on (start_of c) (known (sessions_of c)).sessions no_moments) where
-  pub start_here : start_of c ≡ start rs
+  start_here : start_of c ≡ start rs
   start_here = starts_at ∙ start_is rs (known (sessions_of c)) keeps.knows
 
   pub opened : StandsOver state c rs []
@@ -64,6 +63,7 @@ module _ {D : Type 0} (state : D → DiskState) (law : (d : Stoppable D) → IsL
       images = λ a b first second. inl (keeps_images state law rs (sessions_of c) keeps a b first second);
       counted = omega arith;
     };
+    starts = start_here;
     follows = λ e. record {
       tracks = subst (λ n. Tracks (known (sessions_of c)) c.table.moments rs (λ x. n) (λ x. n)) start_here
           (subst (λ m. Tracks (known (sessions_of c)) m rs (λ x. start_of c) (λ x. start_of c)) (sym moments)
@@ -123,10 +123,9 @@ module _ {D : Type 0} (state : D → DiskState) (law : (d : Stoppable D) → IsL
     unarmed = unarmed_by state (is_second (twin (sessions_of c))) (active_disk (twin (sessions_of c))) (other_disk (twin (sessions_of c)))
         (unarmed_still state first s1 one (first_disk (twin (sessions_of c))) ran1 off1) (unarmed_still state second s2 two (second_disk (twin (sessions_of c))) ran2 off2)
 
-    stands_on : (rs : List SessionRecord) (a b : List ℕ) → StandsForSessions manager_count resource_count rs a b → KeepsRecords (state_of state) rs (sessions_of c) → StandsOver state c rs [] × (start_of c ≡ start rs)
+    stands_on : (rs : List SessionRecord) (a b : List ℕ) → StandsForSessions manager_count resource_count rs a b → KeepsRecords (state_of state) rs (sessions_of c) → StandsOver state c rs []
     stands_on rs a b stands k =
-        let sendable = sendable_all manager_count resource_count rs few stands.list.made.within in
-        (opened state law c rs k sendable up unarmed starts_at moments, start_here state law c rs k sendable up unarmed starts_at moments)
+        opened state law c rs k (sendable_all manager_count resource_count rs few stands.list.made.within) up unarmed starts_at moments
 
     pub is_opened : IsOpened state first second manager_count resource_count c
     is_opened = record {

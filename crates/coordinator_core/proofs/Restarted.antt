@@ -32,7 +32,7 @@ use Rattle.coordinator_core.specs.declared.nodes.Coordinator.{Coordinator}
 use Rattle.coordinator_core.specs.Knowledge.{knowledge, memory}
 use Rattle.coordinator_core.specs.Moving.{ArmsPair, ArmsWith, FallsAgain, SameRest, StartsAgain, kept_of}
 use Rattle.coordinator_core.specs.Serving.{ServesInput}
-use Rattle.coordinator_core.specs.Standing.{StandsAs, StandsOver, OnDisks, IsFallen, StandsForEither, course, pair_of, active_of, disks_of, sessions_of, is_down, times_of, serves, needs, size_of}
+use Rattle.coordinator_core.specs.Standing.{StandsAs, StandsOver, OnDisks, IsFallen, StandsForEither, course, pair_of, active_of, disks_of, sessions_of, start_of, is_down, times_of, serves, needs, size_of}
 use Rattle.coordinator_core.specs.Stepping.{RestartsBy, stands_at}
 use Rattle.coordinator_core.specs.Starting.{started_on, no_moments}
 use Rattle.coordinator_core.specs.Tracks.{Tracks, Follows, AreSendable}
@@ -109,7 +109,7 @@ module _ {D : Type 0} (state : D → DiskState) where
   }
 
   rest_itself : (c : Coordinator D) → SameRest c c
-  rest_itself c = record { retry = refl; forget = refl; flight = refl; records = refl; left = refl }
+  rest_itself c = record { start = refl; retry = refl; forget = refl; flight = refl; records = refl; left = refl }
 
   rest_armed : (calls : Option ℕ) (c c' : Coordinator D) → ArmsWith state calls c c' → SameRest c c'
   rest_armed None c c' same = subst (λ (q : Coordinator D). SameRest c q) (sym same) (rest_itself c)
@@ -162,7 +162,7 @@ module _ {D : Type 0} (state : D → DiskState) (law : (d : Stoppable D) → IsL
       }
 
   -- it starts at this moment with the records that came back
-  module _ (in_time : now < 2 ^ 64) (moments : c'.table.moments ≡ started_on now (known s1).sessions no_moments) where
+  module _ (in_time : now < 2 ^ 64) (moments : c'.table.moments ≡ started_on now (known s1).sessions no_moments) (clock : start_of c' ≡ start_of c) where
     follows_back : (kept : Option Durable) → KeepsRecords (state_of state) (added (kept_part kept left.flight) rs) s1 → AreSendable (added (kept_part kept left.flight) rs)
         → Follows (knowledge c'.table) (course past (entry kept ∷ os))
     follows_back kept k sendable = record {
@@ -174,6 +174,7 @@ module _ {D : Type 0} (state : D → DiskState) (law : (d : Stoppable D) → IsL
         → StandsOver state c' past (entry kept ∷ os)
     stands_back kept k sendable = record {
       disks = on_back kept k;
+      starts = clock ∙ st.starts;
       follows = λ e. follows_back kept k sendable;
       fallen = λ e. false_true e;
     }
@@ -306,6 +307,7 @@ module _ {D : Type 0} (state : D → DiskState) (law : (d : Stoppable D) → IsL
               either_on (sessions_left past owns) (keepable false owns (sessions_left past owns)) from.0 from.1 x y from.4 (s.disks.images from.0 from.1 from.2 from.3);
           counted = omega (arith, s.disks.counted, grown);
         };
+        starts = rest.start ∙ s.starts;
         follows = λ e. false_true (sym e ∙ downos);
         fallen = λ e. let f = s.fallen e in record { flight = rest.flight ∙ f.flight; count = rest.records ∙ f.count; sendable = f.sendable; pending = f.pending };
       }
@@ -375,6 +377,7 @@ module _ {D : Type 0} (state : D → DiskState) (law : (d : Stoppable D) → IsL
 
         then_rest : (x y z : Coordinator D) → SameRest x y → SameRest y z → SameRest x z
         then_rest x y z one two = record {
+          start = two.start ∙ one.start;
           retry = two.retry ∙ one.retry;
           forget = two.forget ∙ one.forget;
           flight = two.flight ∙ one.flight;
@@ -417,6 +420,7 @@ module _ {D : Type 0} (state : D → DiskState) (law : (d : Stoppable D) → IsL
 
           all_rest : SameRest c c'
           all_rest = record {
+            start = last.start ∙ starts_again.rest.start ∙ rest.start;
             retry = last.retry ∙ starts_again.rest.retry ∙ rest.retry;
             forget = last.forget ∙ starts_again.rest.forget ∙ rest.forget;
             flight = last.flight ∙ starts_again.rest.flight ∙ rest.flight;
@@ -456,7 +460,7 @@ module _ {D : Type 0} (state : D → DiskState) (law : (d : Stoppable D) → IsL
 
           comes_back : AreTold (disks_of state c) → Restarts (StandsAs state) (DisksFail (disks_of state c) (disks_of state c')) c c' pick calls now (act.Restarted (kept_of c'))
           comes_back told (CoordinatorRole times past) owns (same, s) =
-              let k = comes state law c c' s1 past owns s down pick now calls (back told.first told.second) opening up (up_grown state true pick (sessions_of c) s1 both) armed (omega (arith, in_time)) moments all_rest.flight all_rest.records in (
+              let k = comes state law c c' s1 past owns s down pick now calls (back told.first told.second) opening up (up_grown state true pick (sessions_of c) s1 both) armed (omega (arith, in_time)) moments all_rest.start all_rest.flight all_rest.records in (
                 false,
                 k.0,
                 happens_back times past owns now pick calls k.0 (kept_of c') (sym s.disks.down ∙ down) k.1,

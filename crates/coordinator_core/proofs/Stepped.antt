@@ -31,7 +31,7 @@ use Rattle.coordinator_core.specs.Knowledge.{Knowledge, knowledge, times_in}
 use Rattle.coordinator_core.specs.Answers.{is_answer, Frames, IsUnanswered, IsCut, IsOver, Puts, AnswersWhere, SameTimes}
 use Rattle.coordinator_core.specs.Moving.{Misses}
 use Rattle.coordinator_core.specs.Serving.{ServesInput}
-use Rattle.coordinator_core.specs.Standing.{StandsAs, StandsOver, OnDisks, course, serves, disks_of, sessions_of, is_down, needs, size_of, times_of}
+use Rattle.coordinator_core.specs.Standing.{StandsAs, StandsOver, OnDisks, course, serves, disks_of, sessions_of, start_of, is_down, needs, size_of, times_of}
 use Rattle.coordinator_core.specs.Tracks.{with_own, rule_answer, Follows, IsSendable, AreSendable}
 use Rattle.coordinator_core.specs.NodeLaws.{on_same}
 use Rattle.coordinator_core.specs.Stepping.{HasRoom, StepsBy}
@@ -130,7 +130,7 @@ happens_up role owns now fault given step up is = rw up (ap (λ (s : Step). writ
 pub times_same : (old new : Knowledge) → SameTimes old new → times_in new ≡ times_in old
 times_same old new s = λ i. record { retry = s.retry i; forget = s.forget i }
 
-module _ {D : Type 0} (state : D → DiskState) (law : (d : Stoppable D) → IsLawful (state_of state d)) (c c' : Coordinator D) (given : Input) (now : ℕ) (up : is_down c ≡ false) (served : serves c given) where
+module _ {D : Type 0} (state : D → DiskState) (law : (d : Stoppable D) → IsLawful (state_of state d)) (c c' : Coordinator D) (given : Input) (now : ℕ) (up : is_down c ≡ false) (served : serves c given) (clock : start_of c' ≡ start_of c) where
   framable : ComesFramable given
   framable = served_framable _ _ given served
 
@@ -174,6 +174,7 @@ module _ {D : Type 0} (state : D → DiskState) (law : (d : Stoppable D) → IsL
             same ∙ sym (times_same (knowledge c.table) (knowledge c'.table) a.0.same),
             record {
               disks = stands_by past owns s taken.1 kind;
+              starts = clock ∙ s.starts;
               follows = λ e. taken.1;
               fallen = λ e. false_true (sym (downs_by past owns s taken.1 kind) ∙ e);
             },
@@ -212,6 +213,7 @@ module _ {D : Type 0} (state : D → DiskState) (law : (d : Stoppable D) → IsL
             same ∙ sym (times_same (knowledge c.table) (knowledge c'.table) i.due.answered.same),
             record {
               disks = on_lost state law (sessions_of c) (sessions_of c') past owns s.disks up given now done i.r i.due.asked i.loses;
+              starts = clock ∙ s.starts;
               follows = λ e. false_true (sym e);
               fallen = λ e. record {
                 flight = flight;
@@ -234,6 +236,7 @@ module _ {D : Type 0} (state : D → DiskState) (law : (d : Stoppable D) → IsL
       same ∙ sym (times_same (knowledge c.table) (knowledge c'.table) u.same),
       record {
         disks = subst (λ q. OnDisks state q past owns) (sym same_sessions) s.disks;
+        starts = clock ∙ s.starts;
         follows = λ e. u.stands (course past owns) (s.follows e);
         fallen = λ e. false_true (sym (upon past owns s) ∙ e);
       },
@@ -297,7 +300,7 @@ MissesOnly records (error.Failed done) old new = (new.flight ≡ Some done) × (
 MissesOnly records (error.Full full) old new = new.left ≡ old.left
 MissesOnly records error.NoMemory old new = new.left ≡ old.left
 
-module _ {D : Type 0} (state : D → DiskState) (law : (d : Stoppable D) → IsLawful (state_of state d)) (c c' : Coordinator D) (given : Input) (now : ℕ) (up : is_down c ≡ false) (served : serves c given) where
+module _ {D : Type 0} (state : D → DiskState) (law : (d : Stoppable D) → IsLawful (state_of state d)) (c c' : Coordinator D) (given : Input) (now : ℕ) (up : is_down c ≡ false) (served : serves c given) (clock : start_of c' ≡ start_of c) where
   -- it is up after an answer
   up_after : (a : Act) → Puts (state_of state) (Given given) now a (sessions_of c) (sessions_of c') → is_down c' ≡ false
   up_after (act.Durable done) p = p.2.up
@@ -307,10 +310,10 @@ module _ {D : Type 0} (state : D → DiskState) (law : (d : Stoppable D) → IsL
       → StepsBy state c c' given now (Ok step)
   stepped step a f counted =
       let remains = remains_put state (Given given) now step.act (sessions_of c) (sessions_of c') a.1 in record {
-        answers = takes_step state law c c' given now up served step a;
+        answers = takes_step state law c c' given now up served clock step a;
         framable = f;
         after = tt;
-        room = room_taken state law c c' given now up served step a;
+        room = room_taken state law c c' given now up served clock step a;
         same = stays_itself state c c' remains;
         picks = same_picks state c c' remains;
         counted = counted;
@@ -324,8 +327,8 @@ module _ {D : Type 0} (state : D → DiskState) (law : (d : Stoppable D) → IsL
       let remains = remains_lost state i.r (sessions_of c) (sessions_of c') i.loses in record {
         answers = tt;
         framable = λ f. tt;
-        after = fails_at state law c c' given now up served done i m.0 m.1;
-        room = room_cut state law c c' given now up served done i;
+        after = fails_at state law c c' given now up served clock done i m.0 m.1;
+        room = room_cut state law c c' given now up served clock done i;
         same = stays_itself state c c' remains;
         picks = same_picks state c c' remains;
         counted = m.2;
@@ -335,7 +338,7 @@ module _ {D : Type 0} (state : D → DiskState) (law : (d : Stoppable D) → IsL
       let remains = remains_same state (sessions_of c) (sessions_of c') i.sessions in record {
         answers = tt;
         framable = λ f. tt;
-        after = (stands_before state law c c' given now up served i.unanswered i.sessions, overflows state law c c' given now up served full i);
+        after = (stands_before state law c c' given now up served clock i.unanswered i.sessions, overflows state law c c' given now up served clock full i);
         room = tt;
         same = stays_itself state c c' remains;
         picks = same_picks state c c' remains;
@@ -346,7 +349,7 @@ module _ {D : Type 0} (state : D → DiskState) (law : (d : Stoppable D) → IsL
       let remains = remains_same state (sessions_of c) (sessions_of c') i.1 in record {
         answers = tt;
         framable = λ f. tt;
-        after = stands_before state law c c' given now up served i.0 i.1;
+        after = stands_before state law c c' given now up served clock i.0 i.1;
         room = tt;
         same = stays_itself state c c' remains;
         picks = same_picks state c c' remains;

@@ -17,12 +17,8 @@ use Rattle.history_text.specs.Durable.{own_faults}
 use Rattle.coordinator_core.specs.declared.nodes.Coordinator.{Coordinator}
 use Rattle.coordinator_core.specs.contracts.nodes.Coordinator.{the_row}
 use Rattle.coordinator_core.specs.Knowledge.{memory}
-use Rattle.coordinator_core.specs.Standing.{sessions_of, pair_of, active_of, is_down}
+use Rattle.coordinator_core.specs.Standing.{sessions_of, pair_of, active_of, start_of, is_down}
 use Rattle.coordinator_core.specs.Starting.{started_on, no_moments}
-
--- the moment at which its clock starts
-abbrev pub start_of : {D : Type 0} → Coordinator D → ℕ
-start_of c = c.start
 
 -- the act in flight, where its record is on the disks
 abbrev pub kept_of : {D : Type 0} → Coordinator D → Option Durable
@@ -33,7 +29,7 @@ kept_of c = if nat_lt c.records (memory c.table).acts then c.flight else None
 -- the disks failed at an act, which is in flight over so many records; or all is as before
 abbrev pub Misses : {D : Type 0} → (records : ℕ) → NodeError → Coordinator D → Coordinator D → Type 0
 Misses records (error.Failed at) old new =
-    (new.table ≡ old.table) × (new.start ≡ old.start) × (new.flight ≡ Some at) × (new.records ≡ records) × (new.left + 1 ≡ old.left)
+    (new.table ≡ old.table) × (start_of new ≡ start_of old) × (new.flight ≡ Some at) × (new.records ≡ records) × (new.left + 1 ≡ old.left)
 Misses records (error.Full full) old new = new ≡ old
 Misses records error.NoMemory old new = new ≡ old
 
@@ -60,6 +56,7 @@ pub record ArmsSessions {D : Type 0} (state : D → DiskState) (calls : ℕ) (ol
 
 -- all that it keeps beside its transactions and their moments stays
 pub record SameRest {D : Type 0} (old new : Coordinator D) : Type 0 where
+  pub start : start_of new ≡ start_of old
   pub retry : new.table.retry ≡ old.table.retry
   pub forget : new.table.forget ≡ old.table.forget
   pub flight : new.flight ≡ old.flight

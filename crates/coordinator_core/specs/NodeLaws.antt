@@ -77,6 +77,7 @@ module _ {D : Type 0} (state : D → DiskState) where
       → (Follows (knowledge c.table) (course past os) → Follows (knowledge c.table) (course past os')) → StandsOver state c past os → StandsOver state c past os'
   stands_same c past os os' down left calls faults flight follows s = record {
     disks = on_same (sessions_of c) past os os' down left calls faults s.disks;
+    starts = s.starts;
     follows = λ e. follows (s.follows (sym down ∙ e));
     fallen = λ e. let f = s.fallen (sym down ∙ e) in record {
       flight = f.flight ∙ sym flight;

@@ -10,10 +10,8 @@ use Rattle.durable_records.specs.declared.coordinators.SessionRecord.{SessionRec
 use Rattle.session_store.specs.Meaning.{meaning_of}
 use Rattle.session_store.specs.Standing.{StandsForSessions}
 use Rattle.session_store.specs.Keeping.{GoesOnAs, IsNoDamage, store_of, twin}
-use Rattle.history_rules.specs.CoordinatorMemory.{start}
 use Rattle.coordinator_core.specs.declared.nodes.Coordinator.{Coordinator}
 use Rattle.coordinator_core.specs.declared.nodes.TheConstants.{NODE_STEPS}
-use Rattle.coordinator_core.specs.Moving.{start_of}
 use Rattle.coordinator_core.specs.Standing.{StandsOver, is_down, managers, resources, sessions_of, steps_left}
 
 -- what an opening leaves of a disk: its size, what it tells and its last pick; its faults don't become fewer
@@ -30,7 +28,7 @@ GoOnAs managers resources first second now_first now_second =
 pub record IsOpened {D : Type 0} (state : D → DiskState) (first second : D) (manager_count resource_count : ℕ) (c : Coordinator D) : Type 0 where
   -- it stands for no own entry, over each list of records that the bytes stand for
   pub stands : (rs : List SessionRecord) (a b : List ℕ) → present (state first) ≡ Some a → present (state second) ≡ Some b → StandsForSessions manager_count resource_count rs a b
-      → StandsOver state c rs [] × (start_of c ≡ start rs)
+      → StandsOver state c rs []
   -- the first record that it found is the first one there
   pub place : (a b : List ℕ) → present (state first) ≡ Some a → present (state second) ≡ Some b → FindsFirst a b (store_of (sessions_of c))
   pub images : GoOnAs manager_count resource_count (state first) (state second) (state (below (first_disk (twin (sessions_of c))))) (state (below (second_disk (twin (sessions_of c)))))

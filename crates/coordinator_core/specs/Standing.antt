@@ -13,7 +13,7 @@ use Rattle.session_store.specs.declared.sessions.Sessions.{Sessions}
 use Rattle.session_store.specs.Keeping.{managers_of, resources_of, twin, is_down as sessions_down, StandsFor, KeepsRecords}
 use Rattle.history_rules.specs.Own.{Own, Left}
 use Rattle.history_rules.specs.Devices.{calls_left, fault_entries, in_flight, is_down as down_by}
-use Rattle.history_rules.specs.CoordinatorMemory.{Times, sessions_left}
+use Rattle.history_rules.specs.CoordinatorMemory.{Times, sessions_left, start}
 use Rattle.history_rules.specs.Nodes.{Role, Resource, Manager}
 use Rattle.history_rules.specs.Nodes.{Coordinator as CoordinatorRole}
 use Rattle.history_text.specs.Durable.{keepable, own_faults}
@@ -39,6 +39,10 @@ resources c = resources_of (sessions_of c)
 
 abbrev pub serves : {D : Type 0} → Coordinator D → Input → Type 0
 serves c given = ServesInput (managers c) (resources c) given
+
+-- the moment at which its clock starts
+abbrev pub start_of : {D : Type 0} → Coordinator D → ℕ
+start_of c = c.start
 
 -- how many steps it can still make
 abbrev pub steps_left : {D : Type 0} → Coordinator D → ℕ
@@ -95,6 +99,7 @@ pub record IsFallen {D : Type 0} (c : Coordinator D) (past : List SessionRecord)
 -- it is the coordinator of these own entries, over the records that its disks had before
 pub record StandsOver {D : Type 0} (state : D → DiskState) (c : Coordinator D) (past : List SessionRecord) (os : List Own) : Type 0 where
   pub disks : OnDisks state (sessions_of c) past os
+  pub starts : start_of c ≡ start past
   pub follows : down_by os ≡ false → Follows (knowledge c.table) (course past os)
   pub fallen : down_by os ≡ true → IsFallen c past os
 

@@ -49,12 +49,13 @@ impl<D: Disk> Coordinator<D> {
     ghost use Rattle.disk_model.specs.Stop.{below};
     ghost use Rattle.seata_types.specs.declared.limits.TheConstants.{MANAGERS};
     ghost use Rattle.coordinator_core.specs.Opening.{IsOpened, HandsBack};
-    ghost use Rattle.coordinator_core.specs.Standing.{StandsOver, times_of, steps_left, serves, is_down, sessions_of, course, unended_sessions};
+    ghost use Rattle.coordinator_core.specs.Standing.{StandsOver, start_of, times_of, steps_left, serves, is_down, sessions_of, course, unended_sessions};
     ghost use Rattle.coordinator_core.specs.Costs.{held_rows, InputCosts};
-    ghost use Rattle.coordinator_core.specs.Moving.{start_of, kept_of, Misses, Arms, ArmsWith, ComesBack, LendsActive};
+    ghost use Rattle.coordinator_core.specs.Moving.{kept_of, Misses, Arms, ArmsWith, ComesBack, LendsActive};
     ghost use Rattle.coordinator_core.specs.Stepping.{StepsBy, RestartsBy};
     ghost use Rattle.coordinator_core.specs.Tracks.{records};
     ghost use Rattle.history_rules.specs.Own.{Own};
+    ghost use Rattle.history_rules.specs.CoordinatorMemory.{start};
     ghost use Rattle.disk_model.specs.declared.disk.TheConstants.{LAST_PICK};
 
     /// Opens two disks of one size, of the scenario with so many managers and resources. It asks a branch again after `retry`
@@ -118,7 +119,8 @@ impl<D: Disk> Coordinator<D> {
     /// The moment at which its scenario's clock starts, in ticks: the latest at which a transaction began that its disks knew
     /// at the opening, and at most 2^62.
     pub fn start(&self) -> u64
-        ensures { result ≡ start_of self.now }
+        ensures value { result ≡ start_of self.now }
+        ensures told { (past : List SessionRecord) (owns : List Own) → StandsOver D.state self.now past owns → result ≡ start past }
     {
         self.start
     }

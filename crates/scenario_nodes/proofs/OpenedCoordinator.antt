@@ -52,7 +52,7 @@ module _ {D : Type 0} (state : D → DiskState) (s : Scenario) (first second : D
     stands told =
         let (a, is_a) = bytes_of (state first) (sym o.first_disk.rest.kind.tells_images ∙ told.first) in
         let (b, is_b) = bytes_of (state second) (sym o.second_disk.rest.kind.tells_images ∙ told.second) in
-        (sym times, (o.stands [] a b is_a is_b (sessions s.disk (state first) (state second) one two (omega (arith, large)) a b is_a is_b managed served)).0)
+        (sym times, o.stands [] a b is_a is_b (sessions s.disk (state first) (state second) one two (omega (arith, large)) a b is_a is_b managed served))
 
     serves_all : ServesAll managed served c
     serves_all input.Turn may framable = tt

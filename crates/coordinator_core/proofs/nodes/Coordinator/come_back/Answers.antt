@@ -7,7 +7,7 @@ pub returns-in-Ok : goal.returns-in-Ok
 returns-in-Ok g c = record {
   sessions = refl;
   moments = c.in-Ok.ensures ∙ ap (λ (s : Snapshot). started_on c.args.now s.sessions no_moments) c.memory.ensures;
-  rest = record { retry = refl; forget = refl; flight = refl; records = refl; left = refl };
+  rest = record { start = refl; retry = refl; forget = refl; flight = refl; records = refl; left = refl };
 }
 
 pub returns-in-Err : goal.returns-in-Err
@@ -15,5 +15,5 @@ returns-in-Err g c = record {
   disks = c.fall.ensures.disks;
   opening = c.fall.ensures.opening;
   down = c.fall.ensures.down;
-  rest = record { retry = refl; forget = refl; flight = refl; records = refl; left = refl };
+  rest = record { start = refl; retry = refl; forget = refl; flight = refl; records = refl; left = refl };
 }
