@@ -1,4 +1,4 @@
--- The comparisons of keys that a coordinator takes.
+-- The steps that a coordinator takes: comparisons of two keys, and look-ups of a transaction.
 use Rattle.std.specs.Prelude.{ℕ, ◌+◌, ◌*◌, ◌^◌, ◌<◌, ◌≤◌, length}
 use Rattle.seata_types.specs.declared.messages.Input.{Input}
 use Rattle.seata_types.specs.declared.messages.Input.TheVariants as input
@@ -13,8 +13,10 @@ use Rattle.coordinator_core.specs.Knowledge.{memory}
 abbrev pub held_rows : {D : Type 0} → Table D → ℕ
 held_rows t = length (locks (held_in (memory t)))
 
--- the comparisons of keys that a registration takes: for each binary digit of the number of rows that are held or to be
--- held, two for a row to hold and one for a row to check, and three more
+-- the steps that a registration takes: for each binary digit of the number of rows that are held or to be held, two
+-- comparisons for a row to hold and one for a row to check, and three look-ups: the transaction's status, its timeout, and
+-- the status of a row's holder. No step counts how the branch of a repeated call is found, nor what the sessions look up
+-- for themselves as they take a record
 abbrev pub MessageCosts : Message → (rows old new : ℕ) → Type 0
 MessageCosts (message.Register xid resource call ticket kind hold check) rows old new =
     (d : ℕ) → rows + length hold < 2 ^ d → new ≤ old + 3 + (2 * length hold + length check) * d

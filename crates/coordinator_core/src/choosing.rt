@@ -5,7 +5,7 @@ ghost use Rattle.lock_table.specs.Locks.{first_held};
 ghost use Rattle.session_log.specs.Soundness.{is_open_branch};
 ghost use Rattle.session_memory.specs.Lookups.{xid_of};
 ghost use Rattle.session_memory.specs.Changes.{is_begin};
-ghost use Rattle.coordinator_core.specs.Choices.{is_late_entry, is_old_entry, is_unended_entry, is_by, last_open, nobody, has_passed};
+ghost use Rattle.coordinator_core.specs.Choices.{is_late_entry, is_old_entry, is_unended_entry, is_by, last_open, nobody, has_passed, has_passed_in};
 
 use crate::kinds;
 use lock_table::{LockTable, Steps};
@@ -15,11 +15,21 @@ use session_log::{Branch, Session, SessionEntry};
 use std::alloc::Global;
 use std::sync::ledger::Ledger;
 
-/// Whether the timeout of a transaction is over.
-pub(crate) fn has_passed(session: &Session, now: u64) -> bool
+// Whether the timeout of a transaction is over.
+fn has_passed(session: &Session, now: u64) -> bool
     ensures { result ≡ has_passed session.now now }
 {
     now.saturating_sub(session.begun) > session.timeout
+}
+
+/// Whether the timeout of a transaction is over, where it is known.
+pub(crate) fn has_passed_in(found: Option<&Session>, now: u64) -> bool
+    ensures { result ≡ has_passed_in (option_copied found.entry) now }
+{
+    match found {
+        Some(session) => has_passed(session, now),
+        None => false,
+    }
 }
 
 fn is_late(entry: &SessionEntry, now: u64) -> bool

@@ -162,7 +162,8 @@ impl<D: Disk> Coordinator<D> {
         (first.into_inner(), second.into_inner())
     }
 
-    /// Takes a step as `step` does, and counts the comparisons of keys that a registration takes.
+    /// Takes a step as `step` does, and counts the comparisons of keys and the look-ups of transactions that a registration
+    /// takes.
     pub fn step_counted<L: Ledger>(
         &mut self,
         alloc: Global,

@@ -36,7 +36,7 @@ impl<D: Disk> Table<D> {
     ghost use Rattle.history_text.specs.Framing.{SendsFramable};
     ghost use Rattle.coordinator_core.specs.Answers.{Answers, Frames};
 
-    /// Answers a registration.
+    /// Answers a registration. It looks up its transaction's status and its timeout, and the status of one holder of a row.
     pub(crate) fn register<L: Ledger>(
         &mut self,
         alloc: Global,
@@ -58,17 +58,17 @@ impl<D: Disk> Table<D> {
         if let Some(leg) = self.leg(xid, place) {
             return Ok(regranted(place, leg));
         }
-        let status = self.status(xid);
+        let status = self.sessions.status(xid, steps);
         if !kinds::is_begin(status) {
             return Ok(closed(place, xid, status));
         }
-        if self.is_past(xid, now) {
+        if choosing::has_passed_in(self.sessions.find(xid, steps), now) {
             return self.late(alloc, from, xid, place, hold, check, now);
         }
         self.hold(alloc, from, xid, place, hold, check, now, steps)
     }
 
-    // The branch that was registered for this.
+    // The branch that was registered for this, found by its ticket or its call. No step counts that.
     fn leg(&self, xid: Xid, place: RegisterPlace) -> Option<Leg>
         ensures { result ≡ leg_in (memory self.now) xid place }
     {
@@ -109,7 +109,7 @@ impl<D: Disk> Table<D> {
         }
     }
 
-    // The branch is registered where its rows are free.
+    // The branch is registered where its rows are free. Where they aren't, their holder is looked up, once.
     fn hold<L: Ledger>(
         &mut self,
         alloc: Global,
@@ -129,7 +129,7 @@ impl<D: Disk> Table<D> {
         requires timely { has_passed_in (session_in (memory self.old) xid.0) now ≡ false }
         ensures answers { Answers D.state self.old self.new (input.Message from (message.Register xid place.resource place.call place.ticket place.kind hold.now check.now)) now result }
         ensures framable { Frames (input.Message from (message.Register xid place.resource place.call place.ticket place.kind hold.now check.now)) result }
-        ensures cost { TakesAtMost (2 * length hold.now + length check.now) (held_rows self.old + length hold.now) steps.old steps.new }
+        ensures cost { TakesAtMost (2 * length hold.now + length check.now) (held_rows self.old + length hold.now) (steps.old + 1) steps.new }
     {
         let branch = self.sessions.next_branch();
         match self
@@ -137,24 +137,26 @@ impl<D: Disk> Table<D> {
             .register(alloc, xid, place, hold, check, steps)
         {
             Ok(_) => Ok(granted(place, Leg { xid, branch })),
-            Err(error) => self.refuse(alloc, xid, place, branch, error),
+            Err(error) => self.refuse(alloc, xid, place, branch, error, steps),
         }
     }
 
     // Why a branch isn't registered: another transaction holds a row, which is told, or its record isn't made.
-    fn refuse(
+    fn refuse<L: Ledger>(
         &self,
         alloc: Global,
         xid: Xid,
         place: RegisterPlace,
         branch: BranchId,
         error: RegisterError,
+        steps: &mut Steps<L>,
     ) -> Result<Step, NodeError>
-        ensures { Refuses (memory self.now) xid place branch error result }
+        ensures why { Refuses (memory self.now) xid place branch error result }
+        ensures cost { steps.new ≤ steps.old + 1 }
     {
         match error {
             RegisterError::Held { key, by } => {
-                let rolling = kinds::is_rolling(self.status(by));
+                let rolling = kinds::is_rolling(self.sessions.status(by, steps));
                 match conflict(alloc, place, xid, key, by, rolling) {
                     Ok(step) => Ok(step),
                     Err(NoMemory) => Err(NodeError::NoMemory),

@@ -5,6 +5,7 @@ ghost use Rattle.session_memory.specs.Changes.{may_come};
 ghost use Rattle.session_store.specs.Keeping.{managers_of, resources_of, known, is_down, Makes as MakesRecord};
 ghost use Rattle.coordinator_core.specs.Plain.{IsPlain, is_failure, node_error};
 
+use crate::choosing;
 use crate::moments::Moments;
 use disk_model::Disk;
 use durable_records::SessionRecord;
@@ -146,13 +147,10 @@ impl<D: Disk> Table<D> {
     pub(crate) fn is_past(&self, xid: Xid, now: u64) -> bool
         ensures { result ≡ has_passed_in (session_in (memory self.now) xid.0) now }
     {
-        match self.sessions.memory().find(xid) {
-            Some(session) => crate::choosing::has_passed(session, now),
-            None => false,
-        }
+        choosing::has_passed_in(self.sessions.memory().find(xid), now)
     }
 
-    /// Answers an input. A step is a comparison of two keys.
+    /// Answers an input. A step is a comparison of two keys, or a look-up of a transaction.
     pub fn answer<L: Ledger>(
         &mut self,
         alloc: Global,

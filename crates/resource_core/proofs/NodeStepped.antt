@@ -33,7 +33,7 @@ use Rattle.resource_log.specs.Records.{record_bytes}
 use Rattle.resource_memory.specs.Known.{Known}
 use Rattle.resource_store.specs.declared.store.Store.{Store}
 use Rattle.resource_store.specs.Answers.{Does, Leaves, outcome}
-use Rattle.resource_store.specs.Keeping.{Changes, is_down as store_is_down, known, setting_of}
+use Rattle.resource_store.specs.Keeping.{Changes, Makes, HasRoom as HasRecordRoom, is_down as store_is_down, known, setting_of}
 use Rattle.resource_store.specs.Meaning.{IsOf, Opens, Setting}
 use Rattle.record_places.specs.Within.{IsTableWithin}
 use Rattle.resource_core.specs.declared.branches.Branches.{Branches}
@@ -43,7 +43,7 @@ use Rattle.resource_core.specs.Holding.{Holds}
 use Rattle.resource_core.specs.NodeMoving.{Misses}
 use Rattle.resource_core.specs.NodeLaws.{on_same}
 use Rattle.resource_core.specs.NodeStanding.{IsSound, OnDisks, StandsAs, StandsForEither, StandsOver, serves}
-use Rattle.resource_core.specs.NodeStepping.{StepsBy}
+use Rattle.resource_core.specs.NodeStepping.{HasRoom, HadRoom, StepsBy}
 use Rattle.resource_core.specs.Ready.{AreTicketsWithin, HasActionWithin, HasStmtsWithin, IsReady}
 use Rattle.resource_core.specs.Shown.{active_of, disks_of, is_down, needs, pair_of, size_of, stands_at, store_of}
 use Rattle.resource_core.specs.Stepping.{Answers, KeepsSettings, asked_record, made_as}
@@ -107,6 +107,12 @@ quiet_none asked _ e none = refl
 
 no_record : {X : Type 0} (r : ResourceRecord) → None ≡ Some r → X
 no_record r e = absurd cc
+
+no_bytes : {X : Type 0} (bytes : List ℕ) → None ≡ Some bytes → X
+no_bytes bytes e = absurd cc
+
+same_bytes : (a b : List ℕ) → Some a ≡ Some b → a ≡ b
+same_bytes a b e = cc
 
 durable_some : (f : Durable → Option ResourceRecord) (asked : Option ResourceRecord) (a : Act) (r : ResourceRecord) → is_recorded asked a ≡ true → option_and_then f (asked_act a) ≡ Some r → (d : Durable) × (a ≡ act.Durable d)
 durable_some f asked (act.Durable done) r e some = (done, refl)
@@ -292,6 +298,30 @@ module _ {D : Type 0} (state : D → DiskState) (law : (d : Stoppable D) → IsL
   overflows full b' a (Coordinator times past) owns s = absurd s
   overflows full b' a (Manager settings) owns s = absurd s
 
+  -- ---- a record that was taken
+
+  -- the bytes of a record fit where it does
+  room_of : (asked : Option ResourceRecord) (bytes : List ℕ) → ((q : ResourceRecord) → asked ≡ Some q → HasRecordRoom (state_of state) q (store_of r)) → option_map record_bytes asked ≡ Some bytes
+      → needs r (length bytes) ≤ size_of state r
+  room_of None bytes room e = no_bytes bytes e
+  room_of (Some q) bytes room e = subst (λ (b : List ℕ). needs r (length b) ≤ size_of state r) (same_bytes (record_bytes q) bytes e) (room q refl)
+
+  module _ (result : Result Step NodeError) (b' : Branches (Stoppable D)) (a : Answers (state_of state) r.branches b' given result)
+      (fits : (q : ResourceRecord) (rs : List ResourceRecord) → Makes (state_of state) q rs (outcome (made_as result)) (store_of r) b'.store → HasRecordRoom (state_of state) q (store_of r)) where
+    -- what became of the record that was asked for
+    abbrev DoesFor : Option ResourceRecord → Type 0
+    DoesFor o = Does {A = Unit {0}} (state_of state) o (made_as result) (store_of r) b'.store
+
+    -- the record that the rule's answer asks for fits, as whatever record the store makes with this outcome
+    pub has_room : HasRoom state r given now
+    has_room (ResourceRole setup past) owns s bytes e =
+        let m : Memory = memory setup past owns in
+        let h = s.holds (upon setup past owns s) in
+        let does = subst (λ (t : Setup). DoesFor (asked_record t m given)) (sym s.is) (a.steps m h).does in
+        room_of (asked_record setup m given) bytes (λ q some. fits q m.left.records ((subst DoesFor some does).makes m.left.records h.keeps)) e
+    has_room (Coordinator times past) owns s bytes e = absurd s
+    has_room (Manager settings) owns s bytes e = absurd s
+
 -- ---- all that is promised of a step
 
 -- nothing changed for want of room or of memory
@@ -345,6 +375,7 @@ module _ {D : Type 0} (state : D → DiskState) (law : (d : Stoppable D) → IsL
         answers = takes_step state law r r' given now up step a down;
         framable = λ comes. a.frames ready served.1;
         after = tt;
+        room = has_room state law r r' given now up (Ok step) r'.branches a (λ q rs made. made.fits);
         same = stays_itself state r r' a.same.number (λ s. sound) moves.first_kind moves.second_kind;
         picks = same_picks (disks_of state r) (disks_of state r') moves;
         counted = counted;
@@ -352,12 +383,13 @@ module _ {D : Type 0} (state : D → DiskState) (law : (d : Stoppable D) → IsL
       }
 
   -- nothing changed
-  itself : (e : NodeError) → AfterError (StandsAs state) (DisksFail (disks_of state r) (disks_of state r)) (needs r) (size_of state r) r r given now e → steps_of (Err e) ≡ 0 → goes_down (Err e) ≡ false
-      → StepsBy state r r given now (Err e)
-  itself e after none not = record {
+  itself : (e : NodeError) → AfterError (StandsAs state) (DisksFail (disks_of state r) (disks_of state r)) (needs r) (size_of state r) r r given now e → HadRoom state r given now (Err e) → steps_of (Err e) ≡ 0
+      → goes_down (Err e) ≡ false → StepsBy state r r given now (Err e)
+  itself e after room none not = record {
     answers = tt;
     framable = λ f. tt;
     after = after;
+    room = room;
     same = stays_itself state r r refl (λ s. s) (same_kind (disks_of state r).first) (same_kind (disks_of state r).second);
     picks = same_picks (disks_of state r) (disks_of state r) (moved_same (disks_of state r));
     counted = omega (arith, none);
@@ -383,6 +415,7 @@ module _ {D : Type 0} (state : D → DiskState) (law : (d : Stoppable D) → IsL
         answers = tt;
         framable = λ f. tt;
         after = fails_at state law r r' given now up flight a' m.1 m.2 (m.3 ∙ counts);
+        room = has_room state law r r' given now up (Err (error.Failed flight)) r'.branches a' (λ q rs made. made.fits);
         same = stays_itself state r r' a'.same.number (λ s. sound) moves.first_kind moves.second_kind;
         picks = same_picks (disks_of state r) (disks_of state r') moves;
         counted = counted;
@@ -391,8 +424,8 @@ module _ {D : Type 0} (state : D → DiskState) (law : (d : Stoppable D) → IsL
   missed b' r' count counts (error.Full full) a m =
       as_before b' r' (error.Full full) m
       (same_branches r.branches b' (same_store (state_of state) (store_error.Full full) (store_of r) b'.store a.leaves (λ e. absurd cc)) a.tickets a.same)
-      (itself (error.Full full) (λ role owns s. s, overflows state law r r given now up full b' a) refl refl)
+      (itself (error.Full full) (λ role owns s. s, overflows state law r r given now up full b' a) tt refl refl)
   missed b' r' count counts error.NoMemory a m =
       as_before b' r' error.NoMemory m
       (same_branches r.branches b' (same_store (state_of state) store_error.NoMemory (store_of r) b'.store a.leaves (λ e. absurd cc)) a.tickets a.same)
-      (itself error.NoMemory (λ role owns s. s) refl refl)
+      (itself error.NoMemory (λ role owns s. s) tt refl refl)

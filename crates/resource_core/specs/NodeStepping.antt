@@ -1,8 +1,9 @@
 -- What a step and a restart of a resource promise: all that `Node` promises of them.
-use Rattle.std.specs.Prelude.{◌≡◌, ◌+◌, ℕ, List, Option, Result, Err, IfOk, IfErr, OnOk, OnErr}
+use Rattle.std.specs.Prelude.{◌≡◌, ◌+◌, ◌≤◌, ℕ, List, length, Option, Some, Result, Ok, Err, IfOk, IfErr, OnOk, OnErr}
 use Rattle.disk_model.specs.Disk.{DiskState}
 use Rattle.seata_types.specs.declared.acts.Act.{Act}
 use Rattle.seata_types.specs.declared.errors.NodeError.{NodeError}
+use Rattle.seata_types.specs.declared.errors.NodeError.TheVariants as error
 use Rattle.seata_types.specs.declared.errors.OpenError.{OpenError}
 use Rattle.seata_types.specs.declared.errors.OpenError.TheVariants as open_error
 use Rattle.seata_types.specs.declared.messages.Input.{Input}
@@ -11,15 +12,28 @@ use Rattle.history_rules.specs.Own.{Own}
 use Rattle.history_rules.specs.Nodes.{Role}
 use Rattle.history_text.specs.Durable.{SamePicks, HavePick}
 use Rattle.history_text.specs.Framing.{ComesFramable, SendsFramable}
-use Rattle.history_text.specs.Promises.{TakesStep, AfterError, DisksFail, StaysItself, goes_down, steps_of, AreTold, StandsAsBefore, Restarts, IsRestartError, stays_down}
+use Rattle.history_text.specs.Promises.{TakesStep, AfterError, DisksFail, StaysItself, goes_down, steps_of, AreTold, StandsAsBefore, asked_bytes, Restarts, IsRestartError, stays_down}
 use Rattle.resource_core.specs.declared.nodes.Resource.{Resource}
 use Rattle.resource_core.specs.NodeStanding.{StandsAs, serves}
 use Rattle.resource_core.specs.Shown.{stands_at, disks_of, needs, size_of, steps_left, is_down}
+
+-- the record that the rule's answer asks for, if it asks for one, ends within the active disk
+abbrev pub HasRoom : {D : Type 0} → (D → DiskState) → Resource D → Input → ℕ → Type 0
+HasRoom state r given now =
+    (role : Role) (owns : List Own) → StandsAs state r role owns → (bytes : List ℕ) → asked_bytes role owns now given ≡ Some bytes → needs r (length bytes) ≤ size_of state r
+
+-- it had room for the record of a step that was answered, or at which the disks failed
+abbrev pub HadRoom : {D : Type 0} → (D → DiskState) → Resource D → Input → ℕ → Result Step NodeError → Type 0
+HadRoom state r given now (Ok step) = HasRoom state r given now
+HadRoom state r given now (Err (error.Failed flight)) = HasRoom state r given now
+HadRoom state r given now (Err (error.Full full)) = Unit {0}
+HadRoom state r given now (Err error.NoMemory) = Unit {0}
 
 pub record StepsBy {D : Type 0} (state : D → DiskState) (old new : Resource D) (given : Input) (now : ℕ) (result : Result Step NodeError) : Type 0 where
   pub answers : IfOk result (TakesStep (StandsAs state) old new given now)
   pub framable : ComesFramable given → IfOk result SendsFramable
   pub after : IfErr result (AfterError (StandsAs state) (DisksFail (disks_of state old) (disks_of state new)) (needs old) (size_of state old) old new given now)
+  pub room : HadRoom state old given now result
   pub same : StaysItself stands_at serves (disks_of state) old new
   pub picks : SamePicks (disks_of state old) (disks_of state new)
   pub counted : steps_left new + steps_of result ≡ steps_left old
