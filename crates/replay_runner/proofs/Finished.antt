@@ -104,7 +104,6 @@ module _ {D K : Type 0} (state : D → DiskState) (s : Scenario) (r : Run D K) w
         whole = let all = drop_all (singles (items_of s)) (length ms) left in let within = follows_within (world_of s) (items_of s) ms t.follows in omega (arith, all, within);
       };
       printed = printed;
-      count = count_left;
       device = all_left state s r.nodes ms t.nodes;
     }
 
@@ -122,6 +121,9 @@ module _ {D K : Type 0} (state : D → DiskState) (s : Scenario) (r : Run D K) w
     -- ---- with the disks that were given back
 
     module _ (tells : Bool) (given_back : List ℕ → D → Type 0) (back : FirstGivenBack tells given_back s (server_disks r.nodes.coordinator.seat.node r.nodes.resources.items)) where
+      count_all : length (server_disks r.nodes.coordinator.seat.node r.nodes.resources.items) ≡ length r.nodes.resources.items + 1
+      count_all = count_servers s r.nodes.coordinator.seat.node r.nodes.resources.items (omega (arith, count)) tells given_back
+
       pub ended : (played : Result (Unit {0}) RunFault) (missed : RunFault) → played ≡ Err missed → (AllTell state → HasPlayed state s r [] played) → GivesBack state tells given_back s (Err missed)
       ended (Ok u) missed e has = absurd (let no : Ok u ≡ Err missed = e in cc)
       ended (Err why) missed e has =
@@ -129,6 +131,7 @@ module _ {D K : Type 0} (state : D → DiskState) (s : Scenario) (r : Run D K) w
           record {
             disks = server_disks r.nodes.coordinator.seat.node r.nodes.resources.items;
             back = back;
+            count = let size = count_all in omega (arith, size);
             leaves = λ all. inl (subst (Broken s left_disks) same (broken why (has all)));
           }
 
@@ -138,6 +141,7 @@ module _ {D K : Type 0} (state : D → DiskState) (s : Scenario) (r : Run D K) w
       finished (Ok v) u e has es collected = record {
         disks = server_disks r.nodes.coordinator.seat.node r.nodes.resources.items;
         back = back;
+        count = let size = count_all in omega (arith, size, count);
         leaves = λ all. whole (has all);
       }
         where
@@ -149,6 +153,7 @@ module _ {D K : Type 0} (state : D → DiskState) (s : Scenario) (r : Run D K) w
       unfinished (Ok v) u e has = record {
         disks = server_disks r.nodes.coordinator.seat.node r.nodes.resources.items;
         back = back;
+        count = let size = count_all in omega (arith, size);
         leaves = λ all. inl (whole (has all));
       }
         where
@@ -180,6 +185,7 @@ module _ {D : Type 0} (state : D → DiskState) (s : Scenario) where
   coordinator_refused old new missed same (inr g) = inl (record {
     disks = g.disks ∷ [];
     back = coordinator_back s old.tells new.given_back g.disks (subst (λ (t : Bool). AreGivenBack t new.given_back coordinator_name g.disks) same g.back);
+    count = omega arith;
     leaves = λ all. inr (record {
       opened = 0;
       count = refl;
@@ -241,6 +247,7 @@ module _ {D : Type 0} (state : D → DiskState) (s : Scenario) where
       disks = server_disks c opened ++ g.disks ∷ [];
       back = one_back s tells after (server_disks c opened) (length opened) t.def g.disks disks_count t.there
           (let same = stays t.def t.there in both_stay tells before after t.def.name g.disks same.0 same.1 g.back) back;
+      count = let more = length-append (server_disks c opened) (g.disks ∷ []) in omega (arith, more);
       leaves = λ all.
           subst (λ (ds : List Pair). Leaves s ds (Err missed)) (sym (map-append (pair_of state) (server_disks c opened) (g.disks ∷ [])))
           (inr (record {

@@ -56,7 +56,6 @@ pub record Done (s : Scenario) (disks : List Pair) (es : List Entry) : Type 0 wh
   pub history : List Moment
   pub is_run : IsRun s history
   pub printed : es ≡ entries history
-  pub count : length disks ≡ length s.resources + 1
   pub device : (p : Place) (role : Role) → role_at (world_of s) no_past p ≡ Some role → AreLeft role (own p history) (disks_in disks p)
 
 -- the replay ended by a fault: the history that it made up to there is legal and follows the schedule, and the disks of each node show its
@@ -94,10 +93,16 @@ pub record FirstGivenBack {D : Type 0} (tells : Bool) (given_back : List ℕ →
   pub few : length disks ≤ length s.resources + 1
   pub each : (k : ℕ) (name : List ℕ) (d : D × D) → slice_get (server_names s) k ≡ Some name → slice_get disks k ≡ Some d → AreGivenBack tells given_back name d
 
+-- how many nodes' disks these are: those of all, where the replay was done, and else the coordinator's at least
+abbrev pub IsNodeCount : Scenario → Result (List Entry) RunFault → ℕ → Type 0
+IsNodeCount s (Ok es) count = count ≡ length s.resources + 1
+IsNodeCount s (Err missed) count = 1 ≤ count
+
 -- the disks of all nodes that were taken were given back; where disks tell their bytes, they show how the replay ended
 pub record GivesBack {D : Type 0} (state : D → DiskState) (tells : Bool) (given_back : List ℕ → D → Type 0) (s : Scenario) (result : Result (List Entry) RunFault) : Type 0 where
   pub disks : List (D × D)
   pub back : FirstGivenBack tells given_back s disks
+  pub count : IsNodeCount s result (length disks)
   pub leaves : AllTell state → Leaves s (map (pair_of state) disks) result
 
 -- A disk wasn't had for the node behind those whose disks were given back: the shelf failed, or memory was refused. No entry was made.

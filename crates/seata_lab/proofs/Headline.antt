@@ -1,8 +1,8 @@
 -- What status 0 of a replay says, where the shelf's disks tell their bytes.
 use Rattle.std.proofs.Common.{◌≡◌, inl, inr, ℕ, Bool, List, [], ◌∷◌, length, Result, Ok, Err, refl, ap, sym, ◌∙◌, arith, length-append}
-use Rattle.std.proofs.lemmas.List.{length-map}
 use Rattle.disk_model.specs.Disk.{DiskState}
 use Rattle.scenario_reader.specs.declared.scenarios.Scenario.{Scenario}
+use Rattle.scenario_reader.specs.Reading.{IsScenario}
 use Rattle.scenario_reader.specs.Runnable.{IsRunnable}
 use Rattle.scenario_reader.proofs.RunnableFacts.{given}
 use Rattle.history_rules.specs.Histories.{Moment}
@@ -11,11 +11,11 @@ use Rattle.history_text.specs.History.{entries, entry_of}
 use Rattle.node_seat.specs.declared.faults.RunFault.{RunFault}
 use Rattle.node_seat.specs.declared.faults.RunFault.TheVariants as run_fault
 use Rattle.replay_runner.proofs.Singles.{length-singles}
-use Rattle.scenario_nodes.specs.Shelves.{AllTell, pair_of}
+use Rattle.scenario_nodes.specs.Shelves.{AllTell}
 use Rattle.replay_runner.specs.Leaving.{GivesBack}
 use Rattle.replay_runner.specs.Leaving.{Replays as Replayed}
 use Rattle.report_text.specs.Following.{Reports}
-use Rattle.seata_lab.specs.Answers.{Done, IsEndText, Replays, Reported, status_of}
+use Rattle.seata_lab.specs.Answers.{Done, IsAnswerTo, IsEndText, Replays, Reported, status_of}
 use Rattle.seata_lab.specs.Streams.{Devices}
 use Rattle.seata_lab.proofs.Safe.{run_is_safe}
 
@@ -45,14 +45,20 @@ module _ {D : Type 0} (state : D → DiskState) (tells : Bool) (given_back : Lis
         is_run = d.is_run;
         is_safe = run_is_safe s d.history runs d.is_run.legal;
         is_report = report d.history d.is_run.legal (sym d.printed) (omega (arith, size, few));
-        count = let count = d.count in omega (arith, count, length-map g.disks (pair_of state));
         device = d.device;
       }
 
   of_end : (ended : Result (List Entry) RunFault) → Replayed state tells given_back rose s ended → IsEndText s ended text 0 → Done state tells given_back s text
-  of_end (Ok es) (inl g) t = record { disks = g.disks; back = g.back; reported = reported es g t.1 }
+  of_end (Ok es) (inl g) t = record { disks = g.disks; back = g.back; count = g.count; reported = reported es g t.1 }
   of_end (Ok es) (inr none) t = absurd none
   of_end (Err missed) ends t = absurd (no_fault_is_done missed t.1)
+
+-- the text of status 0, also where it was cut short
+pub answer_zero : {D : Type 0} (state : D → DiskState) (tells : Bool) (given_back : List ℕ → D → Type 0) (rose : Type 0) (input text : List ℕ)
+    → IsAnswerTo (Replayed state tells given_back rose) input text 0 → (s : Scenario) × IsScenario input s × Done state tells given_back s text
+unfolding IsAnswerTo
+answer_zero state tells given_back rose input text (inl (zero, f)) = absurd (omega (arith, zero))
+answer_zero state tells given_back rose input text (inr (s, is, r)) = (s, is, of_end state tells given_back rose s (given input s is) text r.ended r.has_ended r.is_text)
 
 pub status_zero : {D : Type 0} (state : D → DiskState) (tells : Bool) (given_back : List ℕ → D → Type 0) (rose : Type 0) (input : List ℕ) (old new : Devices)
     → (r : Replays (Replayed state tells given_back rose) 0 input old new) → Done state tells given_back r.scenario r.text

@@ -8,3 +8,4 @@ mod Headline
 mod Modes
 mod Replayed
 mod Safe
+mod Shelved

@@ -103,10 +103,19 @@ module _ (ends : Ending) where
         by (inl among) = known (nat_eq result 0) (nat_eq result 3) (nat_eq result 6) (nat_eq result 7) (nat_eq result 8) (nat_eq result 9) refl among
         by (inr six) = inl (rw six refl)
 
-    pub tells_replay : TellsReplay ends result old new
-    tells_replay = record {
+    pub tells_replay : (IsDone : Scenario → List ℕ → Type 0) → ((input text : List ℕ) → IsAnswerTo ends input text 0 → (s : Scenario) × IsScenario input s × IsDone s text)
+        → TellsReplay ends IsDone result old new
+    tells_replay IsDone finish = record {
       replayed = replayed_says;
       refused = refused_says;
-      cut_short = λ five input told. let w = t.front five input told in record { text = w.text; status = w.status; is_answer = w.is_answer; printed = w.printed };
+      cut_short = λ five input told.
+          let w = t.front five input told in
+          record {
+            text = w.text;
+            status = w.status;
+            is_answer = w.is_answer;
+            done = λ zero. finish input w.text (subst (λ n. IsAnswerTo ends input w.text n) zero w.is_answer);
+            printed = w.printed;
+          };
       complete = complete_says;
     }

@@ -147,7 +147,6 @@ pub record Reported {D : Type 0} (state : D → DiskState) (s : Scenario) (disks
   pub is_run : IsRun s history
   pub is_safe : IsSafeHistory (world_of s) no_past history
   pub is_report : text ≡ report s history
-  pub count : length disks ≡ length s.resources + 1
   pub device : (p : Place) (role : Role) → role_at (world_of s) no_past p ≡ Some role → AreLeft role (own p history) (disks_in (map (pair_of state) disks) p)
 
 -- what a replay tells: its input was read to its end and is a scenario; its disks were given back, and the sink got the text of how
@@ -164,6 +163,7 @@ pub record Replays (ends : Ending) (status : ℕ) (input : List ℕ) (old new : 
 pub record Done {D : Type 0} (state : D → DiskState) (tells : Bool) (given_back : List ℕ → D → Type 0) (s : Scenario) (text : List ℕ) : Type 0 where
   pub disks : List (D × D)
   pub back : FirstGivenBack tells given_back s disks
+  pub count : length disks ≡ length s.resources + 1
   pub reported : AllTell state → Reported state s disks text
 
 -- at status 3: the source was read as far as inputs are, and the sink got the line of what keeps the input from being a scenario
@@ -173,11 +173,12 @@ pub record Refuses (input : List ℕ) (old new : Devices) : Type 0 where
   pub is_refusal : IsFaultOf input text
   pub printed : Appends old.written new.written text
 
--- at status 5: the sink got the front of the text that another status would have
-pub record CutsShort (ends : Ending) (input : List ℕ) (old new : Devices) : Type 0 where
+-- at status 5: the sink got the front of the text that another status would have; where that is 0, all holds that is said of a text at 0
+pub record CutsShort (ends : Ending) (IsDone : Scenario → List ℕ → Type 0) (input : List ℕ) (old new : Devices) : Type 0 where
   pub text : List ℕ
   pub status : ℕ
   pub is_answer : IsAnswerTo ends input text status
+  pub done : status ≡ 0 → (scenario : Scenario) × IsScenario input scenario × IsDone scenario text
   pub printed : GainsFront old.written new.written text
 
 -- the statuses of a scenario: it was replayed, or memory was refused
@@ -185,15 +186,44 @@ abbrev pub is_end : ℕ → Bool
 is_end status = is_among (0 ∷ 6 ∷ 7 ∷ 8 ∷ 9 ∷ []) status
 
 -- what the status of a replay says of the input, where that is told
-pub record TellsReplay (ends : Ending) (status : ℕ) (old new : Devices) : Type 0 where
+pub record TellsReplay (ends : Ending) (IsDone : Scenario → List ℕ → Type 0) (status : ℕ) (old new : Devices) : Type 0 where
   pub replayed : is_among (0 ∷ 7 ∷ 8 ∷ 9 ∷ []) status ≡ true → (input : List ℕ) → old.left ≡ Some input → Replays ends status input old new
   pub refused : status ≡ 3 → (input : List ℕ) → old.left ≡ Some input → Refuses input old new ⊎ Replays ends 3 input old new
-  pub cut_short : status ≡ 5 → (input : List ℕ) → old.left ≡ Some input → CutsShort ends input old new
+  pub cut_short : status ≡ 5 → (input : List ℕ) → old.left ≡ Some input → CutsShort ends IsDone input old new
   pub complete : (input : List ℕ) (scenario : Scenario) → old.left ≡ Some input → IsScenario input scenario → IsCalm old new → (is_end status ≡ true) ⊎ Replays ends 3 input old new
 
--- what a replay does with a shelf, whatever the status: nothing, or a replay of a scenario that gives back what it takes
-abbrev pub Shelves : Ending → (same : Type 0) → Type 0
-Shelves ends same = same ⊎ ((s : Scenario) × (ended : Result (List Entry) RunFault) × ends s ended)
+-- ---- the shelf of a replay
+
+-- the status of a replay that ended so
+abbrev pub ended_status : Result (List Entry) RunFault → ℕ
+ended_status (Ok es) = 0
+ended_status (Err missed) = status_of missed
+
+-- The status of a call whose replay ended so: that of the ending; 6, where memory was refused for its text; or 5, where the sink failed
+-- at the text, which want of memory doesn't have.
+abbrev pub IsStatusAfter : Result (List Entry) RunFault → ℕ → Type 0
+IsStatusAfter ended status = (status ≡ ended_status ended) ⊎ ((status ≡ 6) ⊎ ((status ≡ 5) × (ended ≢ Err run_fault.NoMemory)))
+
+-- No replay ran, and the shelf is as it was: the source failed, memory was refused, or the input is no scenario, whose line was written
+-- at 3 and cut short at 5.
+pub record IsUntouched (same : Type 0) (status : ℕ) (old : Option (List ℕ)) : Type 0 where
+  pub is_same : same
+  pub statuses : is_among (3 ∷ 4 ∷ 5 ∷ 6 ∷ []) status ≡ true
+  pub no_scenario : is_among (3 ∷ 5 ∷ []) status ≡ true → (input : List ℕ) (s : Scenario) → old ≡ Some input → IsScenario input s → ⊥
+
+-- The input was read to its end and is a scenario, where that is told. The replay of this scenario left the shelf, and its ending fits
+-- the status.
+pub record IsLeftByReplay (ends : Ending) (status : ℕ) (old new : Option (List ℕ)) : Type 0 where
+  pub scenario : Scenario
+  pub is_scenario : (input : List ℕ) → old ≡ Some input → IsScenario input scenario
+  pub read_to_end : (input : List ℕ) → old ≡ Some input → new ≡ Some []
+  pub ended : Result (List Entry) RunFault
+  pub has_ended : ends scenario ended
+  pub is_status : IsStatusAfter ended status
+
+-- what the status of a replay says of the shelf
+abbrev pub TellsShelf : Ending → (same : Type 0) → (status : ℕ) → (old new : Option (List ℕ)) → Type 0
+TellsShelf ends same status old new = IsUntouched same status old ⊎ IsLeftByReplay ends status old new
 
 -- ---- frames
 

@@ -29,6 +29,10 @@ source_faults s = s.faults
 abbrev pub source_fails : MemSource → List ℕ
 source_fails s = s.failing.items
 
+-- the most bytes that a call gives
+abbrev pub source_step : MemSource → ℕ
+source_step s = s.step
+
 -- how many calls there were
 abbrev pub source_calls : MemSource → ℕ
 source_calls s = s.calls
@@ -44,6 +48,10 @@ sink_faults s = s.faults
 -- for how many bytes there is still room
 abbrev pub room_left : MemSink → ℕ
 room_left s = length s.bytes.items - s.at
+
+-- the most bytes that a call takes
+abbrev pub sink_step : MemSink → ℕ
+sink_step s = s.step
 
 abbrev pub sink_fails : MemSink → List ℕ
 sink_fails s = s.failing.items

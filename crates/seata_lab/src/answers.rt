@@ -1,12 +1,12 @@
 //! What the program writes for an input.
-ghost use Rattle.std.specs.Prelude.{◌≡◌, ◌≢◌, ◌++◌, ℕ, List as Items, Err, true, false, codes, IfOk, OnOk, string_bytes};
+ghost use Rattle.std.specs.Prelude.{◌≡◌, ◌≢◌, ◌++◌, ℕ, List as Items, [], Some, Err, true, false, codes, IfOk, IfErr, OnOk, string_bytes};
 ghost use Rattle.std.specs.Fmt.{decimal};
 ghost use Rattle.history_text.specs.Report.{line};
 ghost use Rattle.scenario_reader.specs.Reading.{IsScenario};
 ghost use Rattle.scenario_reader.specs.Runnable.{IsRunnable};
 ghost use Rattle.disk_model.specs.Disk.{Rose};
 ghost use Rattle.replay_runner.specs.Leaving.{Replays as Replayed};
-ghost use Rattle.seata_lab.specs.Answers.{IsAnswerTo, IsEndText, Shelves, damaged_text, disk_text, end_text, fault_text, full_text, status_of, store_text};
+ghost use Rattle.seata_lab.specs.Answers.{IsAnswerTo, IsEndText, IsLeftByReplay, TellsShelf, damaged_text, disk_text, end_text, fault_text, full_text, status_of, store_text};
 
 use disk_model::Shelf;
 use history_text::{Entry, Names, put_place};
@@ -225,7 +225,8 @@ fn answer_of<H: Shelf>(
 ) -> Result<Answer, NoMemory>
     requires { IsRunnable scenario.now }
     ensures answer { (bytes : Items ℕ) → IsScenario bytes scenario.now → IfOk result (λ answer. IsAnswerTo (Replayed H.D.state (H.tells shelf.old) (H.given_back shelf.new) (Rose (H.faults shelf.old) (H.faults shelf.new))) bytes (string_bytes answer.text) answer.status) }
-    ensures shelf { Shelves (Replayed H.D.state (H.tells shelf.old) (H.given_back shelf.new) (Rose (H.faults shelf.old) (H.faults shelf.new))) (shelf.new ≡ shelf.old) }
+    ensures shelf { (bytes : Items ℕ) → IsScenario bytes scenario.now → IfOk result (λ answer. IsLeftByReplay (Replayed H.D.state (H.tells shelf.old) (H.given_back shelf.new) (Rose (H.faults shelf.old) (H.faults shelf.new))) answer.status (Some bytes) (Some [])) }
+    ensures unanswered { (bytes : Items ℕ) → IsScenario bytes scenario.now → IfErr result (λ none. IsLeftByReplay (Replayed H.D.state (H.tells shelf.old) (H.given_back shelf.new) (Rose (H.faults shelf.old) (H.faults shelf.new))) 6 (Some bytes) (Some [])) }
 {
     let replayed = replay(alloc, scenario, shelf);
     told(alloc, scenario, replayed)
@@ -235,7 +236,8 @@ fn answer_of<H: Shelf>(
 #[tactic(auto, unfolding(crate::specs::Answers::IsAnswerTo, crate::specs::Answers::IsFaultOf))]
 pub fn answer_to<H: Shelf>(alloc: Global, bytes: &[u8], shelf: &mut H) -> Result<Answer, NoMemory>
     ensures answer { IfOk result (λ answer. IsAnswerTo (Replayed H.D.state (H.tells shelf.old) (H.given_back shelf.new) (Rose (H.faults shelf.old) (H.faults shelf.new))) bytes.now (string_bytes answer.text) answer.status) }
-    ensures shelf { Shelves (Replayed H.D.state (H.tells shelf.old) (H.given_back shelf.new) (Rose (H.faults shelf.old) (H.faults shelf.new))) (shelf.new ≡ shelf.old) }
+    ensures shelf { IfOk result (λ answer. TellsShelf (Replayed H.D.state (H.tells shelf.old) (H.given_back shelf.new) (Rose (H.faults shelf.old) (H.faults shelf.new))) (shelf.new ≡ shelf.old) answer.status (Some bytes.now) (Some [])) }
+    ensures unanswered { IfErr result (λ none. TellsShelf (Replayed H.D.state (H.tells shelf.old) (H.given_back shelf.new) (Rose (H.faults shelf.old) (H.faults shelf.new))) (shelf.new ≡ shelf.old) 6 (Some bytes.now) (Some [])) }
 {
     match read(alloc, bytes) {
         Ok(scenario) => {

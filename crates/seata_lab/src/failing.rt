@@ -1,6 +1,7 @@
 //! Runs of `top` over a reader and over a writer that fail at their second call, and over a shelf without disks.
 ghost use Rattle.std.specs.Prelude.{◌≡◌};
 
+use crate::gallery::GALLERY;
 use crate::memory::{MemSink, MemSource};
 use crate::rows::REPEATED_MESSAGES;
 use crate::standard::{StdSink, StdSource};
@@ -49,11 +50,12 @@ impl Write for Stuck {
     }
 }
 
-/// A shelf that gives so many disks, and fails at each later call. It keeps none that is given back.
+/// A shelf that gives so many disks, and fails at each later call. It counts those that are given back, and keeps none.
 #[derive(Drop)]
 struct Short {
     shelf: MemShelf,
     disks: u32,
+    back: u32,
     faults: u64,
 }
 
@@ -82,7 +84,9 @@ impl Shelf for Short {
         }
     }
 
-    fn give(&mut self, _name: &str, _disk: MemDisk) {}
+    fn give(&mut self, _name: &str, _disk: MemDisk) {
+        self.back = self.back.saturating_add(1);
+    }
 }
 
 /// One word.
@@ -137,30 +141,54 @@ fn a_failed_write_is_no_text(rt: HostRuntime) -> Result<(), Fail> {
     Ok(())
 }
 
+/// The end of a replay over a shelf that fails.
+#[derive(Drop)]
+struct Ended {
+    status: u8,
+    written: Vec<u8>,
+    back: u32,
+    faults: u64,
+}
+
+/// A replay over a shelf of so many disks.
+fn over_disks(alloc: Global, input: &str, disks: u32) -> Result<Ended, Fail> {
+    let words = word(alloc, "replay")?;
+    let input = Vec::from_slice(alloc, input.as_bytes())?;
+    let mut source = MemSource::new(input, Vec::new(alloc));
+    let Ok(mut sink) = MemSink::new(alloc, 1000, Vec::new(alloc)) else {
+        return Err(Fail::from("no memory"));
+    };
+    let mut shelf = Short {
+        shelf: MemShelf::new(alloc),
+        disks,
+        back: 0,
+        faults: 0,
+    };
+    let status = top(alloc, words.as_slice(), &mut source, &mut sink, &mut shelf);
+    let written = Vec::from_slice(alloc, sink.written())?;
+    Ok(Ended {
+        status,
+        written,
+        back: shelf.back,
+        faults: shelf.faults,
+    })
+}
+
+/// The fault is told with the node's name, and each disk that was had is given back, that of a node without its second too.
 #[test]
 fn a_shelf_that_fails_is_told(rt: HostRuntime) -> Result<(), Fail> {
-    for disks in 0..2 {
-        let words = word(rt.alloc(), "replay")?;
-        let input = Vec::from_slice(rt.alloc(), REPEATED_MESSAGES[0].as_bytes())?;
-        let mut source = MemSource::new(input, Vec::new(rt.alloc()));
-        let Ok(mut sink) = MemSink::new(rt.alloc(), 1000, Vec::new(rt.alloc())) else {
-            return Err(Fail::from("no memory"));
-        };
-        let mut shelf = Short {
-            shelf: MemShelf::new(rt.alloc()),
-            disks,
-            faults: 0,
-        };
-        let status = top(
-            rt.alloc(),
-            words.as_slice(),
-            &mut source,
-            &mut sink,
-            &mut shelf,
-        );
-        assert_eq!(rt; status, 7);
-        assert_eq!(rt; shelf.faults, 1);
-        assert_eq!(rt; sink.written(), b"store: tc\n".as_slice());
+    let asking = GALLERY[0][0];
+    for (disks, line) in [
+        (0, "store: tc\n"),
+        (1, "store: tc\n"),
+        (2, "store: bank\n"),
+        (3, "store: bank\n"),
+    ] {
+        let ended = over_disks(rt.alloc(), asking, disks)?;
+        assert_eq!(rt; ended.status, 7);
+        assert_eq!(rt; ended.faults, 1);
+        assert_eq!(rt; ended.back, disks);
+        assert_eq!(rt; ended.written.as_slice(), line.as_bytes());
     }
     Ok(())
 }

@@ -24,17 +24,29 @@ struct Ran {
     written: Vec<u8>,
 }
 
-/// Which calls fail, counted from 1, and how much room the sink has.
+/// How many bytes a call of a device gives or takes at most, and which call fails, counted from 1.
+#[derive(Clone, Copy)]
+struct Calls {
+    step: usize,
+    fails: u32,
+}
+
+const WHOLE: Calls = Calls {
+    step: usize::MAX,
+    fails: 0,
+};
+
+/// The source's calls, of at least one byte each, the sink's, and how much room the sink has.
 #[derive(Clone, Copy)]
 struct Devices {
-    source_fails: u32,
-    sink_fails: u32,
+    source: Calls,
+    sink: Calls,
     room: usize,
 }
 
 const SOUND: Devices = Devices {
-    source_fails: 0,
-    sink_fails: 0,
+    source: WHOLE,
+    sink: WHOLE,
     room: 100_000,
 };
 
@@ -44,10 +56,11 @@ fn run(alloc: Global, words: &[&str], input: &[u8], devices: Devices) -> Result<
     for word in words {
         all.push(Text::of(String::from_str(alloc, *word)?))?;
     }
-    let failing = Vec::from_slice(alloc, &[devices.source_fails])?;
-    let mut source = MemSource::new(Vec::from_slice(alloc, input)?, failing);
-    let failing = Vec::from_slice(alloc, &[devices.sink_fails])?;
-    let Ok(mut sink) = MemSink::new(alloc, devices.room, failing) else {
+    let bytes = Vec::from_slice(alloc, input)?;
+    let failing = Vec::from_slice(alloc, &[devices.source.fails])?;
+    let mut source = MemSource::with_step(bytes, devices.source.step.max(1), failing);
+    let failing = Vec::from_slice(alloc, &[devices.sink.fails])?;
+    let Ok(mut sink) = MemSink::with_step(alloc, devices.room, devices.sink.step, failing) else {
         return Err(Fail::from("no memory"));
     };
     let mut shelf = MemShelf::new(alloc);
@@ -92,8 +105,9 @@ fn replays_the_gallery(rt: HostRuntime) -> Result<(), Fail> {
     Ok(())
 }
 
-/// A scenario of so many managers, each of which begins a transaction, over disks of 4,096 bytes.
-fn crowd(alloc: Global, managers: u32) -> Result<String, Fail>
+/// A scenario of so many managers, each of which begins a transaction, over disks of 4,096 bytes. Once the given one began its
+/// own, the coordinator is crashed and restarted.
+fn crowd(alloc: Global, managers: u32, last: u32) -> Result<String, Fail>
     requires { managers ≤ 1000 }
 {
     let mut names = String::new(alloc);
@@ -104,7 +118,12 @@ fn crowd(alloc: Global, managers: u32) -> Result<String, Fail>
             names,
             r#"{comma}{{"name":"m{k}","calls":[],"end":"commit"}}"#
         )?;
-        write!(steps, r#"{comma}"turn m{k}","deliver {}""#, 2 * k - 1)?;
+        // The crash and the restart are two entries more.
+        let begin = if k > last { 2 * k + 1 } else { 2 * k - 1 };
+        write!(steps, r#"{comma}"turn m{k}","deliver {begin}""#)?;
+        if k == last {
+            steps.push_str(r#","crash tc","restart tc 0""#)?;
+        }
     }
     Ok(format!(in alloc;
         r#"{{"resources":[],"managers":[{}],"disk":4096,"schedule":[{}]}}"#,
@@ -113,15 +132,36 @@ fn crowd(alloc: Global, managers: u32) -> Result<String, Fail>
     )?)
 }
 
+/// So many managers fit on the disks, and one more doesn't.
+fn expect_full(
+    rt: &impl Abort,
+    alloc: Global,
+    fitting: u32,
+    last: u32,
+    line: &str,
+) -> Result<(), Fail>
+    requires { fitting < 1000 }
+{
+    let few = crowd(alloc, fitting, last)?;
+    let ran = run(alloc, &["replay"], few.as_bytes(), SOUND)?;
+    assert_eq!(rt; ran.status, 0);
+    let many = crowd(alloc, fitting + 1, last)?;
+    let ran = run(alloc, &["replay"], many.as_bytes(), SOUND)?;
+    expect(rt, &ran, 8, line);
+    Ok(())
+}
+
+/// After a restart a snapshot stands in place of the records of 70 begins, so that more of them fit.
 #[test]
 fn fills_a_disk(rt: HostRuntime) -> Result<(), Fail> {
-    let fitting = crowd(rt.alloc(), 127)?;
-    let ran = run(rt.alloc(), &["replay"], fitting.as_bytes(), SOUND)?;
-    assert_eq!(rt; ran.status, 0);
-    let crowded = crowd(rt.alloc(), 128)?;
-    let ran = run(rt.alloc(), &["replay"], crowded.as_bytes(), SOUND)?;
-    expect(&rt, &ran, 8, "full: tc needs 4106 of 4096\n");
-    Ok(())
+    expect_full(
+        &rt,
+        rt.alloc(),
+        127,
+        1000,
+        "full: tc needs 4106 of 4096\n",
+    )?;
+    expect_full(&rt, rt.alloc(), 131, 70, "full: tc needs 4123 of 4096\n")
 }
 
 /// A transfer between two databases, of which a node is stopped after so many calls of its disk and restarted with a pick.
@@ -294,7 +334,7 @@ fn refuses_long_input(rt: HostRuntime) -> Result<(), Fail> {
 fn stops_where_a_device_fails(rt: HostRuntime) -> Result<(), Fail> {
     let [input, output] = REPEATED_MESSAGES;
     let source = Devices {
-        source_fails: 1,
+        source: Calls { fails: 1, ..WHOLE },
         ..SOUND
     };
     expect(
@@ -304,7 +344,7 @@ fn stops_where_a_device_fails(rt: HostRuntime) -> Result<(), Fail> {
         "",
     );
     let sink = Devices {
-        sink_fails: 1,
+        sink: Calls { fails: 1, ..WHOLE },
         ..SOUND
     };
     expect(
@@ -318,5 +358,69 @@ fn stops_where_a_device_fails(rt: HostRuntime) -> Result<(), Fail> {
     assert_eq!(rt; ran.status, 5);
     assert_eq!(rt; ran.written.len(), 100);
     assert!(rt; output.as_bytes().starts_with(ran.written.as_slice()));
+    Ok(())
+}
+
+/// A sink of so many bytes a call.
+fn narrow(step: usize, fails: u32) -> Devices {
+    Devices {
+        source: Calls { step: 7, fails: 0 },
+        sink: Calls { step, fails },
+        room: 100_000,
+    }
+}
+
+/// More calls than a device has in these tests.
+const MOST: u32 = 10_000;
+
+/// How many of the first reads, of seven bytes, can fail so that nothing is written and the replay tells it.
+fn told_reads(alloc: Global, input: &[u8]) -> Result<u32, Fail> {
+    for read in 0..MOST {
+        let source = Calls {
+            step: 7,
+            fails: read + 1,
+        };
+        let ran = run(alloc, &["replay"], input, Devices { source, ..SOUND })?;
+        if ran.status != 4 || ran.written.len() > 0 {
+            return Ok(read);
+        }
+    }
+    Ok(MOST)
+}
+
+/// How many of the first writes, of three bytes, can fail so that the bytes of those before are written and the replay tells it.
+fn told_writes(alloc: Global, input: &[u8], output: &[u8]) -> Result<u32, Fail> {
+    for write in 0..MOST {
+        let ran = run(alloc, &["replay"], input, narrow(3, write + 1))?;
+        let before = output.get(..(write as usize).saturating_mul(3));
+        if ran.status != 5 || before != Some(ran.written.as_slice()) {
+            return Ok(write);
+        }
+    }
+    Ok(MOST)
+}
+
+#[test]
+fn takes_input_and_output_in_pieces(rt: HostRuntime) -> Result<(), Fail> {
+    let input = format!(in rt.alloc(); "{TRANSFER}[\"auto 29\"]}}")?;
+    let whole = run(rt.alloc(), &["replay"], input.as_bytes(), SOUND)?;
+    assert_eq!(rt; whole.status, 0);
+    let pieces = run(rt.alloc(), &["replay"], input.as_bytes(), narrow(3, 0))?;
+    assert_eq!(rt; pieces.status, 0);
+    assert_eq!(rt; pieces.written.as_slice(), whole.written.as_slice());
+    let nothing = run(rt.alloc(), &["replay"], input.as_bytes(), narrow(0, 0))?;
+    expect(&rt, &nothing, 5, "");
+    Ok(())
+}
+
+#[test]
+fn each_failed_read_and_write_is_told(rt: HostRuntime) -> Result<(), Fail> {
+    let input = format!(in rt.alloc(); "{TRANSFER}[\"auto 29\"]}}")?;
+    let output = run(rt.alloc(), &["replay"], input.as_bytes(), SOUND)?.written;
+    // The last read finds the end.
+    let reads = (input.len() / 7).saturating_add(1);
+    assert_eq!(rt; told_reads(rt.alloc(), input.as_bytes())? as usize, reads);
+    let writes = output.len().saturating_add(2) / 3;
+    assert_eq!(rt; told_writes(rt.alloc(), input.as_bytes(), output.as_slice())? as usize, writes);
     Ok(())
 }

@@ -3,7 +3,7 @@ ghost use Rattle.std.specs.Prelude.{◌≡◌, ◌≢◌, ◌⊎◌, ℕ, true, 
 ghost use Rattle.std.specs.Io.KnownBytes.{Appends};
 ghost use Rattle.disk_model.specs.Disk.{Rose};
 ghost use Rattle.replay_runner.specs.Leaving.{Replays as Replayed};
-ghost use Rattle.seata_lab.specs.Answers.{Answers, Done, IsAnswerTo, IsFramesAnswer, Replays, Shelves, TellsReplay, TellsFrames, TellsUsage, TellsFaults, is_replay, is_frames, replay_statuses, frames_statuses, with_failures};
+ghost use Rattle.seata_lab.specs.Answers.{Answers, Done, IsAnswerTo, IsFramesAnswer, Replays, TellsReplay, TellsShelf, TellsFrames, TellsUsage, TellsFaults, is_replay, is_frames, replay_statuses, frames_statuses, with_failures};
 ghost use Rattle.seata_lab.specs.Streams.{GainsFront, devices};
 
 use crate::answers::{Answer, answer_to};
@@ -57,7 +57,8 @@ fn replay_input<S: Source, H: Shelf>(
     shelf: &mut H,
 ) -> Result<Answer, u8>
     ensures answer { IfOk result (λ a. Answers (IsAnswerTo (Replayed H.D.state (H.tells shelf.old) (H.given_back shelf.new) (Rose (H.faults shelf.old) (H.faults shelf.new)))) replay_statuses (S.left source.old) (S.left source.new) (string_bytes a.text) a.status) }
-    ensures shelf { Shelves (Replayed H.D.state (H.tells shelf.old) (H.given_back shelf.new) (Rose (H.faults shelf.old) (H.faults shelf.new))) (shelf.new ≡ shelf.old) }
+    ensures shelf { IfOk result (λ a. TellsShelf (Replayed H.D.state (H.tells shelf.old) (H.given_back shelf.new) (Rose (H.faults shelf.old) (H.faults shelf.new))) (shelf.new ≡ shelf.old) a.status (S.left source.old) (S.left source.new)) }
+    ensures unanswered { IfErr result (λ status. TellsShelf (Replayed H.D.state (H.tells shelf.old) (H.given_back shelf.new) (Rose (H.faults shelf.old) (H.faults shelf.new))) (shelf.new ≡ shelf.old) status (S.left source.old) (S.left source.new)) }
     ensures statuses { IfErr result (λ status. (status ≡ 4) ⊎ (status ≡ 6)) }
     ensures failed { IfErr result (λ status. status ≡ 4 → Rose (S.faults source.old) (S.faults source.new)) }
 {
@@ -106,10 +107,10 @@ pub fn replay_once<S: Source, K: Sink, H: Shelf>(
     sink: &mut K,
     shelf: &mut H,
 ) -> u8
-    ensures replay { TellsReplay (Replayed H.D.state (H.tells shelf.old) (H.given_back shelf.new) (Rose (H.faults shelf.old) (H.faults shelf.new))) result (devices S.left S.faults K.written K.faults source.old sink.old) (devices S.left S.faults K.written K.faults source.new sink.new) }
+    ensures replay { TellsReplay (Replayed H.D.state (H.tells shelf.old) (H.given_back shelf.new) (Rose (H.faults shelf.old) (H.faults shelf.new))) (Done H.D.state (H.tells shelf.old) (H.given_back shelf.new)) result (devices S.left S.faults K.written K.faults source.old sink.old) (devices S.left S.faults K.written K.faults source.new sink.new) }
     ensures done { result ≡ 0 → (input : Items ℕ) → S.left source.old ≡ Some input
         → (r : Replays (Replayed H.D.state (H.tells shelf.old) (H.given_back shelf.new) (Rose (H.faults shelf.old) (H.faults shelf.new))) 0 input (devices S.left S.faults K.written K.faults source.old sink.old) (devices S.left S.faults K.written K.faults source.new sink.new)) × Done H.D.state (H.tells shelf.old) (H.given_back shelf.new) r.scenario r.text }
-    ensures shelf { Shelves (Replayed H.D.state (H.tells shelf.old) (H.given_back shelf.new) (Rose (H.faults shelf.old) (H.faults shelf.new))) (shelf.new ≡ shelf.old) }
+    ensures shelf { TellsShelf (Replayed H.D.state (H.tells shelf.old) (H.given_back shelf.new) (Rose (H.faults shelf.old) (H.faults shelf.new))) (shelf.new ≡ shelf.old) result (S.left source.old) (S.left source.new) }
     ensures faults { TellsFaults (with_failures replay_statuses) result (devices S.left S.faults K.written K.faults source.old sink.old) (devices S.left S.faults K.written K.faults source.new sink.new) }
 {
     write_answer(sink, replay_input(alloc, source, shelf))
@@ -142,10 +143,12 @@ pub fn top<S: Source, K: Sink, H: Shelf>(
     ensures usage { is_replay words.now ≡ false → is_frames words.now ≡ false
         → TellsUsage result (devices S.left S.faults K.written K.faults source.old sink.old) (devices S.left S.faults K.written K.faults source.new sink.new) }
     ensures replay { is_replay words.now ≡ true
-        → TellsReplay (Replayed H.D.state (H.tells shelf.old) (H.given_back shelf.new) (Rose (H.faults shelf.old) (H.faults shelf.new))) result (devices S.left S.faults K.written K.faults source.old sink.old) (devices S.left S.faults K.written K.faults source.new sink.new) }
+        → TellsReplay (Replayed H.D.state (H.tells shelf.old) (H.given_back shelf.new) (Rose (H.faults shelf.old) (H.faults shelf.new))) (Done H.D.state (H.tells shelf.old) (H.given_back shelf.new)) result (devices S.left S.faults K.written K.faults source.old sink.old) (devices S.left S.faults K.written K.faults source.new sink.new) }
     ensures done { is_replay words.now ≡ true → result ≡ 0 → (input : Items ℕ) → S.left source.old ≡ Some input
         → (r : Replays (Replayed H.D.state (H.tells shelf.old) (H.given_back shelf.new) (Rose (H.faults shelf.old) (H.faults shelf.new))) 0 input (devices S.left S.faults K.written K.faults source.old sink.old) (devices S.left S.faults K.written K.faults source.new sink.new)) × Done H.D.state (H.tells shelf.old) (H.given_back shelf.new) r.scenario r.text }
-    ensures shelf { Shelves (Replayed H.D.state (H.tells shelf.old) (H.given_back shelf.new) (Rose (H.faults shelf.old) (H.faults shelf.new))) (shelf.new ≡ shelf.old) }
+    ensures shelf { is_replay words.now ≡ true
+        → TellsShelf (Replayed H.D.state (H.tells shelf.old) (H.given_back shelf.new) (Rose (H.faults shelf.old) (H.faults shelf.new))) (shelf.new ≡ shelf.old) result (S.left source.old) (S.left source.new) }
+    ensures untouched { is_replay words.now ≡ false → shelf.new ≡ shelf.old }
     ensures frames { is_frames words.now ≡ true
         → TellsFrames result (devices S.left S.faults K.written K.faults source.old sink.old) (devices S.left S.faults K.written K.faults source.new sink.new) }
     ensures faults { TellsFaults (2 ∷ with_failures replay_statuses) result (devices S.left S.faults K.written K.faults source.old sink.old) (devices S.left S.faults K.written K.faults source.new sink.new) }

@@ -1,5 +1,6 @@
-use Rattle.std.proofs.Common.{inl}
+use Rattle.std.proofs.Common.{inl, refl}
 use Rattle.seata_lab.specs.Answers.{IsAnswerTo, IsFaultOf}
+use Rattle.seata_lab.proofs.Shelved.{untouched_refused}
 use Rattle.seata_lab.proofs.answers.answer_to.Goals as goal
 
 pub returns-in_ok-answer-in-Ok-clause-answer : goal.returns-in_ok-answer-in-Ok-clause-answer
@@ -9,3 +10,7 @@ pub returns-in_ok-answer-in-Err-clause-answer : goal.returns-in_ok-answer-in-Err
 unfolding IsAnswerTo IsFaultOf
 returns-in_ok-answer-in-Err-clause-answer g c =
     inl (c.in_ok-answer-in-Err.ensures.status, (c.in-Err.error, c.in-Err.ensures.err c.in_ok-answer-in-Err.ensures.fault, c.in_ok-answer-in-Err.ensures.text))
+
+pub returns-in_ok-answer-in-Err-clause-shelf : goal.returns-in_ok-answer-in-Err-clause-shelf
+returns-in_ok-answer-in-Err-clause-shelf g c =
+    inl (untouched_refused _ refl c.args.bytes.now c.in-Err.error (c.in-Err.ensures.err c.in_ok-answer-in-Err.ensures.fault) c.in_ok-answer-in-Err.answer.status c.in_ok-answer-in-Err.ensures.status)
