@@ -82,10 +82,7 @@ impl Source for MemSource {
             self.faults = self.faults.saturating_add(1);
             return Err(Failed);
         }
-        let count = into
-            .len()
-            .min(self.bytes.len() - self.at)
-            .min(self.step);
+        let count = into.len().min(self.bytes.len() - self.at).min(self.step);
         into[..count].copy_from_slice(&self.bytes[self.at..self.at + count]);
         self.at += count;
         Ok(count)
@@ -183,10 +180,7 @@ impl Sink for MemSink {
             self.faults = self.faults.saturating_add(1);
             return Err(Failed);
         }
-        let count = bytes
-            .len()
-            .min(self.bytes.len() - self.at)
-            .min(self.step);
+        let count = bytes.len().min(self.bytes.len() - self.at).min(self.step);
         if count == 0 {
             self.faults = self.faults.saturating_add(1);
             return Ok(0);

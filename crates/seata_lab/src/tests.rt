@@ -154,13 +154,7 @@ fn expect_full(
 /// After a restart a snapshot stands in place of the records of 70 begins, so that more of them fit.
 #[test]
 fn fills_a_disk(rt: HostRuntime) -> Result<(), Fail> {
-    expect_full(
-        &rt,
-        rt.alloc(),
-        127,
-        1000,
-        "full: tc needs 4106 of 4096\n",
-    )?;
+    expect_full(&rt, rt.alloc(), 127, 1000, "full: tc needs 4106 of 4096\n")?;
     expect_full(&rt, rt.alloc(), 131, 70, "full: tc needs 4123 of 4096\n")
 }
 
@@ -421,6 +415,9 @@ fn each_failed_read_and_write_is_told(rt: HostRuntime) -> Result<(), Fail> {
     let reads = (input.len() / 7).saturating_add(1);
     assert_eq!(rt; told_reads(rt.alloc(), input.as_bytes())? as usize, reads);
     let writes = output.len().saturating_add(2) / 3;
-    assert_eq!(rt; told_writes(rt.alloc(), input.as_bytes(), output.as_slice())? as usize, writes);
+    assert_eq!(rt;
+        told_writes(rt.alloc(), input.as_bytes(), output.as_slice())? as usize,
+        writes
+    );
     Ok(())
 }
