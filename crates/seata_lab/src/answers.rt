@@ -8,6 +8,7 @@ ghost use Rattle.disk_model.specs.Disk.{Rose};
 ghost use Rattle.replay_runner.specs.Leaving.{Replays as Replayed};
 ghost use Rattle.seata_lab.specs.Answers.{IsAnswerTo, IsEndText, IsLeftByReplay, TellsShelf, damaged_text, disk_text, end_text, fault_text, full_text, status_of, store_text};
 
+use crate::statuses::{DAMAGED, DONE, FULL, INPUT, MEMORY, STORE};
 use disk_model::Shelf;
 use history_text::{Entry, Names, put_place};
 use replay_runner::{RunFault, replay};
@@ -69,7 +70,10 @@ fn refusal(text: String) -> Answer
     ensures text { result.text ≡ text }
     ensures status { result.status ≡ 3 }
 {
-    Answer { text, status: 3 }
+    Answer {
+        text,
+        status: INPUT,
+    }
 }
 
 /// The answer to an input that is no scenario.
@@ -165,11 +169,11 @@ fn end_status(fault: RunFault) -> u8
     ensures { result ≡ status_of fault }
 {
     match fault {
-        RunFault::Store { .. } => 7,
-        RunFault::Full { .. } => 8,
-        RunFault::Damaged { .. } => 9,
-        RunFault::Other => 3,
-        RunFault::NoMemory => 6,
+        RunFault::Store { .. } => STORE,
+        RunFault::Full { .. } => FULL,
+        RunFault::Damaged { .. } => DAMAGED,
+        RunFault::Other => INPUT,
+        RunFault::NoMemory => MEMORY,
     }
 }
 
@@ -206,7 +210,7 @@ fn told(
     match replayed {
         Ok(history) => {
             let text = write_report(alloc, scenario, history.as_slice())?;
-            Ok(Answer { text, status: 0 })
+            Ok(Answer { text, status: DONE })
         }
         Err(fault) => {
             if is_out_of_memory(fault) {

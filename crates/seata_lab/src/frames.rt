@@ -7,6 +7,7 @@ ghost use Rattle.seata_lab.specs.Listings.{Awaits, IsReady};
 
 use crate::answers::Answer;
 use crate::listings::Listing;
+use crate::statuses::{DONE, INPUT};
 use crate::streams::{Failed, Source};
 use crate::transfer::{ReadFault, read_some, zeros};
 use frame_codec::{FrameError, Framed};
@@ -121,7 +122,10 @@ fn over(alloc: Global) -> Result<Answer, ReadFault>
     ensures err { IfErr result (λ e. e ≡ ReadFault.NoMemory) }
 {
     match over_text(alloc) {
-        Ok(text) => Ok(Answer { text, status: 3 }),
+        Ok(text) => Ok(Answer {
+            text,
+            status: INPUT,
+        }),
         Err(AllocError) => Err(ReadFault::NoMemory),
     }
 }
@@ -134,7 +138,7 @@ fn listed(listing: Listing) -> Result<Answer, ReadFault>
     ensures err { IfErr result (λ e. e ≡ ReadFault.NoMemory) }
 {
     match listing.finish() {
-        Ok(text) => Ok(Answer { text, status: 0 }),
+        Ok(text) => Ok(Answer { text, status: DONE }),
         Err(NoMemory) => Err(ReadFault::NoMemory),
     }
 }

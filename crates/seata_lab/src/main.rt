@@ -14,6 +14,7 @@ mod memory;
 #[cfg(test)]
 mod rows;
 mod standard;
+mod statuses;
 mod streams;
 #[cfg(test)]
 mod tests;
@@ -24,10 +25,11 @@ mod words;
 use disk_model::MemShelf;
 use seata_types::Text;
 use standard::{StdSink, StdSource};
+use statuses::MEMORY;
 use std::env;
 use std::io::ErrorKind;
 use std::process::ExitCode;
-use tops::{MEMORY, top};
+use tops::top;
 
 fn main(rt: HostRuntime) -> ExitCode {
     let mut words = Vec::new(rt.alloc());

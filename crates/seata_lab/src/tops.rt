@@ -8,25 +8,13 @@ ghost use Rattle.seata_lab.specs.Streams.{GainsFront, devices};
 
 use crate::answers::{Answer, answer_to};
 use crate::frames::list_frames;
+use crate::statuses::{MEMORY, SINK, SOURCE, WORDS};
 use crate::streams::{Failed, Sink, Source};
 use crate::transfer::{ReadFault, read_all, write_all};
 use crate::words;
 use disk_model::Shelf;
 use seata_types::{NoMemory, Text};
 use std::alloc::Global;
-
-/// Statuses, in the order in which their causes are met.
-pub const DONE: u8 = 0;
-
-pub const WORDS: u8 = 2;
-
-pub const INPUT: u8 = 3;
-
-pub const SOURCE: u8 = 4;
-
-pub const SINK: u8 = 5;
-
-pub const MEMORY: u8 = 6;
 
 /// Writes a text, and gives the status once it was written.
 fn finish<K: Sink>(sink: &mut K, text: &str, status: u8) -> u8
