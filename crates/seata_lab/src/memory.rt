@@ -70,7 +70,7 @@ impl Source for MemSource {
         ensures failed { OnErr result (Keeps (bytes_left self.old) (bytes_left self.new)) }
         ensures err { OnErr result (Rose (source_faults self.old) (source_faults self.new)) }
         ensures counted { source_faults self.old ≤ source_faults self.new }
-        // It fails at the calls that it was given, and else reads as much as it can.
+        // It fails at the calls that it was given, and else reads as much as it can, up to its step.
         ensures fails { is_err result ≡ fails_next (source_fails self.old) (source_calls self.old) }
         ensures most { IfOk result (λ n. n ≡ min (min (length into.old) (length (left_of self.old))) (source_step self.old)) }
         ensures step { source_step self.new ≡ source_step self.old }
@@ -167,7 +167,7 @@ impl Sink for MemSink {
         ensures failed { OnErr result (Keeps (bytes_written self.old) (bytes_written self.new)) }
         ensures err { OnErr result (Rose (sink_faults self.old) (sink_faults self.new)) }
         ensures counted { sink_faults self.old ≤ sink_faults self.new }
-        // It fails at the calls that it was given, and else writes as much as there is room for.
+        // It fails at the calls that it was given, and else writes as much as there is room for, up to its step.
         ensures fails { is_err result ≡ fails_next (sink_fails self.old) (sink_calls self.old) }
         ensures most { IfOk result (λ n. n ≡ min (min (length bytes.now) (room_left self.old)) (sink_step self.old)) }
         ensures step { sink_step self.new ≡ sink_step self.old }

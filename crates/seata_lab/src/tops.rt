@@ -88,7 +88,7 @@ fn write_answer<K: Sink>(sink: &mut K, answer: Result<Answer, u8>) -> u8
 /// report of its history. The status is 0 where that is done, 3 where the input is no scenario, 4 where the source failed, 5
 /// where the sink did, 6 where memory was refused, 7 where a disk couldn't be had or its opening or restart failed, 8 where a
 /// node's next record would pass the end of its disk, and 9 where a disk has bytes that are no journal. At each status the
-/// disks that were taken are given back.
+/// disks that were taken are given back; of which nodes' they are where memory was refused, the clauses don't speak.
 pub fn replay_once<S: Source, K: Sink, H: Shelf>(
     alloc: Global,
     source: &mut S,
