@@ -1,8 +1,10 @@
 //! What a step did. Durable acts are those that a journal keeps.
+use crate::copies::{Duplicate, NoMemory};
 use crate::errors::{StmtError, Why};
 use crate::ids::{BranchId, Ticket, Xid};
 use crate::rows::{Row, RowKey};
 use crate::statuses::{Decision, GlobalStatus};
+use std::alloc::Global;
 
 /// An act that is in the node's journal once it is acknowledged. It is `Copy`, so that a crash and
 /// a failed device take no memory. The first nine are the coordinator's; numbers of local
@@ -247,4 +249,184 @@ pub enum Act {
     Restarted {
         kept: Option<Durable>,
     },
+}
+
+impl Duplicate for Act {
+    fn copy(&self, alloc: Global) -> Result<Self, NoMemory> {
+        match self {
+            Act::Durable(act) => Ok(Act::Durable(*act)),
+            Act::Known { xid } => Ok(Act::Known { xid: *xid }),
+            Act::Regranted { xid, branch } => Ok(Act::Regranted {
+                xid: *xid,
+                branch: *branch,
+            }),
+            Act::Conflict {
+                xid,
+                key,
+                holder,
+                rolling,
+            } => Ok(Act::Conflict {
+                xid: *xid,
+                key: key.copy(alloc)?,
+                holder: *holder,
+                rolling: *rolling,
+            }),
+            Act::Closed { xid, status } => Ok(Act::Closed {
+                xid: *xid,
+                status: *status,
+            }),
+            Act::Told { xid, status } => Ok(Act::Told {
+                xid: *xid,
+                status: *status,
+            }),
+            Act::Asked { xid, branch } => Ok(Act::Asked {
+                xid: *xid,
+                branch: *branch,
+            }),
+            Act::Retry { xid, branch } => Ok(Act::Retry {
+                xid: *xid,
+                branch: *branch,
+            }),
+            Act::Held { key, holder } => Ok(Act::Held {
+                key: key.copy(alloc)?,
+                holder: *holder,
+            }),
+            Act::Free => Ok(Act::Free),
+            Act::Opened { xid, call, ticket } => Ok(Act::Opened {
+                xid: *xid,
+                call: *call,
+                ticket: *ticket,
+            }),
+            Act::Waiting { xid, call } => Ok(Act::Waiting {
+                xid: *xid,
+                call: *call,
+            }),
+            Act::Again { xid, call, branch } => Ok(Act::Again {
+                xid: *xid,
+                call: *call,
+                branch: *branch,
+            }),
+            Act::Busy { xid, call, key, by } => Ok(Act::Busy {
+                xid: *xid,
+                call: *call,
+                key: key.copy(alloc)?,
+                by: *by,
+            }),
+            Act::Refused { xid, call, why } => Ok(Act::Refused {
+                xid: *xid,
+                call: *call,
+                why: why.copy(alloc)?,
+            }),
+            Act::Resent { ticket } => Ok(Act::Resent { ticket: *ticket }),
+            Act::Conflicted { ticket, count } => Ok(Act::Conflicted {
+                ticket: *ticket,
+                count: *count,
+            }),
+            Act::Dropped {
+                xid,
+                call,
+                ticket,
+                why,
+            } => Ok(Act::Dropped {
+                xid: *xid,
+                call: *call,
+                ticket: *ticket,
+                why: why.copy(alloc)?,
+            }),
+            Act::Empty { xid, branch } => Ok(Act::Empty {
+                xid: *xid,
+                branch: *branch,
+            }),
+            Act::Remarked { xid, branch } => Ok(Act::Remarked {
+                xid: *xid,
+                branch: *branch,
+            }),
+            Act::Blocked {
+                xid,
+                branch,
+                key,
+                by,
+            } => Ok(Act::Blocked {
+                xid: *xid,
+                branch: *branch,
+                key: key.copy(alloc)?,
+                by: *by,
+            }),
+            Act::Dirty {
+                xid,
+                branch,
+                key,
+                after,
+                now,
+            } => Ok(Act::Dirty {
+                xid: *xid,
+                branch: *branch,
+                key: key.copy(alloc)?,
+                after: after.copy(alloc)?,
+                now: now.copy(alloc)?,
+            }),
+            Act::Already { xid, branch } => Ok(Act::Already {
+                xid: *xid,
+                branch: *branch,
+            }),
+            Act::Unfenced { xid, branch } => Ok(Act::Unfenced {
+                xid: *xid,
+                branch: *branch,
+            }),
+            Act::Unable {
+                xid,
+                branch,
+                index,
+                why,
+            } => Ok(Act::Unable {
+                xid: *xid,
+                branch: *branch,
+                index: *index,
+                why: why.copy(alloc)?,
+            }),
+            Act::WaitingLocal { number } => Ok(Act::WaitingLocal { number: *number }),
+            Act::RefusedLocal { number, why } => Ok(Act::RefusedLocal {
+                number: *number,
+                why: why.copy(alloc)?,
+            }),
+            Act::BusyLocal { number, key, by } => Ok(Act::BusyLocal {
+                number: *number,
+                key: key.copy(alloc)?,
+                by: *by,
+            }),
+            Act::OpenedLocal { number, ticket } => Ok(Act::OpenedLocal {
+                number: *number,
+                ticket: *ticket,
+            }),
+            Act::DroppedLocal {
+                number,
+                ticket,
+                key,
+                holder,
+            } => Ok(Act::DroppedLocal {
+                number: *number,
+                ticket: *ticket,
+                key: key.copy(alloc)?,
+                holder: *holder,
+            }),
+            Act::Starts => Ok(Act::Starts),
+            Act::Repeats => Ok(Act::Repeats),
+            Act::GoesOn => Ok(Act::GoesOn),
+            Act::GivesUp => Ok(Act::GivesUp),
+            Act::CallBusy { count } => Ok(Act::CallBusy { count: *count }),
+            Act::Closes { status } => Ok(Act::Closes { status: *status }),
+            Act::Polls => Ok(Act::Polls),
+            Act::Learns { status } => Ok(Act::Learns { status: *status }),
+            Act::Silent => Ok(Act::Silent),
+            Act::Nothing => Ok(Act::Nothing),
+            Act::Ignored => Ok(Act::Ignored),
+            Act::Lost => Ok(Act::Lost),
+            Act::Armed => Ok(Act::Armed),
+            Act::Down { kept, at } => Ok(Act::Down {
+                kept: *kept,
+                at: *at,
+            }),
+            Act::Restarted { kept } => Ok(Act::Restarted { kept: *kept }),
+        }
+    }
 }

@@ -49,7 +49,8 @@ impl<T> List<T> {
 impl<T: Duplicate + Drop> Duplicate for List<T> {
     fn copy(&self, alloc: Global) -> Result<Self, NoMemory> {
         let source = self.as_slice();
-        let mut items = Vec::new(alloc);
+        // Room for all at once, so that a copy takes no more memory than its items.
+        let mut items = Vec::with_capacity(alloc, source.len()).map_err(|_| NoMemory)?;
         for item in source {
             items.push(item.copy(alloc)?).map_err(|_| NoMemory)?;
         }

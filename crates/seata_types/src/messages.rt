@@ -317,6 +317,20 @@ pub enum Input {
     Outside { number: u16 },
 }
 
+impl Duplicate for Input {
+    fn copy(&self, alloc: Global) -> Result<Self, NoMemory> {
+        match self {
+            Input::Turn => Ok(Input::Turn),
+            Input::Message { from, message } => Ok(Input::Message {
+                from: *from,
+                message: message.copy(alloc)?,
+            }),
+            Input::Local { number } => Ok(Input::Local { number: *number }),
+            Input::Outside { number } => Ok(Input::Outside { number: *number }),
+        }
+    }
+}
+
 /// A message on its way out.
 #[derive(Drop)]
 pub struct Outgoing {
@@ -324,9 +338,27 @@ pub struct Outgoing {
     pub message: Message,
 }
 
+impl Duplicate for Outgoing {
+    fn copy(&self, alloc: Global) -> Result<Self, NoMemory> {
+        Ok(Outgoing {
+            to: self.to,
+            message: self.message.copy(alloc)?,
+        })
+    }
+}
+
 /// What a step did, and the one message that it sent, if any.
 #[derive(Drop)]
 pub struct Step {
     pub act: Act,
     pub sent: Option<Outgoing>,
+}
+
+impl Duplicate for Step {
+    fn copy(&self, alloc: Global) -> Result<Self, NoMemory> {
+        Ok(Step {
+            act: self.act.copy(alloc)?,
+            sent: self.sent.copy(alloc)?,
+        })
+    }
 }

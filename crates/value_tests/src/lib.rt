@@ -14,6 +14,8 @@ mod many_images;
 #[cfg(test)]
 mod statements;
 #[cfg(test)]
+mod steps;
+#[cfg(test)]
 mod tables;
 #[cfg(test)]
 mod tellings;
