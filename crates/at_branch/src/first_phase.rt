@@ -1,5 +1,6 @@
 //! The first phase of AT branches.
 ghost use Rattle.std.specs.Prelude.{◌≡◌, ◌<◌, ◌≤◌, ◌^◌, ◌-◌, false, map, length, Some, Ok, IfSome};
+ghost use Rattle.seata_types.specs.declared.limits.TheConstants.{FIELD_ITEMS};
 ghost use Rattle.seata_types.specs.declared.statements.Work.TheVariants as work;
 ghost use Rattle.local_tables.specs.Calls.{effect};
 ghost use Rattle.local_txn.specs.OpenTickets.{Open, open_at, without, counting};
@@ -30,7 +31,7 @@ pub fn phase_one<D: Disk>(
     manager: u16,
     stmts: &[Stmt],
 ) -> Result<Ticket, ExecError>
-    requires statements { length stmts.now ≤ 65535 }
+    requires statements { length stmts.now ≤ FIELD_ITEMS }
     requires tickets { txns.old.opened < 2 ^ 32 - 1 }
     ensures { Executes txns.old (owner_by xid.0 manager call (work.At stmts.now)) (effect (known store.now).tables stmts.now) result txns.new }
 {

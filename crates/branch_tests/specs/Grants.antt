@@ -1,5 +1,6 @@
 -- What a test knows of an open local transaction before its grant.
 use Rattle.std.specs.Prelude.{◌≡◌, ◌≤◌, true, ℕ, List, length, Ok}
+use Rattle.seata_types.specs.declared.limits.TheConstants.{FIELD_ITEMS}
 use Rattle.seata_types.specs.declared.rows.Image.{Image}
 use Rattle.seata_types.specs.declared.rows.ReadRow.{ReadRow}
 use Rattle.local_tables.specs.Calls.{effect}
@@ -25,7 +26,7 @@ pub record IsOpenAs (db : Database) (call : ℕ) (images : List Image) (reads : 
 pub record IsTriedAs (db : Database) (call : ℕ) (images : List Image) (o : Open) : Type 0 where
   pub of_kind : is_tcc_call o.owner ≡ true
   pub called : call_of o.owner ≡ call
-  pub statements : length (tries_of o.owner) ≤ 65535
+  pub statements : length (tries_of o.owner) ≤ FIELD_ITEMS
   pub same : (e : Effect) → effect db (tries_of o.owner) ≡ Ok e → e.images ≡ images
 
 -- it is of this local transaction, and touched these rows; a record may come

@@ -22,7 +22,7 @@ use Rattle.session_store.specs.Meaning.{meaning_of}
 use Rattle.session_store.specs.Standing.{StandsForSessions}
 use Rattle.session_memory.proofs.Small.{and_left, and_right}
 use Rattle.coordinator_core.specs.declared.nodes.Coordinator.{Coordinator}
-use Rattle.coordinator_core.specs.declared.nodes.TheConstants.{NODE_STEPS}
+use Rattle.seata_types.specs.declared.limits.TheConstants.{NODE_STEPS}
 use Rattle.coordinator_core.specs.Opening.{GoOnAs, HandsBack, IsOpened, IsOpenedDisk}
 use Rattle.coordinator_core.specs.Standing.{StandsOver, pair_of, active_of, sessions_of, start_of, is_down, managers, resources}
 use Rattle.coordinator_core.specs.Starting.{started_on, no_moments, start_in}

@@ -2,6 +2,7 @@
 use Rattle.std.proofs.Common.{◌≡◌, ◌==◌, ◌&&◌, ◌||◌, ◌<◌, ◌^◌, not, ℕ, min, max, Bool, true, false, cond, if◌then◌else◌, List, [], ◌∷◌, ◌++◌, Option, Some, None, option_map, is_none, refl, sym, ap, subst, ◌∙◌, arith}
 use Rattle.std.specs.Prelude.{filter, find, map}
 use Rattle.std.specs.List.{list_any}
+use Rattle.seata_types.specs.declared.limits.TheConstants.{LATEST_START}
 use Rattle.seata_types.specs.declared.statuses.GlobalStatus.{GlobalStatus}
 use Rattle.seata_types.specs.declared.statuses.GlobalStatus.TheVariants as status
 use Rattle.durable_records.specs.declared.coordinators.SessionRecord.{SessionRecord}
@@ -179,4 +180,4 @@ module _ (rs : List SessionRecord) where
   latest_is (s ∷ ss) = latest_by s ss (is_forgotten rs s.xid) refl (latest_is ss)
 
   pub start_is : (memory : Snapshot) → memory ≡ snapshot_of rs → start_in memory ≡ start rs
-  start_is memory known = ap start_in known ∙ ap (λ n. min n (2 ^ 62)) (latest_is (sessions rs))
+  start_is memory known = ap start_in known ∙ ap (λ n. min n LATEST_START) (latest_is (sessions rs))

@@ -11,7 +11,7 @@ use Rattle.session_store.specs.Meaning.{meaning_of}
 use Rattle.session_store.specs.Standing.{StandsForSessions}
 use Rattle.session_store.specs.Keeping.{GoesOnAs, IsNoDamage, store_of, twin}
 use Rattle.coordinator_core.specs.declared.nodes.Coordinator.{Coordinator}
-use Rattle.coordinator_core.specs.declared.nodes.TheConstants.{NODE_STEPS}
+use Rattle.seata_types.specs.declared.limits.TheConstants.{NODE_STEPS}
 use Rattle.coordinator_core.specs.Standing.{StandsOver, is_down, managers, resources, sessions_of, steps_left}
 
 -- what an opening leaves of a disk: its size, what it tells and its last pick; its faults don't become fewer

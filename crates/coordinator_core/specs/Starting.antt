@@ -1,5 +1,6 @@
 -- What a coordinator goes by as it starts, at its opening or at a restart.
 use Rattle.std.specs.Prelude.{ℕ, ◌^◌, min, max, Bool, true, false, List, [], ◌∷◌}
+use Rattle.seata_types.specs.declared.limits.TheConstants.{LATEST_START}
 use Rattle.retry_turns.specs.Plans.{with_plan}
 use Rattle.session_log.specs.declared.sessions.SessionEntry.{SessionEntry}
 use Rattle.session_log.specs.declared.sessions.Snapshot.{Snapshot}
@@ -30,4 +31,4 @@ latest_of (e ∷ es) = max e.session.begun (latest_of es)
 
 -- the moment at which the clock starts
 abbrev pub start_in : Snapshot → ℕ
-start_in s = min (latest_of s.sessions) (2 ^ 62)
+start_in s = min (latest_of s.sessions) LATEST_START

@@ -14,4 +14,4 @@ mod starting;
 mod table;
 mod turning;
 
-pub use nodes::{Coordinator, NODE_STEPS};
+pub use nodes::Coordinator;

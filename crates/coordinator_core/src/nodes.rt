@@ -7,14 +7,12 @@ use crate::{choosing, starting};
 use disk_model::{Disk, Stoppable};
 use history_text::Node;
 use lock_table::Steps;
+use seata_types::limits::NODE_STEPS;
 use seata_types::{Act, Durable, Input, NoMemory, NodeError, OpenError, Place, Step};
 use session_store::Sessions;
 use std::alloc::Global;
 use std::marker::Brand;
 use std::sync::ledger::{Blank, Ledger};
-
-/// How many steps a node can make in all, this project's own.
-pub const NODE_STEPS: u32 = 4_294_967_294;
 
 /// The transaction coordinator, over its two disks.
 #[derive(Drop)]

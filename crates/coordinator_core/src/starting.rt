@@ -5,12 +5,10 @@ ghost use Rattle.coordinator_core.specs.Starting.{started_by, started_on, no_mom
 use crate::kinds;
 use crate::moments::Moments;
 use seata_types::NoMemory;
+use seata_types::limits::LATEST_START;
 use session_log::SessionEntry;
 use session_memory::Memory;
 use std::alloc::Global;
-
-/// The latest moment, in ticks, at which a clock starts.
-const LATEST_START: u64 = 1 << 62;
 
 /// The moment at which a coordinator's clock starts: the latest at which a transaction that it knows began.
 pub(crate) fn start_of(memory: &Memory) -> u64

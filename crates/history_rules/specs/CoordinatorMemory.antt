@@ -1,6 +1,7 @@
 -- What the coordinator's own entries leave: its records, and the moments that it goes by.
 use Rattle.std.specs.Prelude.{ℕ, zero, suc, ◌+◌, ◌^◌, ◌==◌, ◌&&◌, min, max, nat_lt, nat_le, Bool, false, if◌then◌else◌, List, [], ◌∷◌, length, Option, Some, None}
 use Rattle.std.specs.Option.{option_and_then}
+use Rattle.seata_types.specs.declared.limits.TheConstants.{LATEST_START}
 use Rattle.seata_types.specs.declared.acts.Act.{Act}
 use Rattle.seata_types.specs.declared.acts.Act.TheVariants as act
 use Rattle.seata_types.specs.declared.acts.Durable.{Durable}
@@ -66,7 +67,7 @@ latest rs (s ∷ ss) = later (is_forgotten rs s.xid) s.begun (latest rs ss)
 
 -- the moment at which the coordinator starts: the latest at which a transaction that it still knows began
 abbrev pub start : List SessionRecord → ℕ
-start past = min (latest past (sessions past)) (2 ^ 62)
+start past = min (latest past (sessions past)) LATEST_START
 
 abbrev pub due_by_durable : ℕ → ℕ → Durable → ℕ → ℕ → ℕ
 due_by_durable retry now (durable.Late xid) x before = if xid.0 == x then now else before

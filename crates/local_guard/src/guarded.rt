@@ -1,5 +1,6 @@
 //! Guarded local transactions.
 ghost use Rattle.std.specs.Prelude.{◌≡◌, ◌<◌, ◌≤◌, ◌^◌, ◌-◌, false, [], length, IfSome};
+ghost use Rattle.seata_types.specs.declared.limits.TheConstants.{FIELD_ITEMS};
 ghost use Rattle.durable_records.specs.declared.resources.ResourceRecord.TheVariants as log;
 ghost use Rattle.local_tables.specs.Calls.{effect};
 ghost use Rattle.local_txn.specs.OpenTickets.{OfLocal, open_at};
@@ -23,7 +24,7 @@ pub fn open_local<D: Disk>(
     number: u16,
     stmts: &[Stmt],
 ) -> Result<Ticket, ExecError>
-    requires statements { length stmts.now ≤ 65535 }
+    requires statements { length stmts.now ≤ FIELD_ITEMS }
     requires tickets { txns.old.opened < 2 ^ 32 - 1 }
     ensures { Executes txns.old (OfLocal number) (effect (known store.now).tables stmts.now) result txns.new }
 {

@@ -1,5 +1,6 @@
 //! Outside writes.
 ghost use Rattle.std.specs.Prelude.{◌≡◌, ◌≤◌, false, length, Ok};
+ghost use Rattle.seata_types.specs.declared.limits.TheConstants.{FIELD_ITEMS};
 ghost use Rattle.local_tables.specs.Calls.{effect};
 ghost use Rattle.durable_records.specs.declared.resources.ResourceRecord.TheVariants as log;
 ghost use Rattle.resource_store.specs.Keeping.{known, is_down, IsTaken};
@@ -25,7 +26,7 @@ pub fn outside<D: Disk>(
     stmts: &[Stmt],
 ) -> Result<(), OutsideError>
     requires up { is_down store.old ≡ false }
-    requires statements { length stmts.now ≤ 65535 }
+    requires statements { length stmts.now ≤ FIELD_ITEMS }
     requires places { HasPlaces (known store.old).tables stmts.now (log.Outside number) }
     ensures writes { WritesOutside D.state number txns.now.opens (effect (known store.old).tables stmts.now) result store.old store.new }
     ensures leaves { Leaves D.state (made_by result) store.old store.new }

@@ -13,13 +13,14 @@ use std::collections::BTreeMap;
 
 impl Tables {
     ghost use Rattle.std.specs.Prelude.{◌≡◌, ◌≤◌, length, Ok, IfOk};
+    ghost use Rattle.seata_types.specs.declared.limits.TheConstants.{FIELD_ITEMS};
     ghost use Rattle.local_tables.specs.Calls.{nothing, steps, Means, effect};
     ghost use Rattle.local_tables.specs.Rows.{AreRising, AreImagesOf};
     ghost use Rattle.local_tables.specs.Sound.{AreChangesOf};
 
     /// The statements one after the other: what they did, or the first without a meaning, counted from 1, and why.
     fn run(&self, alloc: Global, stmts: &[Stmt]) -> Result<CallState, EffectError>
-        requires { length stmts.now ≤ 65535 }
+        requires { length stmts.now ≤ FIELD_ITEMS }
         ensures meaning { Means (steps self.now 0 (Ok nothing) stmts.now) result }
         ensures changes { IfOk result (λ call. AreChangesOf self.now.resource self.now.schema call.changes) }
     {
@@ -41,7 +42,7 @@ impl Tables {
     /// them, each row that they read as they read it last, and how many rows each of them touches. Or the first
     /// statement without a meaning, counted from 1, and why. The tables stay as they are.
     pub fn effect(&self, alloc: Global, stmts: &[Stmt]) -> Result<Effect, EffectError>
-        requires { length stmts.now ≤ 65535 }
+        requires { length stmts.now ≤ FIELD_ITEMS }
         ensures means { Means (effect self.now stmts.now) result }
         ensures rising { IfOk result (λ found. AreRising found.images) }
         ensures applicable { IfOk result (λ found. AreImagesOf self.now found.images) }

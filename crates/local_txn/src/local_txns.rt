@@ -42,6 +42,7 @@ impl Model for LocalTxns {
 impl LocalTxns {
     ghost use Rattle.std.specs.Prelude.{◌≡◌, ◌<◌, ◌≤◌, ◌^◌, ◌-◌, true, Some, None, is_some, length, find, option_map, OnOk, OnErr, IfOk};
     ghost use Rattle.std.specs.Option.{option_copied};
+    ghost use Rattle.seata_types.specs.declared.limits.TheConstants.{FIELD_ITEMS};
     ghost use Rattle.seata_types.specs.declared.statements.Work.TheVariants as work;
     ghost use Rattle.local_tables.specs.Calls.{effect};
     ghost use Rattle.local_txn.specs.OpenTickets.{AreDistinct, Open, open_at, without, sent_again, last_of, has_row, ticket_with};
@@ -72,7 +73,7 @@ impl LocalTxns {
         stmts: &[Stmt],
         tables: &Tables,
     ) -> Result<Ticket, ExecError>
-        requires statements { length stmts.now ≤ 65535 }
+        requires statements { length stmts.now ≤ FIELD_ITEMS }
         requires tickets { self.old.opened < 2 ^ 32 - 1 }
         ensures { Executes self.old (owner_by xid.0 manager call (work.At stmts.now)) (effect tables.now stmts.now) result self.new }
     {

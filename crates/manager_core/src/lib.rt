@@ -7,4 +7,4 @@ mod phases;
 mod settings;
 mod talks;
 
-pub use nodes::{Manager, NODE_STEPS};
+pub use nodes::Manager;

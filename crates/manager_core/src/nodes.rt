@@ -5,11 +5,9 @@ use crate::phases::Phase;
 use crate::settings::Settings;
 use crate::talks::Talk;
 use history_text::Node;
+use seata_types::limits::NODE_STEPS;
 use seata_types::{Act, Ending, Input, List, NoMemory, NodeError, OpenError, Place, Step, Work};
 use std::alloc::Global;
-
-/// How many steps a manager can make in all, this project's own.
-pub const NODE_STEPS: u32 = 4_294_967_294;
 
 /// A transaction manager, in memory. It runs one transaction.
 #[derive(Drop)]
@@ -25,7 +23,7 @@ impl Manager {
     ghost use Rattle.history_rules.specs.ManagerRules as rules;
     ghost use Rattle.manager_core.specs.Standing.{StandsFor, settings, steps_of};
     ghost use Rattle.manager_core.specs.Within.{IsWithin, settings_with};
-    ghost use Rattle.manager_core.specs.declared.nodes.TheConstants.{NODE_STEPS};
+    ghost use Rattle.seata_types.specs.declared.limits.TheConstants.{NODE_STEPS};
 
     /// A manager that did nothing yet, with its timeout in ticks, how often each call may be busy, its calls with the numbers
     /// of their resources, how it ends, how many messages it sends where they are limited, and whether it asks for the

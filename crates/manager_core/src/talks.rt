@@ -35,7 +35,7 @@ impl Talk {
     ghost use Rattle.manager_core.specs.Answers.{Answers, Hears, IsAnswered, Says, Speaks};
     ghost use Rattle.manager_core.specs.Calls.{next_message, next_phase};
     ghost use Rattle.manager_core.specs.Tracks.{Tracks};
-    ghost use Rattle.manager_core.specs.declared.nodes.TheConstants.{NODE_STEPS};
+    ghost use Rattle.seata_types.specs.declared.limits.TheConstants.{NODE_STEPS};
     ghost use Rattle.manager_core.specs.declared.phases.Phase.TheVariants as phases;
 
     /// Whether the end of its transaction was answered.

@@ -6,7 +6,7 @@ use Rattle.std.proofs.lemmas.Bool.Decides.{nat_tests}
 use Rattle.disk_journal.specs.Reading.{record_length, row_length}
 use Rattle.journal_checkpoint.specs.declared.types.Found.{Found}
 use Rattle.journal_checkpoint.specs.Images.{with_record}
-use Rattle.memory_store.specs.declared.machine.TheConstants.{ACTS}
+use Rattle.seata_types.specs.declared.limits.TheConstants.{ACTS}
 use Rattle.memory_store.specs.Meanings.{Meaning, IsLawful, Reads}
 use Rattle.memory_store.specs.Settling.{settled}
 use Rattle.memory_store.specs.Holdings.{may_follow, after_one, and_then, replayed, start_of, records_at, from_start, held_in, place_of}

@@ -2,7 +2,7 @@
 use Rattle.std.specs.Prelude.{◌≡◌, ℕ, ◌+◌, ◌<◌, Bool, true, All, Option, Some, None, List, Result, Ok, Err}
 use Rattle.memory_store.specs.declared.errors.ReadError.{ReadError}
 use Rattle.memory_store.specs.declared.errors.ReadError.TheVariants as why
-use Rattle.memory_store.specs.declared.machine.TheConstants.{ACTS}
+use Rattle.seata_types.specs.declared.limits.TheConstants.{ACTS}
 
 pub record Meaning (Memory Item : Type 0) : Type 1 where
   -- what is known of no records, and after one more

@@ -7,7 +7,7 @@ use Rattle.journal_checkpoint.specs.declared.types.Found.{Found}
 use Rattle.journal_checkpoint.specs.declared.twin.Twin.{Twin}
 use Rattle.journal_checkpoint.specs.Images.{PairStandsFor, CannotCheckpoint, only_snapshot}
 use Rattle.journal_checkpoint.specs.Keeping.{KeepsPair, active_disk, other_disk, generation_of, records_length}
-use Rattle.memory_store.specs.declared.machine.TheConstants.{ACTS}
+use Rattle.seata_types.specs.declared.limits.TheConstants.{ACTS}
 use Rattle.memory_store.specs.Meanings.{Meaning}
 use Rattle.memory_store.specs.Holdings.{held_in}
 

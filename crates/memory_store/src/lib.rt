@@ -9,5 +9,5 @@ mod settling;
 mod store;
 
 pub use errors::ReadError;
-pub use machine::{ACTS, StateMachine};
+pub use machine::StateMachine;
 pub use store::Store;

@@ -4,10 +4,8 @@ ghost use Rattle.memory_store.specs.Meanings.{Meaning, IsLawful, Reads};
 
 use crate::errors::ReadError;
 use seata_types::NoMemory;
+use seata_types::limits::ACTS;
 use std::alloc::Global;
-
-/// A snapshot is written only while fewer acts than this stand.
-pub const ACTS: u32 = 2_147_483_648;
 
 /// How records make a memory, and how both stand as bytes. Its values are the settings of that: what must be known beside
 /// the bytes to read them.

@@ -6,9 +6,10 @@ ghost use Rattle.journal_checkpoint.specs.Images.{LeavesPairs};
 ghost use Rattle.journal_checkpoint.specs.Keeping.{KeepsPair, disks, first_disk, second_disk, is_down};
 ghost use Rattle.memory_store.specs.Settling.{KeepsOrSettled, StandsOrSettled, RunsOn, IsShort, CannotSettle, IsNoDamage};
 
-use crate::machine::{ACTS, StateMachine};
+use crate::machine::StateMachine;
 use disk_model::{Disk, Failed};
 use journal_checkpoint::Twin;
+use seata_types::limits::ACTS;
 use seata_types::{NoMemory, OpenError};
 use std::alloc::Global;
 

@@ -15,15 +15,13 @@ use Rattle.history_text.specs.declared.entries.Cause.{Cause}
 use Rattle.history_text.specs.declared.entries.Entry.{Entry}
 use Rattle.history_text.specs.Promises.{StaysItself}
 use Rattle.coordinator_core.specs.declared.nodes.Coordinator.{Coordinator}
-use Rattle.coordinator_core.specs.declared.nodes.TheConstants.{NODE_STEPS as COORDINATOR_STEPS}
+use Rattle.seata_types.specs.declared.limits.TheConstants.{NODE_STEPS}
 use Rattle.coordinator_core.specs.Standing as coordinator
 use Rattle.coordinator_core.specs.Stepping as stepping
 use Rattle.resource_core.specs.declared.nodes.Resource.{Resource}
-use Rattle.resource_core.specs.declared.nodes.TheConstants.{NODE_STEPS as RESOURCE_STEPS}
 use Rattle.resource_core.specs.NodeStanding as resource
 use Rattle.resource_core.specs.Shown as shown
 use Rattle.manager_core.specs.declared.nodes.Manager.{Manager}
-use Rattle.manager_core.specs.declared.nodes.TheConstants.{NODE_STEPS as MANAGER_STEPS}
 use Rattle.manager_core.specs.Standing as manager
 use Rattle.node_seat.specs.Entering.{entry_at}
 use Rattle.node_seat.specs.Keeping.{IsBehind}
@@ -100,14 +98,14 @@ module _ {N K : Type 0} (left : N → ℕ) (steps stamp now : ℕ) where
 
 module _ (stamp now stamp' later : ℕ) (rises : stamp ≤ stamp') (passes : now ≤ later) where
   resource_later : {D K : Type 0} (k : ℕ) (m : Member (Resource D) K) → IsKthResource stamp now k m → IsKthResource stamp' later k m
-  resource_later k m g = record { goes = goes_later shown.steps_left RESOURCE_STEPS stamp now stamp' later rises passes m g.goes; at = g.at; serving = g.serving }
+  resource_later k m g = record { goes = goes_later shown.steps_left NODE_STEPS stamp now stamp' later rises passes m g.goes; at = g.at; serving = g.serving }
 
   manager_later : {K : Type 0} (k : ℕ) (m : Member Manager K) → IsKthManager stamp now k m → IsKthManager stamp' later k m
-  manager_later k m g = record { goes = goes_later manager.steps_of MANAGER_STEPS stamp now stamp' later rises passes m g.goes; number = g.number }
+  manager_later k m g = record { goes = goes_later manager.steps_of NODE_STEPS stamp now stamp' later rises passes m g.goes; number = g.number }
 
   pub nodes_later : {D K : Type 0} (managers resources : ℕ) (n : Nodes D K) → NodesGo managers resources stamp now n → NodesGo managers resources stamp' later n
   nodes_later managers resources n g = record {
-    coordinator = goes_later coordinator.steps_left COORDINATOR_STEPS stamp now stamp' later rises passes n.coordinator g.coordinator;
+    coordinator = goes_later coordinator.steps_left NODE_STEPS stamp now stamp' later rises passes n.coordinator g.coordinator;
     serving = g.serving;
     resource_count = g.resource_count;
     each_resource = λ k m at. resource_later k m (g.each_resource k m at);
@@ -124,8 +122,8 @@ module _ {D K : Type 0} (state : D → DiskState) (managers resources stamp now 
   next_managers : (k : ℕ) (m : Member Manager K) → slice_get old.managers.items k ≡ Some m → IsKthManager (stamp + 1) now k m
   next_managers k m at = manager_later stamp now (stamp + 1) now (omega arith) (omega arith) k m (g.each_manager k m at)
 
-  next_coordinator : CanGoOn coordinator.steps_left COORDINATOR_STEPS (stamp + 1) now old.coordinator
-  next_coordinator = goes_later coordinator.steps_left COORDINATOR_STEPS stamp now (stamp + 1) now (omega arith) (omega arith) old.coordinator g.coordinator
+  next_coordinator : CanGoOn coordinator.steps_left NODE_STEPS (stamp + 1) now old.coordinator
+  next_coordinator = goes_later coordinator.steps_left NODE_STEPS stamp now (stamp + 1) now (omega arith) (omega arith) old.coordinator g.coordinator
 
   -- of the coordinator
   pub goes_coordinator : (new : Member (Coordinator D) K) (r : Result (Option Letter) RunFault) → coordinator.steps_left old.coordinator.seat.node ≤ coordinator.steps_left new.seat.node + 1
@@ -133,7 +131,7 @@ module _ {D K : Type 0} (state : D → DiskState) (managers resources stamp now 
       → IsMade (coordinator.StandsAs state) stepping.stands_at (coordinator.disks_of state) coordinator.needs (coordinator.size_of state) old.coordinator new stamp now why event r
       → OnOk r (NodesGo managers resources (stamp + 1) now (with_coordinator old new))
   goes_coordinator new (Ok letter) counted same made = record {
-    coordinator = goes_made coordinator.steps_left COORDINATOR_STEPS stamp now (coordinator.StandsAs state) stepping.stands_at (coordinator.disks_of state) coordinator.needs (coordinator.size_of state)
+    coordinator = goes_made coordinator.steps_left NODE_STEPS stamp now (coordinator.StandsAs state) stepping.stands_at (coordinator.disks_of state) coordinator.needs (coordinator.size_of state)
         old.coordinator new why event letter g.coordinator counted made;
     serving = λ given may framable. same.same_inputs given (g.serving given may framable);
     resource_count = g.resource_count;
@@ -162,7 +160,7 @@ module _ {D K : Type 0} (state : D → DiskState) (managers resources stamp now 
         this =
             let kept = g.each_resource k before placed in
             record {
-              goes = goes_made shown.steps_left RESOURCE_STEPS stamp now (resource.StandsAs state) shown.stands_at (shown.disks_of state) shown.needs (shown.size_of state) before after why event letter kept.goes counted made;
+              goes = goes_made shown.steps_left NODE_STEPS stamp now (resource.StandsAs state) shown.stands_at (shown.disks_of state) shown.needs (shown.size_of state) before after why event letter kept.goes counted made;
               at = same.same_place ∙ kept.at;
               serving = λ given serves. same.same_inputs given (kept.serving given serves);
             }
@@ -194,7 +192,7 @@ module _ {D K : Type 0} (state : D → DiskState) (managers resources stamp now 
         this =
             let kept = g.each_manager k before placed in
             record {
-              goes = goes_made manager.steps_of MANAGER_STEPS stamp now manager.StandsAs manager_at manager_disks manager_needs manager_size before after why event letter kept.goes counted made;
+              goes = goes_made manager.steps_of NODE_STEPS stamp now manager.StandsAs manager_at manager_disks manager_needs manager_size before after why event letter kept.goes counted made;
               number = same_number (manager.settings after.seat.node).number (manager.settings before.seat.node).number same ∙ kept.number;
             }
           where

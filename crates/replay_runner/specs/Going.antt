@@ -14,15 +14,13 @@ use Rattle.scenario_reader.specs.Runnable.{IsPlaceAmong, IsServerAmong}
 use Rattle.durable_records.specs.SessionOrder.{has_resource, is_counted}
 use Rattle.history_text.specs.declared.entries.Cause.{Cause}
 use Rattle.history_text.specs.Framing.{ComesFramable}
-use Rattle.coordinator_core.specs.declared.nodes.TheConstants.{NODE_STEPS as COORDINATOR_STEPS}
+use Rattle.seata_types.specs.declared.limits.TheConstants.{NODE_STEPS}
 use Rattle.coordinator_core.specs.Standing as coordinator
 use Rattle.resource_core.specs.declared.nodes.Resource.{Resource}
-use Rattle.resource_core.specs.declared.nodes.TheConstants.{NODE_STEPS as RESOURCE_STEPS}
 use Rattle.resource_core.specs.NodeStanding as resource
 use Rattle.resource_core.specs.Ready.{Serves}
 use Rattle.resource_core.specs.Shown as shown
 use Rattle.manager_core.specs.declared.nodes.Manager.{Manager}
-use Rattle.manager_core.specs.declared.nodes.TheConstants.{NODE_STEPS as MANAGER_STEPS}
 use Rattle.manager_core.specs.Standing as manager
 use Rattle.node_seat.specs.Entering.{IsOfDisks}
 use Rattle.node_seat.specs.Keeping.{IsBehind, IsInputOf}
@@ -40,18 +38,18 @@ pub record CanGoOn {N K : Type 0} (left : N → ℕ) (steps stamp now : ℕ) (m 
 
 -- the k-th resource, counted from 0, which serves each input that can be framed
 pub record IsKthResource {D K : Type 0} (stamp now k : ℕ) (m : Member (Resource D) K) : Type 0 where
-  pub goes : CanGoOn shown.steps_left RESOURCE_STEPS stamp now m
+  pub goes : CanGoOn shown.steps_left NODE_STEPS stamp now m
   pub at : shown.stands_at m.seat.node ≡ place.Res (k + 1)
   pub serving : (given : Input) → Serves given → resource.serves m.seat.node given
 
 -- the k-th manager
 pub record IsKthManager {K : Type 0} (stamp now k : ℕ) (m : Member Manager K) : Type 0 where
-  pub goes : CanGoOn manager.steps_of MANAGER_STEPS stamp now m
+  pub goes : CanGoOn manager.steps_of NODE_STEPS stamp now m
   pub number : (manager.settings m.seat.node).number ≡ k + 1
 
 -- all nodes, so many managers and resources among them
 pub record NodesGo {D K : Type 0} (managers resources stamp now : ℕ) (n : Nodes D K) : Type 0 where
-  pub coordinator : CanGoOn coordinator.steps_left COORDINATOR_STEPS stamp now n.coordinator
+  pub coordinator : CanGoOn coordinator.steps_left NODE_STEPS stamp now n.coordinator
   pub serving : ServesAll managers resources n.coordinator.seat.node
   pub resource_count : length n.resources.items ≡ resources
   pub each_resource : (k : ℕ) (m : Member (Resource D) K) → slice_get n.resources.items k ≡ Some m → IsKthResource stamp now k m

@@ -4,6 +4,7 @@ use Rattle.std.specs.Map.{lookup}
 use Rattle.std.specs.Option.{option_and_then}
 use Rattle.std.specs.Prelude.{IfSome}
 use Rattle.std.proofs.lemmas.List.Elements.{All-head, All-tail}
+use Rattle.seata_types.specs.declared.limits.TheConstants.{FIELD_ITEMS}
 use Rattle.seata_types.specs.declared.ids.Ticket.{Ticket}
 use Rattle.seata_types.specs.declared.statements.Action.{Action}
 use Rattle.seata_types.specs.declared.statements.Stmt.{Stmt}
@@ -42,14 +43,14 @@ then_few : {A : Type 0} (P : A → Type 0) (f : A → Option (List Stmt)) → ((
 then_few P f step None is = tt
 then_few P f step (Some a) is = step a is
 
-map_few : {A : Type 0} (P : A → Type 0) (f : A → List Stmt) → ((a : A) → P a → length (f a) ≤ 65535) → (o : Option A) → Of P o → AreFew (option_map f o)
+map_few : {A : Type 0} (P : A → Type 0) (f : A → List Stmt) → ((a : A) → P a → length (f a) ≤ FIELD_ITEMS) → (o : Option A) → Of P o → AreFew (option_map f o)
 map_few P f step None is = tt
 map_few P f step (Some a) is = step a is
 
 -- ---- a scenario
 
 module _ (schema : Schema) where
-  few : (wanted : _) (stmts : List Stmt) → AreStatements schema wanted stmts → length stmts ≤ 65535
+  few : (wanted : _) (stmts : List Stmt) → AreStatements schema wanted stmts → length stmts ≤ FIELD_ITEMS
   few wanted stmts are = let most : length stmts ≤ 16 = are.few in omega (arith, most)
 
 call_of : (s : Scenario) (m c : ℕ) → IsRunnable s → Of (IsCall s.resources) (call_at s m c)
@@ -68,7 +69,7 @@ module _ (defs : List ResourceDef) where
 
   -- an action with few statements in each of its second phases
   abbrev IsFewAction : Action → Type 0
-  IsFewAction a = (length a.confirms ≤ 65535) × (length a.cancels ≤ 65535)
+  IsFewAction a = (length a.confirms ≤ FIELD_ITEMS) × (length a.cancels ≤ FIELD_ITEMS)
 
   action_few : (n : ℕ) (call : ℕ × Work) → IsCall defs call → Of IsFewAction (action_in n call)
   action_few n (r, work.At stmts) is = tt

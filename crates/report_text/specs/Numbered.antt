@@ -1,6 +1,7 @@
 -- What a scenario says of a call, an action and a local transaction by their numbers, all counted from 1.
 use Rattle.std.specs.Prelude.{ℕ, ◌==◌, if◌then◌else◌, ◌≤◌, List, length, Option, Some, None, option_map}
 use Rattle.std.specs.Option.{option_and_then}
+use Rattle.seata_types.specs.declared.limits.TheConstants.{FIELD_ITEMS}
 use Rattle.seata_types.specs.declared.statements.Action.{Action}
 use Rattle.seata_types.specs.declared.statements.Stmt.{Stmt}
 use Rattle.seata_types.specs.declared.statements.Work.{Work}
@@ -63,4 +64,4 @@ local_at s n k = option_and_then (local_in n) (counted_at s.locals k)
 -- no more statements than an effect is taken of
 abbrev pub AreFew : Option (List Stmt) → Type 0
 AreFew None = Unit {0}
-AreFew (Some stmts) = length stmts ≤ 65535
+AreFew (Some stmts) = length stmts ≤ FIELD_ITEMS

@@ -5,6 +5,7 @@ use Rattle.std.specs.List.{AllByRecursion}
 use Rattle.std.specs.Map.{lookup, remove_entry}
 use Rattle.std.specs.Ordering.{nat_cmp, ordering_then}
 use Rattle.std.specs.declared.cmp.Ordering.{Ordering}
+use Rattle.seata_types.specs.declared.limits.TheConstants.{FIELD_ITEMS}
 use Rattle.seata_types.specs.declared.ids.Ticket.{Ticket}
 use Rattle.history_rules.specs.ResourceMemory.{Open, open_at, call_of, tries_of}
 use Rattle.report_text.specs.declared.kept.OpenWork.{OpenWork}
@@ -28,7 +29,7 @@ without_work works t = remove_entry (is_at (ticket_cmp t)) works
 
 -- a Try has no more statements than an effect is taken of
 abbrev pub HasFew : OpenWork → Type 0
-HasFew w = length w.tries ≤ 65535
+HasFew w = length w.tries ≤ FIELD_ITEMS
 
 abbrev pub HaveFew : Works → Type 0
 HaveFew works = AllByRecursion (λ e. HasFew e.1) works

@@ -1,6 +1,7 @@
 //! The records of a resource, made of what is kept of an open ticket or of the statements of the scenario.
 ghost use Rattle.std.specs.Prelude.{◌≡◌, ◌≤◌, length, option_map, IfOk, IfSome};
 ghost use Rattle.std.specs.Option.{option_copied};
+ghost use Rattle.seata_types.specs.declared.limits.TheConstants.{FIELD_ITEMS};
 ghost use Rattle.history_rules.specs.ResourceMemory.{no_effect, effect_on, or_empty};
 ghost use Rattle.report_text.specs.Made.{images_on, committed_from, tried_from, local_from, plain_made};
 ghost use Rattle.report_text.specs.Numbered.{AreFew};
@@ -25,7 +26,7 @@ fn no_effect(alloc: Global) -> Effect
 
 // The effect of statements that have one.
 fn effect_on(alloc: Global, tables: &Tables, stmts: &List<Stmt>) -> Result<Effect, NoMemory>
-    requires { length stmts.now ≤ 65535 }
+    requires { length stmts.now ≤ FIELD_ITEMS }
     ensures { IfOk result (λ effect. effect ≡ effect_on tables.now stmts.now) }
 {
     match tables.effect(alloc, stmts.as_slice()) {

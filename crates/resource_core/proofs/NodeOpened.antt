@@ -21,7 +21,7 @@ use Rattle.resource_store.specs.Openings.{IsBootDamage, IsUndamaged}
 use Rattle.resource_store.specs.Standing.{StandsForRecords}
 use Rattle.record_places.specs.Within.{IsTableWithin}
 use Rattle.resource_core.specs.declared.nodes.Resource.{Resource}
-use Rattle.resource_core.specs.declared.nodes.TheConstants.{NODE_STEPS}
+use Rattle.seata_types.specs.declared.limits.TheConstants.{NODE_STEPS}
 use Rattle.resource_core.specs.declared.setup.Setup.{Setup}
 use Rattle.resource_core.specs.NodeOpening.{HandsBack, IsOpened, IsOpenedDisk, IsSetupWithin, setting_at, setup_at}
 use Rattle.resource_core.specs.NodeStanding.{IsSound, StandsOver}

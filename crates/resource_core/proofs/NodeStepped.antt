@@ -38,7 +38,7 @@ use Rattle.resource_store.specs.Meaning.{IsOf, Opens, Setting}
 use Rattle.record_places.specs.Within.{IsTableWithin}
 use Rattle.resource_core.specs.declared.branches.Branches.{Branches}
 use Rattle.resource_core.specs.declared.nodes.Resource.{Resource}
-use Rattle.resource_core.specs.declared.nodes.TheConstants.{NODE_STEPS}
+use Rattle.seata_types.specs.declared.limits.TheConstants.{NODE_STEPS}
 use Rattle.resource_core.specs.Holding.{Holds}
 use Rattle.resource_core.specs.NodeMoving.{Misses}
 use Rattle.resource_core.specs.NodeLaws.{on_same}

@@ -6,6 +6,7 @@ use Rattle.std.proofs.lemmas.Bool.{and_from}
 use Rattle.std.proofs.lemmas.Bool.Decides.{nat_tests}
 use Rattle.std.proofs.lemmas.List.Elements.{recursion_from_All}
 use Rattle.std.proofs.lemmas.Option.{none-some}
+use Rattle.seata_types.specs.declared.limits.TheConstants.{FIELD_ITEMS}
 use Rattle.seata_types.specs.declared.ids.Leg.{Leg}
 use Rattle.seata_types.specs.declared.ids.Ticket.{Ticket}
 use Rattle.seata_types.specs.declared.limits.TheConstants.{CALL_ROWS}
@@ -61,7 +62,7 @@ tables_within k is = let few = is.resource.1 in record { resource = omega (arith
 -- ---- statements
 
 -- they are counted in two bytes
-pub many : {stmts : List Stmt} → AreStmtsWithin stmts → length stmts ≤ 65535
+pub many : {stmts : List Stmt} → AreStmtsWithin stmts → length stmts ≤ FIELD_ITEMS
 many is = let few = is.count in omega (arith, few)
 
 module _ (db : Database) (tables : AreTablesWithin db) where
@@ -93,7 +94,7 @@ module _ (db : Database) (tables : AreTablesWithin db) where
     tcc_may c o (OfCall m x call (work.At stmts)) owner e is = let other : kind.At ≡ kind.Tcc = ap (kind_in kind.Tcc) e in absurd cc
     tcc_may c o (OfCall m x call (work.Tcc action)) owner e is = let few = is.0.counted.1 in record {
       of_kind = ap is_tcc_call owner;
-      statements = subst (λ (v : Owner). length (tries_of v) ≤ 65535) (sym owner) (many is.1);
+      statements = subst (λ (v : Owner). length (tries_of v) ≤ FIELD_ITEMS) (sym owner) (many is.1);
       places = subst (λ (v : Owner). HasPlaces db (tries_of v) (log.Tried leg.xid leg.branch (call_of v))) (sym owner) (λ found means. (places action.tries is.1 found means).tried leg call small (omega (arith, few)));
     }
 

@@ -17,7 +17,7 @@ use Rattle.resource_store.specs.Openings.{IsUndamaged, IsBootDamage}
 use Rattle.resource_store.specs.Standing.{StandsForRecords}
 use Rattle.record_places.specs.Within.{IsTableWithin}
 use Rattle.resource_core.specs.declared.nodes.Resource.{Resource}
-use Rattle.resource_core.specs.declared.nodes.TheConstants.{NODE_STEPS}
+use Rattle.seata_types.specs.declared.limits.TheConstants.{NODE_STEPS}
 use Rattle.resource_core.specs.declared.setup.Setup.{Setup}
 use Rattle.resource_core.specs.NodeStanding.{StandsOver, IsSound}
 use Rattle.resource_core.specs.Ready.{HasActionWithin, HasStmtsWithin}

@@ -20,7 +20,7 @@ use Rattle.resource_store.specs.Meaning.{Setting, Opens, IsOf}
 use Rattle.resource_store.specs.Standing.{StandsForRecords}
 use Rattle.record_places.specs.Within.{IsTableWithin}
 use Rattle.resource_core.specs.declared.nodes.Resource.{Resource}
-use Rattle.resource_core.specs.declared.nodes.TheConstants.{NODE_STEPS}
+use Rattle.seata_types.specs.declared.limits.TheConstants.{NODE_STEPS}
 use Rattle.resource_core.specs.Holding.{Holds}
 use Rattle.resource_core.specs.Ready.{AreTicketsWithin, HasActionWithin, HasStmtsWithin, Serves}
 use Rattle.resource_core.specs.Shown.{store_of, setup_in, pair_of, active_of}

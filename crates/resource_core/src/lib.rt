@@ -16,5 +16,5 @@ mod requests;
 pub mod setup;
 
 pub use branches::Branches;
-pub use nodes::{NODE_STEPS, Resource};
+pub use nodes::Resource;
 pub use setup::Setup;

@@ -8,11 +8,9 @@ use disk_model::{Disk, Stoppable};
 use history_text::Node;
 use local_txn::LocalTxns;
 use resource_store::Store;
+use seata_types::limits::NODE_STEPS;
 use seata_types::{Act, Durable, Input, NodeError, OpenError, Place, Step, StoreError};
 use std::alloc::Global;
-
-/// How many steps a node can make in all, this project's own.
-pub const NODE_STEPS: u32 = 4_294_967_294;
 
 /// A resource, over its two disks.
 #[derive(Drop)]

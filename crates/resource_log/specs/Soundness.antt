@@ -13,7 +13,7 @@ use Rattle.local_tables.specs.Rows.{each_of}
 use Rattle.resource_log.specs.declared.states.ResourceSnapshot.{ResourceSnapshot}
 use Rattle.resource_log.specs.declared.states.UndoItem.{UndoItem}
 use Rattle.resource_log.specs.declared.states.UndoItem.TheVariants as undo
-use Rattle.resource_log.specs.declared.states.TheConstants.{ACTS}
+use Rattle.seata_types.specs.declared.limits.TheConstants.{ACTS}
 use Rattle.resource_log.specs.declared.errors.SnapshotError.{SnapshotError}
 use Rattle.resource_log.specs.declared.errors.SnapshotError.TheVariants as errors
 use Rattle.resource_log.specs.Snapshots.{snapshot_in_bytes}

@@ -7,8 +7,9 @@ ghost use Rattle.byte_fields.specs.Layout.{may_come};
 ghost use Rattle.local_tables.specs.Fitting.{is_image, is_read};
 ghost use Rattle.resource_log.specs.Soundness.{has_counts, rises_after, are_rising, row_keys, has_tables, is_sound};
 
-use crate::states::{ACTS, ResourceSnapshot, UndoItem};
+use crate::states::{ResourceSnapshot, UndoItem};
 use local_tables::{Schema, is_image, is_read, row_key};
+use seata_types::limits::ACTS;
 use seata_types::{Image, List, NoMemory, ReadRow, Row, RowKey, Text};
 use std::alloc::Global;
 

@@ -13,5 +13,5 @@ mod writing;
 pub use errors::{RecordError, SnapshotError};
 pub use records::read_record;
 pub use snapshots::read_snapshot;
-pub use states::{ACTS, FenceItem, ResourceSnapshot, UndoItem};
+pub use states::{FenceItem, ResourceSnapshot, UndoItem};
 pub use writing::{write_record, write_snapshot};

@@ -6,9 +6,6 @@ use seata_types::{Image, Leg, List, ReadRow, Row, Text};
 use tcc_fence::FenceStatus;
 use undo_log::UndoRecord;
 
-/// A snapshot is written only while fewer acts than this stand.
-pub const ACTS: u32 = 2_147_483_648;
-
 /// What the undo log has of a branch, after Seata's `undo_log`: its record, with log_status 0, or the marker of a rollback
 /// that found none, with log_status 1.
 #[derive(Drop)]

@@ -28,7 +28,7 @@ use Rattle.resource_log.specs.Snapshots.{undo_leg, undo_follows, fence_follows, 
 use Rattle.resource_log.specs.Soundness.{has_tables, are_rising, row_keys, is_sound}
 use Rattle.resource_log.specs.declared.states.FenceItem.{FenceItem}
 use Rattle.resource_log.specs.declared.states.ResourceSnapshot.{ResourceSnapshot}
-use Rattle.resource_log.specs.declared.states.TheConstants.{ACTS}
+use Rattle.seata_types.specs.declared.limits.TheConstants.{ACTS}
 use Rattle.resource_log.specs.declared.states.UndoItem.{UndoItem}
 use Rattle.resource_log.specs.declared.states.UndoItem.TheVariants as undo
 use Rattle.resource_memory.specs.Keeping.{HasItsKey, IsEntryOf, AreCalls, IsKept, FitsBranch, FitsParts, HasCounts}

@@ -11,7 +11,7 @@ use Rattle.local_tables.specs.Rows.{Database}
 use Rattle.durable_records.specs.declared.resources.ResourceRecord.{ResourceRecord}
 use Rattle.memory_store.specs.Holdings.{may_follow, after_one, and_then, replayed, start_of, from_start, records_at, held_in as held_by_found}
 use Rattle.resource_log.specs.declared.states.ResourceSnapshot.{ResourceSnapshot}
-use Rattle.resource_log.specs.declared.states.TheConstants.{ACTS}
+use Rattle.seata_types.specs.declared.limits.TheConstants.{ACTS}
 use Rattle.resource_log.specs.Records.{FitsRecord, record_of, record_bytes}
 use Rattle.resource_log.specs.Snapshots.{snapshot_in_bytes}
 use Rattle.resource_log.specs.SnapshotOf.{snapshot_of}

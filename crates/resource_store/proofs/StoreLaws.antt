@@ -19,7 +19,7 @@ use Rattle.memory_store.proofs.Replaying.{few_acts, rows_are_long}
 use Rattle.memory_store.proofs.TwinFacts.{end_is_small}
 use Rattle.durable_records.specs.declared.resources.ResourceRecord.{ResourceRecord}
 use Rattle.resource_memory.specs.Known.{Known, known_of}
-use Rattle.resource_log.specs.declared.states.TheConstants.{ACTS}
+use Rattle.seata_types.specs.declared.limits.TheConstants.{ACTS}
 use Rattle.resource_log.specs.Records.{FitsRecord, record_of, record_bytes}
 use Rattle.resource_log.proofs.SnapshotLaws.{snapshots_are_of_layouts}
 use Rattle.resource_memory.specs.Changes.{after, may_come}

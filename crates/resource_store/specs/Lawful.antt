@@ -7,7 +7,7 @@ use Rattle.durable_records.specs.declared.resources.ResourceRecord.{ResourceReco
 use Rattle.durable_records.specs.declared.resources.ResourceRecord.TheVariants as log
 use Rattle.memory_store.specs.Meanings.{IsLawful}
 use Rattle.resource_log.specs.declared.states.ResourceSnapshot.{ResourceSnapshot}
-use Rattle.resource_log.specs.declared.states.TheConstants.{ACTS}
+use Rattle.seata_types.specs.declared.limits.TheConstants.{ACTS}
 use Rattle.resource_log.specs.Records.{record_of}
 use Rattle.resource_log.specs.Snapshots.{snapshot_in_bytes}
 use Rattle.resource_log.specs.SnapshotOf.{named_row}

@@ -5,7 +5,7 @@ use Rattle.journal_checkpoint.specs.Images.{PairStandsFor}
 use Rattle.durable_records.specs.declared.resources.ResourceRecord.{ResourceRecord}
 use Rattle.durable_records.specs.ResourceOrder.{Allowed}
 use Rattle.memory_store.specs.Readings as readings
-use Rattle.resource_log.specs.declared.states.TheConstants.{ACTS}
+use Rattle.seata_types.specs.declared.limits.TheConstants.{ACTS}
 use Rattle.resource_log.specs.Records.{FitsRecord, record_of}
 use Rattle.resource_log.specs.Snapshots.{snapshot_in_bytes}
 use Rattle.resource_log.specs.SnapshotOf.{snapshot_of}

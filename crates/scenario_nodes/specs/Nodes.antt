@@ -16,16 +16,14 @@ use Rattle.history_text.specs.Worlds.{settings_of, setup_of, times_of}
 use Rattle.session_store.specs.Keeping.{twin as sessions_twin}
 use Rattle.resource_store.specs.Keeping.{twin as store_twin}
 use Rattle.coordinator_core.specs.declared.nodes.Coordinator.{Coordinator as CoordinatorNode}
-use Rattle.coordinator_core.specs.declared.nodes.TheConstants.{NODE_STEPS as COORDINATOR_STEPS}
+use Rattle.seata_types.specs.declared.limits.TheConstants.{NODE_STEPS}
 use Rattle.coordinator_core.specs.Serving.{HasNumbers}
 use Rattle.coordinator_core.specs.Standing as coordinator
 use Rattle.resource_core.specs.declared.nodes.Resource.{Resource as ResourceNode}
-use Rattle.resource_core.specs.declared.nodes.TheConstants.{NODE_STEPS as RESOURCE_STEPS}
 use Rattle.resource_core.specs.NodeStanding as resource
 use Rattle.resource_core.specs.Ready.{Serves}
 use Rattle.resource_core.specs.Shown as shown
 use Rattle.manager_core.specs.declared.nodes.Manager.{Manager as ManagerNode}
-use Rattle.manager_core.specs.declared.nodes.TheConstants.{NODE_STEPS as MANAGER_STEPS}
 use Rattle.manager_core.specs.Standing as manager
 use Rattle.scenario_nodes.specs.Shelves.{AllTell}
 
@@ -72,7 +70,7 @@ pub record IsNewCoordinator {D : Type 0} (state : D → DiskState) (s : Scenario
   pub stands : AreTold (coordinator.disks_of state c) → coordinator.StandsAs state c (coordinator_role s) []
   pub told : AllTell state → AreTold (coordinator.disks_of state c)
   pub sized : HaveSize s.disk (coordinator.disks_of state c)
-  pub steps : coordinator.steps_left c ≡ COORDINATOR_STEPS
+  pub steps : coordinator.steps_left c ≡ NODE_STEPS
   pub serving : ServesAll managers resources c
 
 -- its resource of this number, counted from 1
@@ -81,10 +79,10 @@ pub record IsNewResource {D : Type 0} (state : D → DiskState) (s : Scenario) (
   pub told : AllTell state → AreTold (shown.disks_of state r)
   pub sized : HaveSize s.disk (shown.disks_of state r)
   pub at : shown.stands_at r ≡ place.Res n
-  pub steps : shown.steps_left r ≡ RESOURCE_STEPS
+  pub steps : shown.steps_left r ≡ NODE_STEPS
   pub serving : (given : Input) → Serves given → resource.serves r given
 
 -- its manager of this number
 pub record IsNewManager (s : Scenario) (n : ℕ) (def : ManagerDef) (m : ManagerNode) : Type 0 where
   pub stands : manager.StandsAs m (manager_role s n def) []
-  pub steps : manager.steps_of m ≡ MANAGER_STEPS
+  pub steps : manager.steps_of m ≡ NODE_STEPS

@@ -1,6 +1,6 @@
 //! The calls of managers, and the locals.
 ghost use Rattle.std.specs.Prelude.{◌≡◌, ◌≤◌, ◌<◌, [], option_map, option_copied, length, codes, IfOk};
-ghost use Rattle.seata_types.specs.declared.limits.TheConstants.{LOCALS};
+ghost use Rattle.seata_types.specs.declared.limits.TheConstants.{LOCALS, RESOURCES};
 ghost use Rattle.serde_json.specs.View.{view, items_view};
 ghost use Rattle.scenario_reader.specs.Calls as form;
 ghost use Rattle.scenario_reader.specs.Faults.{Answers, AnswersAs, each, member, vec_of};
@@ -126,7 +126,7 @@ fn call(
     resources: &[ResourceDef],
     value: &Value,
 ) -> Result<(u16, Work), ScenarioError>
-    requires { length resources.now ≤ 32 }
+    requires { length resources.now ≤ RESOURCES }
     ensures { Answers (form.call resources.now (view value.now)) result }
 {
     an_object(alloc, value)?;
@@ -141,7 +141,7 @@ fn each_call(
     resources: &[ResourceDef],
     values: &[Value],
 ) -> Result<Vec<(u16, Work)>, ScenarioError>
-    requires { length resources.now ≤ 32 }
+    requires { length resources.now ≤ RESOURCES }
     ensures { AnswersAs vec_of (each (form.next_call resources.now) [] (items_view values.now)) result }
 {
     let mut calls = Vec::new(alloc);
@@ -162,7 +162,7 @@ pub fn calls(
     resources: &[ResourceDef],
     found: Option<&Value>,
 ) -> Result<List<(u16, Work)>, ScenarioError>
-    requires { length resources.now ≤ 32 }
+    requires { length resources.now ≤ RESOURCES }
     ensures { Answers (form.calls resources.now (option_map view (option_copied found.entry))) result }
 {
     let values = list(alloc, CALLS, found)?;
@@ -190,7 +190,7 @@ fn local_item(
     resources: &[ResourceDef],
     value: &Value,
 ) -> Result<(u16, List<Stmt>), ScenarioError>
-    requires { length resources.now ≤ 32 }
+    requires { length resources.now ≤ RESOURCES }
     ensures { Answers (form.local_item resources.now (view value.now)) result }
 {
     an_object(alloc, value)?;
@@ -205,7 +205,7 @@ fn each_local(
     resources: &[ResourceDef],
     values: &[Value],
 ) -> Result<Vec<(u16, List<Stmt>)>, ScenarioError>
-    requires { length resources.now ≤ 32 }
+    requires { length resources.now ≤ RESOURCES }
     ensures exact { AnswersAs vec_of (each (form.next_local resources.now) [] (items_view values.now)) result }
     ensures whole { IfOk result (λ locals. length locals.items ≡ length values.now) }
 {
@@ -227,7 +227,7 @@ pub fn locals(
     resources: &[ResourceDef],
     found: Option<&Value>,
 ) -> Result<List<(u16, List<Stmt>)>, ScenarioError>
-    requires { length resources.now ≤ 32 }
+    requires { length resources.now ≤ RESOURCES }
     ensures exact { Answers (form.locals resources.now (option_map view (option_copied found.entry))) result }
     ensures few { IfOk result (λ locals. length locals ≤ LOCALS) }
 {

@@ -1,5 +1,6 @@
 //! The scenario of a JSON value, or its first fault in the order of the members.
 ghost use Rattle.std.specs.Prelude.{◌≡◌, ◌≤◌, ◌≢◌, [], codes, length, option_map, IfOk, IfErr};
+ghost use Rattle.seata_types.specs.declared.limits.TheConstants.{RESOURCES};
 ghost use Rattle.serde_json.specs.View.{view};
 ghost use Rattle.scenario_reader.specs.Form as form;
 ghost use Rattle.scenario_reader.specs.Form.{IsTold};
@@ -44,7 +45,7 @@ fn only_members(alloc: Global, value: &Value) -> Result<(), ScenarioError>
 #[tactic(auto, unfolding(crate::specs::Form::servers))]
 fn servers(alloc: Global, value: &Value) -> Result<(Settings, List<ResourceDef>), ScenarioError>
     ensures exact { Answers (form.servers (view value.now)) result }
-    ensures few { IfOk result (λ s. length s.1 ≤ 32) }
+    ensures few { IfOk result (λ s. length s.1 ≤ RESOURCES) }
 {
     an_object(alloc, value)?;
     let set = settings_of(alloc, value)?;
@@ -61,7 +62,7 @@ fn read_stops(
     resources: &[ResourceDef],
     found: Option<Value>,
 ) -> Result<List<(Place, u32, u16)>, ScenarioError>
-    requires { length resources.now ≤ 32 }
+    requires { length resources.now ≤ RESOURCES }
     ensures { Answers (within (to_member (codes "stops")) (stops resources.now (option_map view found))) result }
 {
     stops(alloc, resources, found.as_ref()).map_err(|fault| fault.in_member(alloc, "stops"))

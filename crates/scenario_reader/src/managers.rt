@@ -1,6 +1,6 @@
 //! Managers.
 ghost use Rattle.std.specs.Prelude.{◌≡◌, ◌≤◌, [], option_map, option_copied, length, IfOk};
-ghost use Rattle.seata_types.specs.declared.limits.TheConstants.{MANAGERS};
+ghost use Rattle.seata_types.specs.declared.limits.TheConstants.{MANAGERS, RESOURCES};
 ghost use Rattle.serde_json.specs.View.{view, items_view};
 ghost use Rattle.scenario_reader.specs.Managers as form;
 ghost use Rattle.scenario_reader.specs.Faults.{Answers, AnswersAs, each, vec_of};
@@ -70,7 +70,7 @@ fn heading(
     defs: &[ManagerDef],
     value: &Value,
 ) -> Result<(Text, u64, List<(u16, Work)>), ScenarioError>
-    requires { length resources.now ≤ 32 }
+    requires { length resources.now ≤ RESOURCES }
     ensures exact { Answers (form.heading resources.now timeout defs.now (view value.now)) result }
 {
     an_object(alloc, value)?;
@@ -106,7 +106,7 @@ fn manager(
     defs: &[ManagerDef],
     value: &Value,
 ) -> Result<ManagerDef, ScenarioError>
-    requires { length resources.now ≤ 32 }
+    requires { length resources.now ≤ RESOURCES }
     ensures exact { Answers (form.manager resources.now timeout defs.now (view value.now)) result }
 {
     let (name, timeout, calls) = heading(alloc, resources, timeout, defs, value)?;
@@ -128,7 +128,7 @@ fn each_manager(
     timeout: u64,
     values: &[Value],
 ) -> Result<Vec<ManagerDef>, ScenarioError>
-    requires { length resources.now ≤ 32 }
+    requires { length resources.now ≤ RESOURCES }
     ensures exact { AnswersAs vec_of (each (form.manager resources.now timeout) [] (items_view values.now)) result }
     ensures whole { IfOk result (λ managers. length managers.items ≡ length values.now) }
 {
@@ -150,7 +150,7 @@ pub fn managers(
     timeout: u64,
     found: Option<&Value>,
 ) -> Result<List<ManagerDef>, ScenarioError>
-    requires { length resources.now ≤ 32 }
+    requires { length resources.now ≤ RESOURCES }
     ensures exact { Answers (form.managers resources.now timeout (option_map view (option_copied found.entry))) result }
     ensures few { IfOk result (λ managers. length managers ≤ MANAGERS) }
 {

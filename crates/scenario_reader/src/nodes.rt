@@ -1,6 +1,6 @@
 //! The nodes that a step or a stop names, and the stops.
 ghost use Rattle.std.specs.Prelude.{◌≡◌, ◌≤◌, [], option_map, option_copied, length, IfOk};
-ghost use Rattle.seata_types.specs.declared.limits.TheConstants.{MANAGERS};
+ghost use Rattle.seata_types.specs.declared.limits.TheConstants.{MANAGERS, RESOURCES};
 ghost use Rattle.serde_json.specs.View.{view, items_view};
 ghost use Rattle.scenario_reader.specs.Nodes as form;
 ghost use Rattle.scenario_reader.specs.Faults.{Answers, AnswersAs, each, vec_of};
@@ -19,7 +19,7 @@ use std::alloc::Global;
 /// The coordinator or the resource of this name.
 #[tactic(auto, unfolding(crate::specs::Nodes::server))]
 pub fn server(alloc: Global, resources: &[ResourceDef], name: &str) -> Result<Place, ScenarioError>
-    requires { length resources.now ≤ 32 }
+    requires { length resources.now ≤ RESOURCES }
     ensures { Answers (form.server resources.now name.now) result }
 {
     if name == "tc" {
@@ -39,7 +39,7 @@ pub fn node(
     managers: &[ManagerDef],
     name: &str,
 ) -> Result<Place, ScenarioError>
-    requires resources { length resources.now ≤ 32 }
+    requires resources { length resources.now ≤ RESOURCES }
     requires managers { length managers.now ≤ MANAGERS }
     ensures { Answers (form.node resources.now managers.now name.now) result }
 {
@@ -57,7 +57,7 @@ pub fn node(
 
 /// The node of a stop.
 fn stopped(alloc: Global, resources: &[ResourceDef], value: &Value) -> Result<Place, ScenarioError>
-    requires { length resources.now ≤ 32 }
+    requires { length resources.now ≤ RESOURCES }
     ensures { Answers (form.stopped resources.now (view value.now)) result }
 {
     let name = text_in(alloc, value)?;
@@ -74,7 +74,7 @@ fn stop(
     resources: &[ResourceDef],
     value: &Value,
 ) -> Result<(Place, u32, u16), ScenarioError>
-    requires { length resources.now ≤ 32 }
+    requires { length resources.now ≤ RESOURCES }
     ensures { Answers (form.stop resources.now (view value.now)) result }
 {
     let (first, second, third) = triple(alloc, value)?;
@@ -93,7 +93,7 @@ fn each_stop(
     resources: &[ResourceDef],
     values: &[Value],
 ) -> Result<Vec<(Place, u32, u16)>, ScenarioError>
-    requires { length resources.now ≤ 32 }
+    requires { length resources.now ≤ RESOURCES }
     ensures { AnswersAs vec_of (each (form.next_stop resources.now) [] (items_view values.now)) result }
 {
     let mut stops = Vec::new(alloc);
@@ -114,7 +114,7 @@ pub fn stops(
     resources: &[ResourceDef],
     found: Option<&Value>,
 ) -> Result<List<(Place, u32, u16)>, ScenarioError>
-    requires { length resources.now ≤ 32 }
+    requires { length resources.now ≤ RESOURCES }
     ensures { Answers (form.stops resources.now (option_map view (option_copied found.entry))) result }
 {
     match found {

@@ -1,5 +1,6 @@
 //! Resources: their names, their tables and the rows that these have at the opening.
 ghost use Rattle.std.specs.Prelude.{◌≡◌, ◌≤◌, ◌+◌, ◌++◌, [], option_map, option_copied, length, IfOk, IfErr, OnOk};
+ghost use Rattle.seata_types.specs.declared.limits.TheConstants.{RESOURCES};
 ghost use Rattle.serde_json.specs.View.{view, items_view};
 ghost use Rattle.scenario_reader.specs.Resources as form;
 ghost use Rattle.scenario_reader.specs.Faults.{Answers, AnswersAs, each, vec_of};
@@ -110,7 +111,7 @@ fn each_resource(alloc: Global, values: &[Value]) -> Result<Vec<ResourceDef>, Sc
 #[tactic(auto, unfolding(crate::specs::Resources::resources))]
 pub fn resources(alloc: Global, found: Option<&Value>) -> Result<List<ResourceDef>, ScenarioError>
     ensures exact { Answers (form.resources (option_map view (option_copied found.entry))) result }
-    ensures few { IfOk result (λ resources. length resources ≤ 32) }
+    ensures few { IfOk result (λ resources. length resources ≤ RESOURCES) }
 {
     let values = list(alloc, RESOURCES, found)?;
     let resources = each_resource(alloc, values)?;

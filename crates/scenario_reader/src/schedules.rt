@@ -1,6 +1,6 @@
 //! The texts of a schedule.
 ghost use Rattle.std.specs.Prelude.{◌≡◌, ◌≤◌, ◌+◌, [], List as Items, option_map, option_copied, length, IfOk};
-ghost use Rattle.seata_types.specs.declared.limits.TheConstants.{LOCALS, MANAGERS, SCHEDULE_MEMBERS, STEPS};
+ghost use Rattle.seata_types.specs.declared.limits.TheConstants.{LOCALS, MANAGERS, RESOURCES, SCHEDULE_MEMBERS, STEPS};
 ghost use Rattle.serde_json.specs.View.{view, items_view};
 ghost use Rattle.scenario_reader.specs.Steps as form;
 ghost use Rattle.scenario_reader.specs.Faults.{Answers, AnswersAs, each, vec_of};
@@ -38,7 +38,7 @@ fn turn(
     managers: &[ManagerDef],
     rest: &str,
 ) -> Result<ScheduleItem, ScenarioError>
-    requires resources { length resources.now ≤ 32 }
+    requires resources { length resources.now ≤ RESOURCES }
     requires managers { length managers.now ≤ MANAGERS }
     ensures { Answers (form.turn resources.now managers.now rest.now) result }
 {
@@ -84,7 +84,7 @@ fn auto(alloc: Global, rest: &str) -> Result<ScheduleItem, ScenarioError>
 
 #[tactic(auto, unfolding(crate::specs::Steps::stop))]
 fn stop(alloc: Global, resources: &[ResourceDef], rest: &str) -> Result<ScheduleItem, ScenarioError>
-    requires { length resources.now ≤ 32 }
+    requires { length resources.now ≤ RESOURCES }
     ensures { Answers (form.stop resources.now rest.now) result }
 {
     let (name, number) = cut(rest);
@@ -102,7 +102,7 @@ fn crash(
     resources: &[ResourceDef],
     rest: &str,
 ) -> Result<ScheduleItem, ScenarioError>
-    requires { length resources.now ≤ 32 }
+    requires { length resources.now ≤ RESOURCES }
     ensures { Answers (form.crash resources.now rest.now) result }
 {
     if !is_word(rest) {
@@ -120,7 +120,7 @@ fn armed_restart(
     name: &str,
     more: &str,
 ) -> Result<ScheduleItem, ScenarioError>
-    requires { length resources.now ≤ 32 }
+    requires { length resources.now ≤ RESOURCES }
     ensures { Answers (form.armed_restart resources.now name.now more.now) result }
 {
     let (picked, number) = cut(more);
@@ -144,7 +144,7 @@ fn plain_restart(
     name: &str,
     more: &str,
 ) -> Result<ScheduleItem, ScenarioError>
-    requires { length resources.now ≤ 32 }
+    requires { length resources.now ≤ RESOURCES }
     ensures { Answers (form.plain_restart resources.now name.now more.now) result }
 {
     if !is_word(name) || !is_plain(more) {
@@ -165,7 +165,7 @@ fn restart(
     resources: &[ResourceDef],
     rest: &str,
 ) -> Result<ScheduleItem, ScenarioError>
-    requires { length resources.now ≤ 32 }
+    requires { length resources.now ≤ RESOURCES }
     ensures { Answers (form.restart resources.now rest.now) result }
 {
     let (name, more) = cut(rest);
@@ -204,7 +204,7 @@ fn step_of(
     word: &str,
     rest: &str,
 ) -> Result<ScheduleItem, ScenarioError>
-    requires resources { length resources.now ≤ 32 }
+    requires resources { length resources.now ≤ RESOURCES }
     requires managers { length managers.now ≤ MANAGERS }
     requires locals { locals ≤ LOCALS }
     ensures { Answers (form.step_of resources.now managers.now locals word.now rest.now) result }
@@ -238,7 +238,7 @@ fn item_of(
     locals: usize,
     value: &Value,
 ) -> Result<ScheduleItem, ScenarioError>
-    requires resources { length resources.now ≤ 32 }
+    requires resources { length resources.now ≤ RESOURCES }
     requires managers { length managers.now ≤ MANAGERS }
     requires locals { locals ≤ LOCALS }
     ensures { Answers (form.item_of resources.now managers.now locals (view value.now)) result }
@@ -268,7 +268,7 @@ fn next_item(
     steps: usize,
     value: &Value,
 ) -> Result<ScheduleItem, ScenarioError>
-    requires resources { length resources.now ≤ 32 }
+    requires resources { length resources.now ≤ RESOURCES }
     requires managers { length managers.now ≤ MANAGERS }
     requires locals { locals ≤ LOCALS }
     requires steps { steps ≤ STEPS }
@@ -290,7 +290,7 @@ fn each_item(
     locals: usize,
     values: &[Value],
 ) -> Result<Vec<ScheduleItem>, ScenarioError>
-    requires resources { length resources.now ≤ 32 }
+    requires resources { length resources.now ≤ RESOURCES }
     requires managers { length managers.now ≤ MANAGERS }
     requires locals { locals ≤ LOCALS }
     ensures exact { AnswersAs vec_of (each (form.next_item resources.now managers.now locals) [] (items_view values.now)) result }
@@ -318,7 +318,7 @@ pub fn schedule(
     locals: usize,
     found: Option<&Value>,
 ) -> Result<List<ScheduleItem>, ScenarioError>
-    requires resources { length resources.now ≤ 32 }
+    requires resources { length resources.now ≤ RESOURCES }
     requires managers { length managers.now ≤ MANAGERS }
     requires locals { locals ≤ LOCALS }
     ensures exact { Answers (form.schedule resources.now managers.now locals (option_map view (option_copied found.entry))) result }

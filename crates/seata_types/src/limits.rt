@@ -56,12 +56,14 @@ pub const DISK_MOST: u64 = 16_777_216;
 pub const SCENARIO_DISK: u64 = 8_388_608;
 /// The body of a frame or of a journal's record, in bytes.
 pub const BODY_BYTES: usize = 1_048_576;
-/// The head of a frame, in bytes.
-pub const FRAME_HEAD: usize = 16;
-/// A whole frame, in bytes.
-pub const FRAME_BYTES: usize = 1_048_592;
 /// Items of a list and bytes of a text in a field, whose count has two bytes.
 pub const FIELD_ITEMS: usize = 65_535;
+/// Acts that a snapshot stands for are fewer.
+pub const ACTS: u32 = 2_147_483_648;
+/// Steps that a node may make.
+pub const NODE_STEPS: u32 = 4_294_967_294;
+/// The latest tick at which a coordinator's clock starts.
+pub const LATEST_START: u64 = 4_611_686_018_427_387_904;
 /// Bytes that a reader asks for at once where it reads an input piece by piece.
 pub const PIECE_BYTES: usize = 65_536;
 

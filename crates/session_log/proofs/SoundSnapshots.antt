@@ -13,7 +13,7 @@ use Rattle.durable_records.specs.Branches.{Grant, grants, branches, is_at, all_a
 use Rattle.durable_records.specs.Progress.{Progress, Goes, Retries, IsFailed, IsDone, progress, status_by, status_of, is_known}
 use Rattle.durable_records.specs.SessionOrder.{Allowed, is_counted, has_resource, is_within}
 use Rattle.session_log.specs.declared.sessions.Branch.{Branch}
-use Rattle.session_log.specs.declared.keys.TheConstants.{ACTS}
+use Rattle.seata_types.specs.declared.limits.TheConstants.{ACTS}
 use Rattle.session_log.specs.SnapshotOf.{in_order, branch_now, failure_of, entry_now, forgotten_now, snapshot_of}
 use Rattle.session_log.specs.Soundness.{has_counts, is_open_branch, is_ended_branch, is_at_branch, is_tcc_branch, is_numbered_branch, status_fits, is_failed_status, is_open_with, failure_fits, is_entry, all_differ, xids, managers_of, same_ticket_key, tickets, same_call_key, calls, is_forgotten_entry, has_sound_parts, is_sound}
 use Rattle.durable_records.proofs.RecordFacts.{known}

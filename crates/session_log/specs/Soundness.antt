@@ -21,7 +21,7 @@ use Rattle.session_log.specs.declared.keys.TicketKey.{TicketKey}
 use Rattle.session_log.specs.declared.keys.CallKey.{CallKey}
 use Rattle.session_log.specs.declared.errors.SnapshotError.{SnapshotError}
 use Rattle.session_log.specs.declared.errors.SnapshotError.TheVariants as errors
-use Rattle.session_log.specs.declared.keys.TheConstants.{ACTS}
+use Rattle.seata_types.specs.declared.limits.TheConstants.{ACTS}
 use Rattle.session_log.specs.Snapshots.{snapshot_in_bytes}
 
 -- ---- counts: fewer acts than 2^31, and no more transactions or branches than acts

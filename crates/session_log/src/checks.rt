@@ -4,9 +4,9 @@ ghost use Rattle.std.specs.List.{list_all, list_any, flat_map};
 ghost use Rattle.durable_records.specs.SessionOrder.{is_counted, has_resource};
 ghost use Rattle.session_log.specs.Soundness.{has_counts, is_numbered_branch, is_open_branch, is_ended_branch, is_at_branch, is_tcc_branch, is_open_with, status_fits, is_failed_status, failure_fits, is_entry, is_forgotten_entry, has_sound_parts, all_differ, entry_xid, entry_manager, forgotten_xid, forgotten_manager, branch_ticket, entry_tickets, branch_call, entry_calls, xids, managers_of, tickets, calls, same_ticket_key, same_call_key, is_sound};
 
-use crate::keys::{ACTS, CallKey, TicketKey};
+use crate::keys::{CallKey, TicketKey};
 use crate::sessions::{Branch, Forgotten, RegisterPlace, SessionEntry, Snapshot};
-use seata_types::limits::CALLS;
+use seata_types::limits::{ACTS, CALLS};
 use seata_types::{BranchId, BranchKind, GlobalStatus, NoMemory, RowKey, Xid};
 use std::alloc::Global;
 use std::collections::BTreeSet;

@@ -1,9 +1,6 @@
 //! What stands once in a snapshot.
 use seata_types::{Ticket, Xid};
 
-/// A snapshot is written only while fewer acts than this stand.
-pub const ACTS: u32 = 2_147_483_648;
-
 /// What an AT branch alone has: its resource and that resource's ticket.
 #[derive(Clone, Copy, PartialEq, Eq, PartialOrd, Ord)]
 pub struct TicketKey {

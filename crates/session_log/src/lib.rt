@@ -13,7 +13,7 @@ mod tags;
 mod writing;
 
 pub use errors::{RecordError, SnapshotError};
-pub use keys::{ACTS, CallKey, TicketKey};
+pub use keys::{CallKey, TicketKey};
 pub use layouts::SnapshotLayout;
 pub use records::read_record;
 pub use sessions::{Branch, Forgotten, RegisterPlace, Session, SessionEntry, Snapshot};

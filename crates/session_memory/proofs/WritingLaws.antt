@@ -29,7 +29,7 @@ use Rattle.session_log.specs.Soundness.{entry_xid, forgotten_xid, differ_after, 
 use Rattle.session_log.proofs.Members.{In, in_second}
 use Rattle.session_log.proofs.RecordLaws.{records_are_of_layouts}
 use Rattle.session_log.proofs.SnapshotLaws.{snapshots_are_of_layouts}
-use Rattle.session_log.specs.declared.keys.TheConstants.{ACTS}
+use Rattle.seata_types.specs.declared.limits.TheConstants.{ACTS}
 use Rattle.seata_types.specs.declared.limits.TheConstants.{FIELD_ITEMS}
 use Rattle.session_memory.specs.Holding.{held_in}
 use Rattle.session_memory.specs.Loading.{are_held_once}

@@ -9,7 +9,7 @@ use Rattle.session_log.specs.declared.sessions.Branch.{Branch}
 use Rattle.session_log.specs.declared.sessions.SessionEntry.{SessionEntry}
 use Rattle.session_log.specs.declared.sessions.Forgotten.{Forgotten}
 use Rattle.session_log.specs.declared.sessions.Snapshot.{Snapshot}
-use Rattle.session_log.specs.declared.keys.TheConstants.{ACTS}
+use Rattle.seata_types.specs.declared.limits.TheConstants.{ACTS}
 use Rattle.session_log.specs.Records.{record_of}
 use Rattle.session_log.specs.Snapshots.{FitsFailure, FitsSnapshot, snapshot_in_bytes}
 use Rattle.session_log.specs.Soundness.{if_sound, forgotten_xid}

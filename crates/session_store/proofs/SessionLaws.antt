@@ -22,7 +22,7 @@ use Rattle.memory_store.proofs.TwinFacts.{end_is_small, pairs_weaker}
 use Rattle.durable_records.specs.declared.coordinators.SessionRecord.{SessionRecord}
 use Rattle.durable_records.specs.SessionOrder.{is_within}
 use Rattle.session_log.specs.declared.layouts.SnapshotLayout.TheVariants as layout
-use Rattle.session_log.specs.declared.keys.TheConstants.{ACTS}
+use Rattle.seata_types.specs.declared.limits.TheConstants.{ACTS}
 use Rattle.session_log.specs.declared.sessions.RegisterPlace.{RegisterPlace}
 use Rattle.session_log.specs.declared.sessions.Snapshot.{Snapshot}
 use Rattle.session_log.specs.Records.{FitsRecord, record_of, record_bytes}

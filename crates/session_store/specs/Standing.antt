@@ -6,7 +6,7 @@ use Rattle.journal_checkpoint.specs.Images.{PairStandsFor}
 use Rattle.durable_records.specs.declared.coordinators.SessionRecord.{SessionRecord}
 use Rattle.durable_records.specs.SessionOrder.{Allowed, is_within}
 use Rattle.session_log.specs.declared.sessions.Snapshot.{Snapshot}
-use Rattle.session_log.specs.declared.keys.TheConstants.{ACTS}
+use Rattle.seata_types.specs.declared.limits.TheConstants.{ACTS}
 use Rattle.session_log.specs.Snapshots.{snapshot_in_bytes}
 use Rattle.session_store.specs.Readings.{AreRecords, of_coordinator}
 

@@ -1,6 +1,7 @@
 -- What the fences that are known answer against those of the records, and so each answer.
 use Rattle.std.proofs.Common.{◌≡◌, ◌∙◌, ◌≤◌, ℕ, length, zero, suc, true, false, List, Option, Some, None, Result, refl, sym, ap, ap₂, subst, true≢false}
 use Rattle.std.specs.Prelude.{IfSome}
+use Rattle.seata_types.specs.declared.limits.TheConstants.{FIELD_ITEMS}
 use Rattle.disk_model.specs.Disk.{DiskState}
 use Rattle.seata_types.specs.declared.errors.StoreError.{StoreError}
 use Rattle.seata_types.specs.declared.ids.Leg.{Leg}
@@ -80,8 +81,8 @@ module _ (txn : OpenTxn) (a : Action) (is : txn.work ≡ work.Tcc a) (kind : is_
   tries_at = ap (λ (w : Work). tries_of (owner_by txn.xid.0 txn.manager txn.call w)) is ∙ tries_are txn.xid.0 txn.manager txn.call a kind_is
 
   module _ (ss : List Stmt) (same : ss ≡ a.tries) where
-    pub few_statements : length (tries_of (open_of txn).owner) ≤ 65535 → length ss ≤ 65535
-    few_statements few = subst (λ (l : List Stmt). length l ≤ 65535) (tries_at ∙ sym same) few
+    pub few_statements : length (tries_of (open_of txn).owner) ≤ FIELD_ITEMS → length ss ≤ FIELD_ITEMS
+    few_statements few = subst (λ (l : List Stmt). length l ≤ FIELD_ITEMS) (tries_at ∙ sym same) few
 
     pub tries_places : (db : Database) (leg : Leg) → HasPlaces db (tries_of (open_of txn).owner) (log.Tried leg.xid leg.branch (call_of (open_of txn).owner)) → HasPlaces db ss (log.Tried leg.xid leg.branch txn.call)
     tries_places db leg places =

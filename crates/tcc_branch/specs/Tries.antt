@@ -1,5 +1,6 @@
 -- What a grant does to a TCC branch: whether its Try runs, by the records, the tables and the open tickets.
 use Rattle.std.specs.Prelude.{◌≡◌, ℕ, ◌≤◌, Bool, true, false, List, length, Option, Some, None, Result, Ok, Err}
+use Rattle.seata_types.specs.declared.limits.TheConstants.{FIELD_ITEMS}
 use Rattle.seata_types.specs.declared.errors.StmtError.{StmtError}
 use Rattle.seata_types.specs.declared.errors.StoreError.{StoreError}
 use Rattle.seata_types.specs.declared.errors.Why.TheVariants as why
@@ -58,7 +59,7 @@ is_tcc_call (OfLocal k) = false
 -- an open ticket of a TCC call, of no more statements than are counted, whose Try's record has a place in a journal
 pub record MayTry (db : Database) (leg : Leg) (o : Open) : Type 0 where
   pub of_kind : is_tcc_call o.owner ≡ true
-  pub statements : length (tries_of o.owner) ≤ 65535
+  pub statements : length (tries_of o.owner) ≤ FIELD_ITEMS
   pub places : HasPlaces db (tries_of o.owner) (log.Tried leg.xid leg.branch (call_of o.owner))
 
 -- a grant after which no Try ran left its store as it was

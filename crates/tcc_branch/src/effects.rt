@@ -1,5 +1,6 @@
 //! The effect of statements on the tables of a store.
 ghost use Rattle.std.specs.Prelude.{◌≤◌, length, IfOk};
+ghost use Rattle.seata_types.specs.declared.limits.TheConstants.{FIELD_ITEMS};
 ghost use Rattle.local_tables.specs.Calls.{effect, Means};
 ghost use Rattle.local_tables.specs.Rows.{AreImagesOf, AreRising};
 ghost use Rattle.resource_store.specs.Keeping.{known};
@@ -16,7 +17,7 @@ pub(crate) fn effect_now<D: Disk>(
     store: &Store<D>,
     stmts: &[Stmt],
 ) -> Result<Effect, EffectError>
-    requires { length stmts.now ≤ 65535 }
+    requires { length stmts.now ≤ FIELD_ITEMS }
     ensures means { Means (effect (known store.now).tables stmts.now) result }
     ensures rising { IfOk result (λ e. AreRising e.images) }
     ensures applicable { IfOk result (λ e. AreImagesOf (known store.now).tables e.images) }

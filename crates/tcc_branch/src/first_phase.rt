@@ -1,5 +1,6 @@
 //! The first phase of TCC branches.
 ghost use Rattle.std.specs.Prelude.{◌≡◌, ◌<◌, ◌≤◌, ◌^◌, ◌-◌, false, length, Ok, IfSome, IfOk};
+ghost use Rattle.seata_types.specs.declared.limits.TheConstants.{FIELD_ITEMS};
 ghost use Rattle.seata_types.specs.declared.statements.Work.TheVariants as work;
 ghost use Rattle.local_tables.specs.Calls.{effect};
 ghost use Rattle.durable_records.specs.declared.resources.ResourceRecord.TheVariants as log;
@@ -107,7 +108,7 @@ fn run_try<D: Disk>(
     stmts: &[Stmt],
 ) -> Result<TryAnswer, StoreError>
     requires up { is_down store.old ≡ false }
-    requires statements { length stmts.now ≤ 65535 }
+    requires statements { length stmts.now ≤ FIELD_ITEMS }
     requires places { HasPlaces (known store.old).tables stmts.now (log.Tried leg.xid leg.branch call) }
     ensures gives { Gives D.state (tcc_granted leg call (effect (known store.old).tables stmts.now) (on_try (fence_at (known store.old).fences leg))) result store.old store.new }
     ensures leaves { Leaves D.state result store.old store.new }
@@ -129,7 +130,7 @@ fn run_statements<D: Disk>(
     stmts: &[Stmt],
 ) -> Result<TryAnswer, StoreError>
     requires up { is_down store.old ≡ false }
-    requires statements { length stmts.now ≤ 65535 }
+    requires statements { length stmts.now ≤ FIELD_ITEMS }
     requires places { HasPlaces (known store.old).tables stmts.now (log.Tried leg.xid leg.branch call) }
     requires runs { on_try (fence_at (known store.old).fences leg) ≡ Runs }
     ensures gives { Gives D.state (try_meant leg call (effect (known store.old).tables stmts.now)) result store.old store.new }

@@ -1,5 +1,6 @@
 //! The second phase of TCC branches.
 ghost use Rattle.std.specs.Prelude.{◌≡◌, ◌≤◌, false, length, IfOk};
+ghost use Rattle.seata_types.specs.declared.limits.TheConstants.{FIELD_ITEMS};
 ghost use Rattle.local_tables.specs.Calls.{effect};
 ghost use Rattle.durable_records.specs.declared.resources.ResourceRecord.TheVariants as log;
 ghost use Rattle.durable_records.specs.Fences.{Runs, Suspends, on_confirm, on_cancel};
@@ -28,7 +29,7 @@ pub fn confirm<D: Disk>(
     action: &Action,
 ) -> Result<TccAnswer, StoreError>
     requires up { is_down store.old ≡ false }
-    requires statements { length action.now.confirms ≤ 65535 }
+    requires statements { length action.now.confirms ≤ FIELD_ITEMS }
     requires places { HasPlaces (known store.old).tables action.now.confirms (log.Confirmed leg.xid leg.branch) }
     ensures answer { GivesBy D.state (confirmed leg action.now) result store.old store.new }
     ensures told { IfOk result (λ a. a ≡ (confirmed_on (known store.old) leg action.now.confirms).told) }
@@ -51,7 +52,7 @@ pub fn cancel<D: Disk>(
     action: &Action,
 ) -> Result<TccAnswer, StoreError>
     requires up { is_down store.old ≡ false }
-    requires statements { length action.now.cancels ≤ 65535 }
+    requires statements { length action.now.cancels ≤ FIELD_ITEMS }
     requires places { HasPlaces (known store.old).tables action.now.cancels (log.Cancelled leg.xid leg.branch) }
     ensures answer { GivesBy D.state (cancelled leg action.now) result store.old store.new }
     ensures told { IfOk result (λ a. a ≡ (cancelled_on (known store.old) leg action.now.cancels).told) }
@@ -87,7 +88,7 @@ fn run_confirm<D: Disk>(
     stmts: &[Stmt],
 ) -> Result<TccAnswer, StoreError>
     requires up { is_down store.old ≡ false }
-    requires statements { length stmts.now ≤ 65535 }
+    requires statements { length stmts.now ≤ FIELD_ITEMS }
     requires places { HasPlaces (known store.old).tables stmts.now (log.Confirmed leg.xid leg.branch) }
     requires runs { on_confirm (fence_at (known store.old).fences leg) ≡ Runs }
     ensures gives { Gives D.state (confirm_runs leg (effect (known store.old).tables stmts.now)) result store.old store.new }
@@ -112,7 +113,7 @@ fn run_cancel<D: Disk>(
     stmts: &[Stmt],
 ) -> Result<TccAnswer, StoreError>
     requires up { is_down store.old ≡ false }
-    requires statements { length stmts.now ≤ 65535 }
+    requires statements { length stmts.now ≤ FIELD_ITEMS }
     requires places { HasPlaces (known store.old).tables stmts.now (log.Cancelled leg.xid leg.branch) }
     requires runs { on_cancel (fence_at (known store.old).fences leg) ≡ Runs }
     ensures gives { Gives D.state (cancel_runs leg (effect (known store.old).tables stmts.now)) result store.old store.new }

@@ -1,4 +1,5 @@
 use Rattle.std.proofs.Common.{◌≤◌, List, length, refl, subst}
+use Rattle.seata_types.specs.declared.limits.TheConstants.{FIELD_ITEMS}
 use Rattle.seata_types.specs.declared.statements.Stmt.{Stmt}
 use Rattle.durable_records.specs.declared.resources.ResourceRecord.TheVariants as log
 use Rattle.resource_store.specs.Answers.{HasPlaces}
@@ -7,7 +8,7 @@ use Rattle.branch_tests.proofs.KnownGrants.{has_places}
 use Rattle.branch_tests.proofs.tcc_branches.cancel_as.Goals as goal
 
 pub cancel-requires-clause-statements : goal.cancel-requires-clause-statements
-cancel-requires-clause-statements c = subst (λ (ss : List Stmt). length ss ≤ 65535) c.as_slice.ensures (c.if-not-has_images.ensures.few refl)
+cancel-requires-clause-statements c = subst (λ (ss : List Stmt). length ss ≤ FIELD_ITEMS) c.as_slice.ensures (c.if-not-has_images.ensures.few refl)
 
 pub cancel-requires-clause-places : goal.cancel-requires-clause-places
 cancel-requires-clause-places c =

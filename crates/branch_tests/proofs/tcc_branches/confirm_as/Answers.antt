@@ -1,4 +1,5 @@
 use Rattle.std.proofs.Common.{◌≤◌, List, length, refl, subst}
+use Rattle.seata_types.specs.declared.limits.TheConstants.{FIELD_ITEMS}
 use Rattle.seata_types.specs.declared.statements.Stmt.{Stmt}
 use Rattle.durable_records.specs.declared.resources.ResourceRecord.TheVariants as log
 use Rattle.resource_store.specs.Answers.{HasPlaces}
@@ -7,7 +8,7 @@ use Rattle.branch_tests.proofs.KnownGrants.{has_places}
 use Rattle.branch_tests.proofs.tcc_branches.confirm_as.Goals as goal
 
 pub confirm-requires-clause-statements : goal.confirm-requires-clause-statements
-confirm-requires-clause-statements c = subst (λ (ss : List Stmt). length ss ≤ 65535) c.as_slice.ensures (c.if-not-has_images.ensures.few refl)
+confirm-requires-clause-statements c = subst (λ (ss : List Stmt). length ss ≤ FIELD_ITEMS) c.as_slice.ensures (c.if-not-has_images.ensures.few refl)
 
 pub confirm-requires-clause-places : goal.confirm-requires-clause-places
 confirm-requires-clause-places c =

@@ -1,4 +1,5 @@
 use Rattle.std.proofs.Common.{◌∙◌, ◌≤◌, length, ap, refl, subst, sym}
+use Rattle.seata_types.specs.declared.limits.TheConstants.{FIELD_ITEMS}
 use Rattle.seata_types.specs.declared.errors.Why.TheVariants as why
 use Rattle.durable_records.specs.declared.resources.ResourceRecord.TheVariants as log
 use Rattle.local_tables.specs.Calls.{effect}
@@ -13,7 +14,7 @@ use Rattle.tcc_branch.proofs.first_phase.run_statements.Goals as goal
 
 pub untouched-requires : goal.untouched-requires
 untouched-requires g c =
-    subst (λ n. n ≤ 65535) (sym (ap length c.as_slice.ensures ∙ (counted_effect (known c.args.store.now).tables c.args.stmts.now c.in-Ok.effect c.in-Ok.ensures.means).counts)) c.requires.statements
+    subst (λ n. n ≤ FIELD_ITEMS) (sym (ap length c.as_slice.ensures ∙ (counted_effect (known c.args.store.now).tables c.args.stmts.now c.in-Ok.effect c.in-Ok.ensures.means).counts)) c.requires.statements
 
 pub tried-requires-clause-taken : goal.tried-requires-clause-taken
 tried-requires-clause-taken g c =

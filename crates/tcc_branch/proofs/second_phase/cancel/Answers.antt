@@ -1,4 +1,5 @@
 use Rattle.std.proofs.Common.{◌∙◌, ◌≤◌, List, length, ap, sym, refl, subst}
+use Rattle.seata_types.specs.declared.limits.TheConstants.{FIELD_ITEMS}
 use Rattle.seata_types.specs.declared.statements.Stmt.{Stmt}
 use Rattle.local_tables.specs.Calls.{effect}
 use Rattle.durable_records.specs.declared.resources.ResourceRecord.TheVariants as log
@@ -14,7 +15,7 @@ use Rattle.tcc_branch.proofs.FenceLaws.{cancels, fenced}
 use Rattle.tcc_branch.proofs.second_phase.cancel.Goals as goal
 
 pub run_cancel-requires-clause-statements : goal.run_cancel-requires-clause-statements
-run_cancel-requires-clause-statements g c = subst (λ (ss : List Stmt). length ss ≤ 65535) (sym c.as_slice.ensures) c.requires.statements
+run_cancel-requires-clause-statements g c = subst (λ (ss : List Stmt). length ss ≤ FIELD_ITEMS) (sym c.as_slice.ensures) c.requires.statements
 
 pub run_cancel-requires-clause-places : goal.run_cancel-requires-clause-places
 run_cancel-requires-clause-places g c = subst (λ (ss : List Stmt). HasPlaces (known c.args.store.now).tables ss (log.Cancelled c.args.leg.xid c.args.leg.branch)) (sym c.as_slice.ensures) c.requires.places
