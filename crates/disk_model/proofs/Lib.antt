@@ -4,6 +4,7 @@ mod Kept
 mod Padded
 mod Marks
 mod Moments
+pub mod Named
 mod Picked
 pub mod Put
 mod Sides

@@ -1,4 +1,4 @@
-ghost use Rattle.std.specs.Prelude.{◌≡◌, ◌≢◌, ◌^◌, ◌<◌, ◌≤◌, ◌↔◌, ℕ, Bool, List, IsTrue, IsSome, Some, None, true, IfOk, OnOk, OnErr, IsErrOf};
+ghost use Rattle.std.specs.Prelude.{◌≡◌, ◌≢◌, ◌⊎◌, ◌^◌, ◌<◌, ◌≤◌, ◌↔◌, ℕ, Bool, List, IsTrue, IsSome, Some, None, true, IfOk, OnOk, OnErr, IsErrOf};
 ghost use Rattle.disk_model.specs.Disk.{Rose};
 ghost use Rattle.disk_model.specs.Shelf.{IsBlank, SameUnder};
 
@@ -24,13 +24,16 @@ pub trait Shelf {
     /// This disk is the one last given back under this name.
     ghost given_back: { Self → List ℕ → Self.D → Type 0 };
 
-    /// A new disk under this name, of this size in bytes. It makes the place for the disk to be given back to. A disk that
-    /// was given back before, under this name or another, stays the one last given back there.
+    /// A new disk under this name, of this size in bytes. It makes the place for the disk to be given back to, and no other;
+    /// none where it fails. A disk that was given back before, under this name or another, stays the one last given back
+    /// there.
     fn take(&mut self, alloc: Global, name: &str, size: u64) -> Result<Self::D, ShelfError>
         requires { size < 2 ^ 32 }
         ensures blank { IfOk result (λ disk. IsBlank size (Self.D.state disk)) }
         ensures place { OnOk result (has_place self.new name.now) }
         ensures places { (n : List ℕ) → has_place self.old n → has_place self.new n }
+        ensures made { (n : List ℕ) → has_place self.new n → has_place self.old n ⊎ (n ≡ name.now) }
+        ensures none { OnErr result ((n : List ℕ) → has_place self.new n → has_place self.old n) }
         ensures given { (n : List ℕ) → SameUnder n (given_back self.old) (given_back self.new) }
         ensures failed { IsErrOf result ShelfError.Failed → Rose (faults self.old) (faults self.new) }
         ensures faults { faults self.old ≤ faults self.new }
@@ -41,6 +44,7 @@ pub trait Shelf {
         ensures given { IsTrue (tells self.old) → has_place self.old name.now → given_back self.new name.now disk }
         ensures only { (d : Self.D) → given_back self.new name.now d → d ≡ disk }
         ensures places { (n : List ℕ) → has_place self.old n → has_place self.new n }
+        ensures none { (n : List ℕ) → has_place self.new n → has_place self.old n }
         ensures others { (n : List ℕ) → n ≢ name.now → SameUnder n (given_back self.old) (given_back self.new) }
         ensures faults { faults self.old ≤ faults self.new }
         ensures tells { tells self.new ≡ tells self.old };
@@ -69,6 +73,8 @@ impl MemShelf {
     fn make_place(&mut self, alloc: Global, name: &str) -> Result<(), NoMemory>
         ensures place { OnOk result (IsSome (place name.now self.new)) }
         ensures places { (n : List ℕ) → IsSome (place n self.old) → IsSome (place n self.new) }
+        ensures made { (n : List ℕ) → IsSome (place n self.new) → IsSome (place n self.old) ⊎ (n ≡ name.now) }
+        ensures none { OnErr result ((n : List ℕ) → IsSome (place n self.new) → IsSome (place n self.old)) }
         ensures disks { (n : List ℕ) (disk : _) → place n self.new ≡ Some (Some disk) ↔ place n self.old ≡ Some (Some disk) }
     {
         if self.places.contains_key(name) {

@@ -13,7 +13,8 @@ use Rattle.history_text.specs.declared.entries.Entry.{Entry}
 use Rattle.coordinator_core.specs.declared.nodes.Coordinator.{Coordinator}
 use Rattle.resource_core.specs.declared.nodes.Resource.{Resource}
 use Rattle.scenario_nodes.specs.Nodes.{coordinator_disks, resource_disks}
-use Rattle.scenario_nodes.specs.Shelves.{AreGivenBack, HasBoth, IsGivenBack, KeepsOthers, Showing, coordinator_name, second_name}
+use Rattle.scenario_nodes.specs.Shelves.{AreGivenBack, HasBoth, IsGivenBack, KeepsOthers, ReturnsAll, Showing, coordinator_name, second_name}
+use Rattle.scenario_nodes.proofs.Returned.{all_after, all_same}
 use Rattle.replay_runner.specs.declared.members.Member.{Member}
 use Rattle.replay_runner.specs.Collecting.{AreTracesOf}
 use Rattle.replay_runner.specs.Leaving.{FirstGivenBack, server_names}
@@ -22,10 +23,6 @@ use Rattle.replay_runner.proofs.Gathered.{AreTaken, all_taken, none_taken, one_t
 use Rattle.replay_runner.proofs.Lists.{drop_all, drop_below, drop_first, drop_next, snoc_below, snoc_end}
 use Rattle.replay_runner.proofs.Names.{coordinator_apart, coordinator_of_none, next_of_none}
 use Rattle.replay_runner.proofs.Roles.{from_map}
-
--- what a shelf shows, by the ghosts of its kind
-abbrev pub showing : {S D : Type 0} → (has_place : S → List ℕ → Type 0) (given_back : S → List ℕ → D → Type 0) (faults : S → ℕ) (tells : S → Bool) → S → Showing D
-showing has_place given_back faults tells shelf = record { has_place = has_place shelf; given_back = given_back shelf; faults = faults shelf; tells = tells shelf }
 
 -- ---- disks that stay where they are
 
@@ -76,6 +73,7 @@ pub record FirstClosed {D K : Type 0} (old new : Showing D) (defs : List Resourc
       → AreGivenBack old.tells new.given_back def.name (resource_disks m.seat.node)
   pub others : (n : List ℕ) → IsOfNone defs count n → SameUnder n old.given_back new.given_back
   pub places : (n : List ℕ) → old.has_place n → new.has_place n
+  pub returned : ReturnsAll old.tells old.has_place new.has_place old.given_back new.given_back
   pub faults : old.faults ≤ new.faults
   pub tells : new.tells ≡ old.tells
 
@@ -84,13 +82,15 @@ none_closed old defs resources = record {
   back = λ k def m below. absurd (omega (arith, below));
   others = λ n none. same_here n old.given_back;
   places = λ n here. here;
+  returned = all_same old;
   faults = omega arith;
   tells = refl;
 }
 
 module _ {D K : Type 0} (old now new : Showing D) (defs : List ResourceDef) (resources : List (Member (Resource D) K)) (count : ℕ) (def : ResourceDef) (m : Member (Resource D) K)
     (apart : AreDefsApart defs) (here : slice_get defs count ≡ Some def) (there : slice_get resources count ≡ Some m) (c : FirstClosed old now defs resources count)
-    (given : AreGivenBack now.tells new.given_back def.name (resource_disks m.seat.node)) (keeps : KeepsOthers def.name now new) where
+    (given : AreGivenBack now.tells new.given_back def.name (resource_disks m.seat.node)) (keeps : KeepsOthers def.name now new)
+    (returned : ReturnsAll now.tells now.has_place new.has_place now.given_back new.given_back) where
   stays : (k : ℕ) (other : ResourceDef) (n : Member (Resource D) K) → slice_get defs k ≡ Some other → slice_get resources k ≡ Some n → (b : Bool) → nat_lt k count ≡ b → k < count + 1
       → AreGivenBack old.tells new.given_back other.name (resource_disks n.seat.node)
   stays k other n at found true e below =
@@ -113,6 +113,7 @@ module _ {D K : Type 0} (old now new : Showing D) (defs : List ResourceDef) (res
         let this = none count def (omega arith) here in
         same_then n old.given_back now.given_back new.given_back (c.others n (λ k other below at. none k other (omega (arith, below)) at)) (keeps.others n this.0 this.1);
     places = λ n place. keeps.places n (c.places n place);
+    returned = all_after old now new c.tells c.returned returned;
     faults = let one = c.faults in let two = keeps.faults in omega (arith, one, two);
     tells = keeps.tells ∙ c.tells;
   }
@@ -229,10 +230,11 @@ module _ {D K : Type 0} (old now new : Showing D) (defs : List ResourceDef) (res
 
   pub one_closing : (kept after : Bool) (traces traced : List (Vec Entry Global)) (def : ResourceDef) → AreClosing old now defs resources left count kept traces → slice_get defs count ≡ Some def
       → AreGivenBack now.tells new.given_back def.name (resource_disks m.seat.node) → KeepsOthers def.name now new
+      → ReturnsAll now.tells now.has_place new.has_place now.given_back new.given_back
       → (after ≡ true → (kept ≡ true) × (trace : Vec Entry Global) × (trace.items ≡ m.seat.trace) × (traced ≡ traces ++ trace ∷ []))
       → AreClosing old new defs resources rest (count + 1) after traced
-  one_closing kept after traces traced def c here given keeps memory = record {
-    closed = one_closed old now new defs resources count def m apart here (next_there c) c.closed given keeps;
+  one_closing kept after traces traced def c here given keeps returned memory = record {
+    closed = one_closed old now new defs resources count def m apart here (next_there c) c.closed given keeps returned;
     left_are = drop_next resources count m rest (whole c);
     within = let below = drop_below resources count m rest (whole c) in omega (arith, below);
     taken = λ told.

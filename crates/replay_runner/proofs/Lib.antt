@@ -29,3 +29,4 @@ mod Closed
 mod Shown
 mod Finished
 mod Starting
+mod Returning

@@ -13,7 +13,7 @@ use Rattle.manager_core.specs.declared.nodes.Manager.{Manager}
 use Rattle.node_seat.specs.declared.faults.RunFault.{RunFault}
 use Rattle.scenario_nodes.specs.Nodes.{IsNewCoordinator, IsNewManager, IsNewResource, coordinator_disks, resource_disks, resource_role}
 use Rattle.scenario_nodes.specs.Opening.{IsShelfFault, IsUnopened}
-use Rattle.scenario_nodes.specs.Shelves.{AllTell, AreGivenBack, HasBoth, coordinator_name, pair_of, second_name}
+use Rattle.scenario_nodes.specs.Shelves.{AllTell, AreGivenBack, HasBoth, IsDiskName, coordinator_name, pair_of, second_name}
 use Rattle.replay_runner.specs.declared.members.Member.{Member}
 use Rattle.replay_runner.specs.declared.nodes.Nodes.{Nodes}
 
@@ -49,6 +49,18 @@ AreDefsApart defs = (j k : ℕ) (a b : ResourceDef) → j ≢ k → slice_get de
 -- a name of no disk of the first of these resources
 abbrev pub IsOfNone : List ResourceDef → (count : ℕ) → List ℕ → Type 0
 IsOfNone defs count name = (k : ℕ) (def : ResourceDef) → k < count → slice_get defs k ≡ Some def → (name ≢ def.name) × (name ≢ second_name def.name)
+
+-- a name of a disk of one of them
+pub record IsOfOne (defs : List ResourceDef) (count : ℕ) (name : List ℕ) : Type 0 where
+  pub k : ℕ
+  pub def : ResourceDef
+  pub below : k < count
+  pub there : slice_get defs k ≡ Some def
+  pub named : IsDiskName def.name name
+
+-- or of the coordinator
+abbrev pub IsOfServer : List ResourceDef → (count : ℕ) → List ℕ → Type 0
+IsOfServer defs count name = IsDiskName coordinator_name name ⊎ IsOfOne defs count name
 
 -- ---- nodes
 

@@ -4,7 +4,8 @@ ghost use Rattle.disk_model.specs.Disk.{Rose};
 ghost use Rattle.scenario_reader.specs.Runnable.{IsRunnable};
 ghost use Rattle.history_rules.specs.Nodes.{no_past};
 ghost use Rattle.history_text.specs.Worlds.{world_of};
-ghost use Rattle.replay_runner.specs.Opened.{AreAll, AreFirst, HaveBoth, IsNewManagerOf, IsNewResourceOf, IsSecondName, StopsOpening};
+ghost use Rattle.scenario_nodes.specs.Shelves.{ReturnsBut};
+ghost use Rattle.replay_runner.specs.Opened.{AreAll, AreFirst, HaveBoth, IsNewManagerOf, IsNewResourceOf, IsOfOne, IsSecondName, StopsOpening};
 
 use crate::collecting::put;
 use crate::members::Member;
@@ -68,6 +69,7 @@ fn open_next<H: Shelf, K: RunName>(
     ensures taken { HaveBoth (H.has_place shelf.new) scenario.now.resources (length opened.new.items) }
     ensures refused { IfErr result (StopsOpening H.D.state (H.tells shelf.old) (H.given_back shelf.new) (Rose (H.faults shelf.old) (H.faults shelf.new)) scenario.now k) }
     ensures places { (n : Items ℕ) → H.has_place shelf.old n → H.has_place shelf.new n }
+    ensures out { ReturnsBut (IsOfOne scenario.now.resources (length opened.new.items)) (H.tells shelf.old) (H.has_place shelf.old) (H.has_place shelf.new) (H.given_back shelf.old) (H.given_back shelf.new) }
     ensures faults { H.faults shelf.old ≤ H.faults shelf.new }
     ensures tells { H.tells shelf.new ≡ H.tells shelf.old }
 {
@@ -103,6 +105,7 @@ pub fn open_resources<H: Shelf, K: RunName>(
     ensures taken { HaveBoth (H.has_place shelf.new) scenario.now.resources (length opened.new.items) }
     ensures refused { IfErr result (StopsOpening H.D.state (H.tells shelf.old) (H.given_back shelf.new) (Rose (H.faults shelf.old) (H.faults shelf.new)) scenario.now (length opened.new.items)) }
     ensures places { (n : Items ℕ) → H.has_place shelf.old n → H.has_place shelf.new n }
+    ensures out { ReturnsBut (IsOfOne scenario.now.resources (length opened.new.items)) (H.tells shelf.old) (H.has_place shelf.old) (H.has_place shelf.new) (H.given_back shelf.old) (H.given_back shelf.new) }
     ensures faults { H.faults shelf.old ≤ H.faults shelf.new }
     ensures tells { H.tells shelf.new ≡ H.tells shelf.old }
 {

@@ -1,11 +1,12 @@
 //! Replays on the disks of a shelf.
-ghost use Rattle.std.specs.Prelude.{◌≡◌, Err, IfErr, IfOk, OnOk, length};
+ghost use Rattle.std.specs.Prelude.{◌≡◌, Err, IfErr, IfOk, IsTrue, List as Items, OnErr, OnOk, length, ℕ};
 ghost use Rattle.disk_model.specs.Disk.{Rose};
 ghost use Rattle.scenario_reader.specs.Runnable.{IsRunnable};
 ghost use Rattle.history_rules.specs.Nodes.{no_past};
 ghost use Rattle.history_text.specs.Worlds.{world_of};
+ghost use Rattle.scenario_nodes.specs.Shelves.{HasDisk, ReturnsAll, ReturnsBut};
 ghost use Rattle.replay_runner.specs.Leaving.{GivesBack, Replays};
-ghost use Rattle.replay_runner.specs.Opened.{AreAll, AreNewNodes, HaveTaken, IsNewManagerOf, IsSecondName};
+ghost use Rattle.replay_runner.specs.Opened.{AreAll, AreNewNodes, HaveTaken, IsNewManagerOf, IsOfServer, IsSecondName};
 
 use crate::closings::{close, close_servers};
 use crate::members::Member;
@@ -38,6 +39,8 @@ fn open_nodes<H: Shelf, K: RunName>(
     ensures new { IfOk result (AreNewNodes H.D.state scenario.now) }
     ensures taken { OnOk result (HaveTaken (H.has_place shelf.new) scenario.now.resources (length scenario.now.resources)) }
     ensures refused { IfErr result (λ missed. Replays H.D.state (H.tells shelf.old) (H.given_back shelf.new) (Rose (H.faults shelf.old) (H.faults shelf.new)) scenario.now (Err missed)) }
+    ensures out { OnOk result (ReturnsBut (IsOfServer scenario.now.resources (length scenario.now.resources)) (H.tells shelf.old) (H.has_place shelf.old) (H.has_place shelf.new) (H.given_back shelf.old) (H.given_back shelf.new)) }
+    ensures returned { OnErr result (ReturnsAll (H.tells shelf.old) (H.has_place shelf.old) (H.has_place shelf.new) (H.given_back shelf.old) (H.given_back shelf.new)) }
     ensures tells { H.tells shelf.new ≡ H.tells shelf.old }
 {
     let coordinator = match open_coordinator(alloc, scenario, shelf) {
@@ -68,7 +71,9 @@ fn play<H: Shelf, K: RunName>(
     requires seconds { AreAll IsSecondName scenario.now.resources seconds.now }
     requires new { AreNewNodes H.D.state scenario.now nodes }
     requires taken { HaveTaken (H.has_place shelf.old) scenario.now.resources (length scenario.now.resources) }
-    ensures { GivesBack H.D.state (H.tells shelf.old) (H.given_back shelf.new) scenario.now result }
+    ensures back { GivesBack H.D.state (H.tells shelf.old) (H.given_back shelf.new) scenario.now result }
+    ensures given { IsTrue (H.tells shelf.old) → (n : Items ℕ) → IsOfServer scenario.now.resources (length scenario.now.resources) n → HasDisk (H.given_back shelf.new) n }
+    ensures returned { ReturnsAll (H.tells shelf.old) (H.has_place shelf.old) (H.has_place shelf.new) (H.given_back shelf.old) (H.given_back shelf.new) }
 {
     let mut run = Run::<H::D, K>::new(alloc, nodes);
     let locals = scenario.locals.as_slice();
@@ -93,7 +98,8 @@ fn replay_named<H: Shelf, K: RunName>(
     requires runnable { IsRunnable scenario.now }
     requires world { K.world ≡ world_of scenario.now }
     requires past { K.past ≡ no_past }
-    ensures { Replays H.D.state (H.tells shelf.old) (H.given_back shelf.new) (Rose (H.faults shelf.old) (H.faults shelf.new)) scenario.now result }
+    ensures replays { Replays H.D.state (H.tells shelf.old) (H.given_back shelf.new) (Rose (H.faults shelf.old) (H.faults shelf.new)) scenario.now result }
+    ensures returned { ReturnsAll (H.tells shelf.old) (H.has_place shelf.old) (H.has_place shelf.new) (H.given_back shelf.old) (H.given_back shelf.new) }
 {
     let Ok(seconds) = second_names(alloc, scenario.resources.as_slice()) else {
         return Err(RunFault::NoMemory);
@@ -116,7 +122,8 @@ pub fn replay<H: Shelf>(
     shelf: &mut H,
 ) -> Result<List<Entry>, RunFault>
     requires runnable { IsRunnable scenario.now }
-    ensures { Replays H.D.state (H.tells shelf.old) (H.given_back shelf.new) (Rose (H.faults shelf.old) (H.faults shelf.new)) scenario.now result }
+    ensures replays { Replays H.D.state (H.tells shelf.old) (H.given_back shelf.new) (Rose (H.faults shelf.old) (H.faults shelf.new)) scenario.now result }
+    ensures returned { ReturnsAll (H.tells shelf.old) (H.has_place shelf.old) (H.has_place shelf.new) (H.given_back shelf.old) (H.given_back shelf.new) }
 {
     replay_named::<H, Brand>(alloc, scenario, shelf)
 }

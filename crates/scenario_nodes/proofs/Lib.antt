@@ -9,3 +9,4 @@ mod Tables
 mod Framable
 mod OnShelf
 mod SetupWithin
+pub mod Returned

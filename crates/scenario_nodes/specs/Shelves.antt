@@ -1,5 +1,5 @@
 -- The two disks of a node on a shelf.
-use Rattle.std.specs.Prelude.{◌≡◌, ◌≢◌, ◌≤◌, ◌++◌, ℕ, IsTrue, IsSome, Bool, List, codes}
+use Rattle.std.specs.Prelude.{◌≡◌, ◌≢◌, ◌⊎◌, ◌≤◌, ◌++◌, ℕ, IsTrue, IsSome, Bool, List, codes}
 use Rattle.disk_model.specs.Disk.{DiskState}
 use Rattle.disk_model.specs.Shelf.{SameUnder}
 use Rattle.disk_model.specs.Stop.{with_stop}
@@ -15,6 +15,10 @@ coordinator_name = codes "tc"
 -- the name of a node's second disk
 abbrev pub second_name : List ℕ → List ℕ
 second_name name = name ++ codes ".2"
+
+-- the name of one of the two disks of a node
+abbrev pub IsDiskName : (node name : List ℕ) → Type 0
+IsDiskName node name = (name ≡ node) ⊎ (name ≡ second_name node)
 
 -- ---- disks
 
@@ -59,3 +63,18 @@ pub record KeepsOthers {D : Type 0} (name : List ℕ) (old new : Showing D) : Ty
   pub others : (n : List ℕ) → n ≢ name → n ≢ second_name name → SameUnder n old.given_back new.given_back
   pub faults : old.faults ≤ new.faults
   pub tells : new.tells ≡ old.tells
+
+-- ---- each disk that was taken is given back
+
+-- some disk was given back under a name
+abbrev pub HasDisk : {D : Type 0} → (given_back : List ℕ → D → Type 0) → (name : List ℕ) → Type 0
+HasDisk {D} given_back name = (disk : D) × given_back name disk
+
+-- Where the shelf tells: each place that a call made has a disk, which was given back to it, and each name that had one still has one.
+pub record ReturnsAll {D : Type 0} (tells : Bool) (had has : List ℕ → Type 0) (gave gives : List ℕ → D → Type 0) : Type 0 where
+  pub made : IsTrue tells → (n : List ℕ) → has n → had n ⊎ HasDisk gives n
+  pub kept : IsTrue tells → (n : List ℕ) → HasDisk gave n → HasDisk gives n
+
+-- the same but for the places of these names, whose disks may be out
+abbrev pub ReturnsBut : {D : Type 0} → (out : List ℕ → Type 0) → (tells : Bool) → (had has : List ℕ → Type 0) → (gave gives : List ℕ → D → Type 0) → Type 0
+ReturnsBut out tells had has gave gives = ReturnsAll tells (λ n. had n ⊎ out n) has gave gives

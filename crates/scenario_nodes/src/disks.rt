@@ -1,8 +1,8 @@
 //! The two disks of a node, from the shelf and back.
-ghost use Rattle.std.specs.Prelude.{◌≡◌, ◌<◌, ◌^◌, IfOk, IfErr, OnOk, string_bytes};
+ghost use Rattle.std.specs.Prelude.{◌≡◌, ◌<◌, ◌^◌, IfOk, IfErr, OnErr, OnOk, string_bytes};
 ghost use Rattle.disk_model.specs.Disk.{Rose};
 ghost use Rattle.disk_model.specs.Shelf.{IsBlank};
-ghost use Rattle.scenario_nodes.specs.Shelves.{AreGivenBack, HasBoth, KeepsOthers};
+ghost use Rattle.scenario_nodes.specs.Shelves.{AreGivenBack, HasBoth, IsDiskName, KeepsOthers, ReturnsAll, ReturnsBut};
 ghost use Rattle.scenario_nodes.specs.Shelves.{second_name as name_of_second};
 ghost use Rattle.scenario_nodes.specs.Opening.{IsShelfFault};
 
@@ -54,6 +54,8 @@ pub(crate) fn take_disks<H: Shelf>(
     ensures keeps { KeepsOthers first.now
         (record { has_place = H.has_place shelf.old; given_back = H.given_back shelf.old; faults = H.faults shelf.old; tells = H.tells shelf.old })
         (record { has_place = H.has_place shelf.new; given_back = H.given_back shelf.new; faults = H.faults shelf.new; tells = H.tells shelf.new }) }
+    ensures out { OnOk result (ReturnsBut (IsDiskName first.now) (H.tells shelf.old) (H.has_place shelf.old) (H.has_place shelf.new) (H.given_back shelf.old) (H.given_back shelf.new)) }
+    ensures returned { OnErr result (ReturnsAll (H.tells shelf.old) (H.has_place shelf.old) (H.has_place shelf.new) (H.given_back shelf.old) (H.given_back shelf.new)) }
 {
     let taken = match shelf.take(alloc, first, size) {
         Ok(disk) => disk,
@@ -76,6 +78,7 @@ pub(crate) fn give_disks<H: Shelf>(shelf: &mut H, first: &str, second: &str, dis
     ensures keeps { KeepsOthers first.now
         (record { has_place = H.has_place shelf.old; given_back = H.given_back shelf.old; faults = H.faults shelf.old; tells = H.tells shelf.old })
         (record { has_place = H.has_place shelf.new; given_back = H.given_back shelf.new; faults = H.faults shelf.new; tells = H.tells shelf.new }) }
+    ensures returned { ReturnsAll (H.tells shelf.old) (H.has_place shelf.old) (H.has_place shelf.new) (H.given_back shelf.old) (H.given_back shelf.new) }
 {
     let (a, b) = disks;
     shelf.give(first, a);

@@ -1,9 +1,9 @@
 //! A resource of a scenario on two disks of a shelf.
-ghost use Rattle.std.specs.Prelude.{◌≡◌, ◌-◌, Some, length, slice_get, IfOk, IfErr, OnOk};
+ghost use Rattle.std.specs.Prelude.{◌≡◌, ◌-◌, Some, length, slice_get, IfOk, IfErr, OnErr, OnOk};
 ghost use Rattle.scenario_reader.specs.declared.scenarios.ResourceDef.{ResourceDef as TheDef};
 ghost use Rattle.scenario_reader.specs.Contents.{IsBetween};
 ghost use Rattle.scenario_reader.specs.Runnable.{IsRunnable};
-ghost use Rattle.scenario_nodes.specs.Shelves.{AreGivenBack, HasBoth, KeepsOthers, second_name};
+ghost use Rattle.scenario_nodes.specs.Shelves.{AreGivenBack, HasBoth, IsDiskName, KeepsOthers, ReturnsAll, ReturnsBut, second_name};
 ghost use Rattle.scenario_nodes.specs.Nodes.{IsNewResource, resource_disks, resource_role};
 ghost use Rattle.scenario_nodes.specs.Opening.{IsNotOpened};
 
@@ -39,6 +39,8 @@ pub fn open_resource<H: Shelf>(
     ensures keeps { KeepsOthers def.now.name
         (record { has_place = H.has_place shelf.old; given_back = H.given_back shelf.old; faults = H.faults shelf.old; tells = H.tells shelf.old })
         (record { has_place = H.has_place shelf.new; given_back = H.given_back shelf.new; faults = H.faults shelf.new; tells = H.tells shelf.new }) }
+    ensures out { OnOk result (ReturnsBut (IsDiskName def.now.name) (H.tells shelf.old) (H.has_place shelf.old) (H.has_place shelf.new) (H.given_back shelf.old) (H.given_back shelf.new)) }
+    ensures returned { OnErr result (ReturnsAll (H.tells shelf.old) (H.has_place shelf.old) (H.has_place shelf.new) (H.given_back shelf.old) (H.given_back shelf.new)) }
 {
     let setup = match setup_of(alloc, scenario, number, def) {
         Ok(setup) => setup,
@@ -70,6 +72,7 @@ pub fn close_resource<H: Shelf>(shelf: &mut H, name: &str, second: &str, resourc
     ensures keeps { KeepsOthers name.now
         (record { has_place = H.has_place shelf.old; given_back = H.given_back shelf.old; faults = H.faults shelf.old; tells = H.tells shelf.old })
         (record { has_place = H.has_place shelf.new; given_back = H.given_back shelf.new; faults = H.faults shelf.new; tells = H.tells shelf.new }) }
+    ensures returned { ReturnsAll (H.tells shelf.old) (H.has_place shelf.old) (H.has_place shelf.new) (H.given_back shelf.old) (H.given_back shelf.new) }
 {
     give_disks(shelf, name, second, resource.into_disks());
 }

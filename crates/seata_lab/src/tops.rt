@@ -2,6 +2,7 @@
 ghost use Rattle.std.specs.Prelude.{◌≡◌, ◌≢◌, ◌⊎◌, ℕ, true, false, List as Items, ◌∷◌, Some, IfOk, IfErr, string_bytes};
 ghost use Rattle.std.specs.Io.KnownBytes.{Appends};
 ghost use Rattle.disk_model.specs.Disk.{Rose};
+ghost use Rattle.scenario_nodes.specs.Shelves.{ReturnsAll};
 ghost use Rattle.replay_runner.specs.Leaving.{Replays as Replayed};
 ghost use Rattle.seata_lab.specs.Answers.{Answers, Done, IsAnswerTo, IsFramesAnswer, Replays, TellsReplay, TellsShelf, TellsFrames, TellsUsage, TellsFaults, is_replay, is_frames, replay_statuses, frames_statuses, with_failures};
 ghost use Rattle.seata_lab.specs.Streams.{GainsFront, devices};
@@ -47,6 +48,7 @@ fn replay_input<S: Source, H: Shelf>(
     ensures answer { IfOk result (λ a. Answers (IsAnswerTo (Replayed H.D.state (H.tells shelf.old) (H.given_back shelf.new) (Rose (H.faults shelf.old) (H.faults shelf.new)))) replay_statuses (S.left source.old) (S.left source.new) (string_bytes a.text) a.status) }
     ensures shelf { IfOk result (λ a. TellsShelf (Replayed H.D.state (H.tells shelf.old) (H.given_back shelf.new) (Rose (H.faults shelf.old) (H.faults shelf.new))) (shelf.new ≡ shelf.old) a.status (S.left source.old) (S.left source.new)) }
     ensures unanswered { IfErr result (λ status. TellsShelf (Replayed H.D.state (H.tells shelf.old) (H.given_back shelf.new) (Rose (H.faults shelf.old) (H.faults shelf.new))) (shelf.new ≡ shelf.old) status (S.left source.old) (S.left source.new)) }
+    ensures returned { ReturnsAll (H.tells shelf.old) (H.has_place shelf.old) (H.has_place shelf.new) (H.given_back shelf.old) (H.given_back shelf.new) }
     ensures statuses { IfErr result (λ status. (status ≡ 4) ⊎ (status ≡ 6)) }
     ensures failed { IfErr result (λ status. status ≡ 4 → Rose (S.faults source.old) (S.faults source.new)) }
 {
@@ -88,7 +90,9 @@ fn write_answer<K: Sink>(sink: &mut K, answer: Result<Answer, u8>) -> u8
 /// report of its history. The status is 0 where that is done, 3 where the input is no scenario, 4 where the source failed, 5
 /// where the sink did, 6 where memory was refused, 7 where a disk couldn't be had or its opening or restart failed, 8 where a
 /// node's next record would pass the end of its disk, and 9 where a disk has bytes that are no journal. At each status the
-/// disks that were taken are given back; of which nodes' they are where memory was refused, the clauses don't speak.
+/// disks that were taken are given back: where the shelf tells of them, each name that has a place there had one before or has
+/// a disk that was given back to it, and a name that had such a disk still has one. How many nodes were opened where memory
+/// was refused, the clauses don't say.
 pub fn replay_once<S: Source, K: Sink, H: Shelf>(
     alloc: Global,
     source: &mut S,
@@ -99,6 +103,7 @@ pub fn replay_once<S: Source, K: Sink, H: Shelf>(
     ensures done { result ≡ 0 → (input : Items ℕ) → S.left source.old ≡ Some input
         → (r : Replays (Replayed H.D.state (H.tells shelf.old) (H.given_back shelf.new) (Rose (H.faults shelf.old) (H.faults shelf.new))) 0 input (devices S.left S.faults K.written K.faults source.old sink.old) (devices S.left S.faults K.written K.faults source.new sink.new)) × Done H.D.state (H.tells shelf.old) (H.given_back shelf.new) r.scenario r.text }
     ensures shelf { TellsShelf (Replayed H.D.state (H.tells shelf.old) (H.given_back shelf.new) (Rose (H.faults shelf.old) (H.faults shelf.new))) (shelf.new ≡ shelf.old) result (S.left source.old) (S.left source.new) }
+    ensures returned { ReturnsAll (H.tells shelf.old) (H.has_place shelf.old) (H.has_place shelf.new) (H.given_back shelf.old) (H.given_back shelf.new) }
     ensures faults { TellsFaults (with_failures replay_statuses) result (devices S.left S.faults K.written K.faults source.old sink.old) (devices S.left S.faults K.written K.faults source.new sink.new) }
 {
     write_answer(sink, replay_input(alloc, source, shelf))
@@ -118,7 +123,8 @@ pub fn frames_once<S: Source, K: Sink>(alloc: Global, source: &mut S, sink: &mut
 const USAGE: &str = "usage: seata_lab replay | run | make | stress | frames | audit | show\n";
 
 /// Does what the words ask for: `replay` replays the scenario of the source and writes the report, `frames` writes a line
-/// for each frame of the source. Other words are answered with the usage line and status 2.
+/// for each frame of the source. Other words are answered with the usage line and status 2. The disks that were taken are given
+/// back, whatever the words and the status.
 pub fn top<S: Source, K: Sink, H: Shelf>(
     alloc: Global,
     words: &[Text],
@@ -136,6 +142,7 @@ pub fn top<S: Source, K: Sink, H: Shelf>(
         → (r : Replays (Replayed H.D.state (H.tells shelf.old) (H.given_back shelf.new) (Rose (H.faults shelf.old) (H.faults shelf.new))) 0 input (devices S.left S.faults K.written K.faults source.old sink.old) (devices S.left S.faults K.written K.faults source.new sink.new)) × Done H.D.state (H.tells shelf.old) (H.given_back shelf.new) r.scenario r.text }
     ensures shelf { is_replay words.now ≡ true
         → TellsShelf (Replayed H.D.state (H.tells shelf.old) (H.given_back shelf.new) (Rose (H.faults shelf.old) (H.faults shelf.new))) (shelf.new ≡ shelf.old) result (S.left source.old) (S.left source.new) }
+    ensures returned { ReturnsAll (H.tells shelf.old) (H.has_place shelf.old) (H.has_place shelf.new) (H.given_back shelf.old) (H.given_back shelf.new) }
     ensures untouched { is_replay words.now ≡ false → shelf.new ≡ shelf.old }
     ensures frames { is_frames words.now ≡ true
         → TellsFrames result (devices S.left S.faults K.written K.faults source.old sink.old) (devices S.left S.faults K.written K.faults source.new sink.new) }

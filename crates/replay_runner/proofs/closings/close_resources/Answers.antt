@@ -6,7 +6,8 @@ use Rattle.scenario_reader.specs.declared.scenarios.ResourceDef.{ResourceDef}
 use Rattle.resource_core.specs.declared.nodes.Resource.{Resource}
 use Rattle.scenario_nodes.specs.Nodes.{resource_disks}
 use Rattle.scenario_nodes.specs.Shelves.{AreGivenBack, HasBoth, KeepsOthers, second_name}
-use Rattle.replay_runner.proofs.Closed.{AreClosing, all_returned, begins, next_below, next_taken, one_closing, others_same, showing, traces_taken}
+use Rattle.scenario_nodes.proofs.Returned.{showing}
+use Rattle.replay_runner.proofs.Closed.{AreClosing, all_returned, begins, next_below, next_taken, one_closing, others_same, traces_taken}
 use Rattle.replay_runner.proofs.Gathered.{emptied}
 use Rattle.replay_runner.proofs.Names.{and_left, and_right}
 use Rattle.replay_runner.proofs.closings.close_resources.Goals as goal
@@ -78,7 +79,7 @@ loop-k-preserved g c =
           (subst (λ name. AreGivenBack (g.H.Shelf.tells c.loop-k.shelf) (g.H.Shelf.given_back c.close_resource.new.shelf) name (resource_disks c.in-Some.member.seat.node)) named
           (subst (λ (r : Resource g.row.H-D.Denot). AreGivenBack (g.H.Shelf.tells c.loop-k.shelf) (g.H.Shelf.given_back c.close_resource.new.shelf) c.as_str.result.now (resource_disks r))
           c.finish-resource.ensures.node c.close_resource.ensures.back))
-          (subst (λ name. KeepsOthers name now after) named c.close_resource.ensures.keeps)
+          (subst (λ name. KeepsOthers name now after) named c.close_resource.ensures.keeps) c.close_resource.ensures.returned
           (λ told.
           let (kept, is, more) = c.keep-kept.ensures (and_right c.loop-k.kept c.keep-kept.result told) in
           (and_left c.loop-k.kept c.keep-kept.result told, kept, is ∙ c.finish-resource.ensures.trace, more))),
@@ -118,3 +119,9 @@ returns-else-kept-clause-others g c =
     others_same (showing g.H.Shelf.has_place g.H.Shelf.given_back g.H.Shelf.faults g.H.Shelf.tells c.args.shelf.now)
     (showing g.H.Shelf.has_place g.H.Shelf.given_back g.H.Shelf.faults g.H.Shelf.tells c.loop-k.shelf) c.args.defs.now c.args.resources.items (into_iter_items left)
     (enumerate_count c.loop-k.k-iterator) c.loop-k.kept c.loop-k.traces.items c.loop-k.invariant.2 (emptied (into_iter_items left) left.rest.len left.rest.ok.0 c.in-None.ensures.steps.0.0)
+
+pub returns-then-kept-clause-returned : goal.returns-then-kept-clause-returned
+returns-then-kept-clause-returned g c = c.loop-k.invariant.2.closed.returned
+
+pub returns-else-kept-clause-returned : goal.returns-else-kept-clause-returned
+returns-else-kept-clause-returned g c = c.loop-k.invariant.2.closed.returned

@@ -1,6 +1,7 @@
 use Rattle.std.specs.Vec.Iter.{into_iter_items}
 use Rattle.std.specs.Iterator.Adapters.{enumerate_count, enumerate_source}
-use Rattle.replay_runner.proofs.Closed.{AreClosing, showing}
+use Rattle.scenario_nodes.proofs.Returned.{showing}
+use Rattle.replay_runner.proofs.Closed.{AreClosing}
 use Rattle.replay_runner.proofs.closings.close_resources.Given as goal
 
 -- the first resources were closed

@@ -1,7 +1,8 @@
 use Rattle.std.proofs.Common.{◌≤◌, ◌∙◌, List, arith, length, sym, subst}
 use Rattle.scenario_reader.specs.declared.scenarios.ResourceDef.{ResourceDef}
 use Rattle.replay_runner.specs.Opened.{AreAll, AreDefsApart, AreReturned, HaveBoth, IsOfNone, IsSecondName}
-use Rattle.replay_runner.proofs.Closed.{all_back, all_others, showing, taken_stay}
+use Rattle.scenario_nodes.proofs.Returned.{all_after, showing}
+use Rattle.replay_runner.proofs.Closed.{all_back, all_others, taken_stay}
 use Rattle.replay_runner.proofs.Names.{defs_apart}
 use Rattle.replay_runner.proofs.closings.close_servers.Goals as goal
 
@@ -45,3 +46,10 @@ returns-clause-faults g c = let one = c.close_coordinator.ensures.keeps.faults i
 
 pub returns-clause-tells : goal.returns-clause-tells
 returns-clause-tells g c = c.close_resources.ensures.tells ∙ c.close_coordinator.ensures.keeps.tells
+
+pub returns-clause-returned : goal.returns-clause-returned
+returns-clause-returned g c =
+    all_after (showing g.H.Shelf.has_place g.H.Shelf.given_back g.H.Shelf.faults g.H.Shelf.tells c.args.shelf.now)
+    (showing g.H.Shelf.has_place g.H.Shelf.given_back g.H.Shelf.faults g.H.Shelf.tells c.close_coordinator.new.shelf)
+    (showing g.H.Shelf.has_place g.H.Shelf.given_back g.H.Shelf.faults g.H.Shelf.tells c.close_resources.new.shelf) c.close_coordinator.ensures.keeps.tells c.close_coordinator.ensures.returned
+    c.close_resources.ensures.returned

@@ -3,11 +3,14 @@ use Rattle.std.proofs.lemmas.Option.{slice_get_read}
 use Rattle.disk_model.specs.Disk.{Rose}
 use Rattle.scenario_reader.specs.declared.scenarios.ResourceDef.{ResourceDef}
 use Rattle.scenario_nodes.specs.Nodes.{IsNewResource}
-use Rattle.replay_runner.specs.Opened.{AreFirst, HaveBoth, IsNewResourceOf}
-use Rattle.replay_runner.proofs.Closed.{showing, taken_more, taken_stay}
+use Rattle.scenario_nodes.specs.Shelves.{IsDiskName}
+use Rattle.replay_runner.specs.Opened.{AreFirst, HaveBoth, IsNewResourceOf, IsOfOne}
+use Rattle.scenario_nodes.proofs.Returned.{all_same, but_of_all, but_wider, showing}
+use Rattle.replay_runner.proofs.Closed.{taken_more, taken_stay}
 use Rattle.replay_runner.proofs.Finished.{next_refused, next_unasked}
 use Rattle.replay_runner.proofs.Lists.{member_at}
 use Rattle.replay_runner.proofs.NewNodes.{fresh_resource, next_first}
+use Rattle.replay_runner.proofs.Returning.{of_next}
 use Rattle.replay_runner.proofs.openings.open_next.Goals as goal
 
 pub returns-then-is_err-clause-opened : goal.returns-then-is_err-clause-opened
@@ -75,3 +78,29 @@ returns-in-Err-clause-refused g c =
     next_refused g.H.D.Disk.state c.args.scenario.now (showing g.H.Shelf.has_place g.H.Shelf.given_back g.H.Shelf.faults g.H.Shelf.tells c.args.shelf.now)
     (showing g.H.Shelf.has_place g.H.Shelf.given_back g.H.Shelf.faults g.H.Shelf.tells c.open_resource.new.shelf) c.args.k c.index-as_slice-k.result c.in-Err.fault c.in-Err.ensures.keeps.tells
     (subst (λ (ds : List ResourceDef). slice_get ds c.args.k ≡ Some c.index-as_slice-k.result) c.as_slice.ensures here) c.in-Err.ensures.refused
+
+pub returns-then-is_err-clause-out : goal.returns-then-is_err-clause-out
+returns-then-is_err-clause-out g c =
+    let before = showing g.H.Shelf.has_place g.H.Shelf.given_back g.H.Shelf.faults g.H.Shelf.tells c.args.shelf.now in
+    but_of_all (IsOfOne c.args.scenario.now.resources (length c.reserve.new.self.items)) before before (all_same before)
+
+pub returns-in-Ok-clause-out : goal.returns-in-Ok-clause-out
+returns-in-Ok-clause-out g c =
+    let before = showing g.H.Shelf.has_place g.H.Shelf.given_back g.H.Shelf.faults g.H.Shelf.tells c.args.shelf.now in
+    let after = showing g.H.Shelf.has_place g.H.Shelf.given_back g.H.Shelf.faults g.H.Shelf.tells c.open_resource.new.shelf in
+    let here =
+    slice_get_read c.as_slice.result.now _ c.args.k c.index-as_slice-k.result refl (subst (λ (ds : List ResourceDef). c.args.k < length ds) (sym c.as_slice.ensures) c.requires.there) c.index-as_slice-k.is in
+    let grown = ap length c.push_reserved.ensures.items in
+    let sum = length-append c.reserve.new.self.items (c.new.result ∷ []) in
+    let same = ap length c.reserve.ensures.items in
+    let size = c.requires.next in
+    but_wider (IsDiskName c.index-as_slice-k.result.name) (IsOfOne c.args.scenario.now.resources (length c.push_reserved.new.self.items)) before after
+    (of_next c.args.scenario.now.resources c.args.k (length c.push_reserved.new.self.items) c.index-as_slice-k.result
+    (subst (λ (ds : List ResourceDef). slice_get ds c.args.k ≡ Some c.index-as_slice-k.result) c.as_slice.ensures here) (omega (arith, grown, sum, same, size)))
+    c.in-Ok.ensures.out
+
+pub returns-in-Err-clause-out : goal.returns-in-Err-clause-out
+returns-in-Err-clause-out g c =
+    let before = showing g.H.Shelf.has_place g.H.Shelf.given_back g.H.Shelf.faults g.H.Shelf.tells c.args.shelf.now in
+    let after = showing g.H.Shelf.has_place g.H.Shelf.given_back g.H.Shelf.faults g.H.Shelf.tells c.open_resource.new.shelf in
+    but_of_all (IsOfOne c.args.scenario.now.resources (length c.reserve.new.self.items)) before after c.in-Err.ensures.returned

@@ -1,13 +1,15 @@
-use Rattle.std.proofs.Common.{◌∙◌, Bool, length, subst, sym}
+use Rattle.std.proofs.Common.{◌∙◌, Bool, arith, inl, inr, length, refl, subst, sym}
 use Rattle.disk_model.specs.Disk.{Rose}
 use Rattle.scenario_nodes.specs.Nodes.{IsNewCoordinator}
-use Rattle.scenario_nodes.specs.Shelves.{coordinator_name, second_name}
+use Rattle.scenario_nodes.specs.Shelves.{IsDiskName, coordinator_name, second_name}
 use Rattle.replay_runner.specs.Leaving.{FirstGivenBack}
-use Rattle.replay_runner.specs.Opened.{HaveBoth, StopsOpening, server_disks}
-use Rattle.replay_runner.proofs.Closed.{both_stay_taken, showing}
+use Rattle.replay_runner.specs.Opened.{HaveBoth, IsOfOne, IsOfServer, StopsOpening, server_disks}
+use Rattle.scenario_nodes.proofs.Returned.{all_in, but_after, showing, still}
+use Rattle.replay_runner.proofs.Closed.{both_stay_taken}
 use Rattle.replay_runner.proofs.Finished.{coordinator_refused, resource_refused, rose_between}
 use Rattle.replay_runner.proofs.Names.{coordinator_apart, next_of_none}
 use Rattle.replay_runner.proofs.NewNodes.{fresh_coordinator}
+use Rattle.replay_runner.proofs.Returning.{closed_given, of_more}
 use Rattle.replay_runner.proofs.replays.open_nodes.Goals as goal
 
 pub returns-in-Err-clause-refused : goal.returns-in-Err-clause-refused
@@ -66,3 +68,29 @@ returns-clause-taken g c = record {
   coordinator = both_stay_taken (g.H.Shelf.has_place c.open_coordinator.new.shelf) (g.H.Shelf.has_place c.open_resources.new.shelf) coordinator_name c.open_resources.ensures.places c.in-Ok.ensures.both;
   resources = subst (HaveBoth (g.H.Shelf.has_place c.open_resources.new.shelf) c.args.scenario.now.resources) c.in_default.ensures.whole c.open_resources.ensures.taken;
 }
+
+pub returns-in-Err-open_resources-clause-returned : goal.returns-in-Err-open_resources-clause-returned
+returns-in-Err-open_resources-clause-returned g c =
+    let rs = c.args.scenario.now.resources in
+    let count = length c.open_resources.new.opened.items in
+    let before = showing g.H.Shelf.has_place g.H.Shelf.given_back g.H.Shelf.faults g.H.Shelf.tells c.args.shelf.now in
+    let one = showing g.H.Shelf.has_place g.H.Shelf.given_back g.H.Shelf.faults g.H.Shelf.tells c.open_coordinator.new.shelf in
+    let all = showing g.H.Shelf.has_place g.H.Shelf.given_back g.H.Shelf.faults g.H.Shelf.tells c.open_resources.new.shelf in
+    let after = showing g.H.Shelf.has_place g.H.Shelf.given_back g.H.Shelf.faults g.H.Shelf.tells c.close_servers.new.shelf in
+    let tells = c.open_resources.ensures.tells ∙ c.open_coordinator.ensures.keeps.tells in
+    all_in (IsOfServer rs count) before all after tells
+    (but_after (IsDiskName coordinator_name) (IsOfOne rs count) (IsOfServer rs count) before one all c.open_coordinator.ensures.keeps.tells (λ n named. inl named) (λ n named. inr named) c.in-Ok.ensures.out
+    c.open_resources.ensures.out)
+    c.close_servers.ensures.returned
+    (λ told. closed_given c.args.scenario.now c.in-Ok.coordinator c.open_resources.new.opened.items count refl c.open_resources.ensures.opened.few all.tells after.given_back c.close_servers.ensures.back
+    (still before.tells all.tells tells told))
+
+pub returns-clause-out : goal.returns-clause-out
+returns-clause-out g c =
+    let rs = c.args.scenario.now.resources in
+    let before = showing g.H.Shelf.has_place g.H.Shelf.given_back g.H.Shelf.faults g.H.Shelf.tells c.args.shelf.now in
+    let one = showing g.H.Shelf.has_place g.H.Shelf.given_back g.H.Shelf.faults g.H.Shelf.tells c.open_coordinator.new.shelf in
+    let all = showing g.H.Shelf.has_place g.H.Shelf.given_back g.H.Shelf.faults g.H.Shelf.tells c.open_resources.new.shelf in
+    let whole = c.in_default.ensures.whole in
+    but_after (IsDiskName coordinator_name) (IsOfOne rs (length c.open_resources.new.opened.items)) (IsOfServer rs (length rs)) before one all c.open_coordinator.ensures.keeps.tells (λ n named. inl named)
+    (λ n named. inr (of_more rs (length c.open_resources.new.opened.items) (length rs) (omega (arith, whole)) n named)) c.in-Ok.ensures.out c.open_resources.ensures.out

@@ -1,7 +1,8 @@
-use Rattle.std.proofs.Common.{sym, ◌∙◌, length}
+use Rattle.std.proofs.Common.{sym, ◌∙◌, arith, length}
 use Rattle.replay_runner.proofs.Finished.{ended, finished, unfinished}
 use Rattle.replay_runner.proofs.NewNodes.{are_nodes, nodes_go}
 use Rattle.replay_runner.proofs.Starting.{all_fit, can_start, count_of_resources, locals_stand}
+use Rattle.replay_runner.proofs.Returning.{closed_given}
 use Rattle.replay_runner.proofs.replays.play.Goals as goal
 
 pub new-run-requires : goal.new-run-requires
@@ -22,8 +23,8 @@ play_all-played-requires-clause-fits g c =
     all_fit c.args.scenario.now c.requires.runnable (length c.args.nodes.managers.items) (length c.args.nodes.resources.items) c.new-run.result c.new-run.ensures.goes
     c.requires.new.managers.count c.requires.new.resources.count c.as_slice-locals.result.now c.as_slice.result.now c.as_slice-locals.ensures c.as_slice.ensures
 
-pub returns-in-Err : goal.returns-in-Err
-returns-in-Err g c =
+pub returns-in-Err-clause-back : goal.returns-in-Err-clause-back
+returns-in-Err-clause-back g c =
     ended g.H.D.Disk.state c.args.scenario.now c.play_all-played.new.self
     (c.play_all-played.ensures.count ∙ count_of_resources c.args.scenario.now c.requires.runnable (length c.args.nodes.managers.items) (length c.args.nodes.resources.items) c.new-run.result c.new-run.ensures.goes
     c.requires.new.managers.count c.requires.new.resources.count)
@@ -31,8 +32,8 @@ returns-in-Err g c =
     (λ all. c.play_all-played.ensures.played c.args.scenario.now c.requires.runnable (sym c.as_slice-locals.ensures) (sym c.as_slice.ensures)
     (c.new-run.ensures.plays c.args.scenario.now (are_nodes g.H.D.Disk.state c.args.scenario.now c.args.nodes c.requires.new all)))
 
-pub returns-in-Ok : goal.returns-in-Ok
-returns-in-Ok g c =
+pub returns-in-Ok-clause-back : goal.returns-in-Ok-clause-back
+returns-in-Ok-clause-back g c =
     finished g.H.D.Disk.state c.args.scenario.now c.play_all-played.new.self
     (c.play_all-played.ensures.count ∙ count_of_resources c.args.scenario.now c.requires.runnable (length c.args.nodes.managers.items) (length c.args.nodes.resources.items) c.new-run.result c.new-run.ensures.goes
     c.requires.new.managers.count c.requires.new.resources.count)
@@ -41,11 +42,35 @@ returns-in-Ok g c =
     (c.new-run.ensures.plays c.args.scenario.now (are_nodes g.H.D.Disk.state c.args.scenario.now c.args.nodes c.requires.new all)))
     c.in-Ok.history c.in-Ok.ensures.history
 
-pub returns-in-Err-history : goal.returns-in-Err-history
-returns-in-Err-history g c =
+pub returns-in-Err-history-clause-back : goal.returns-in-Err-history-clause-back
+returns-in-Err-history-clause-back g c =
     unfinished g.H.D.Disk.state c.args.scenario.now c.play_all-played.new.self
     (c.play_all-played.ensures.count ∙ count_of_resources c.args.scenario.now c.requires.runnable (length c.args.nodes.managers.items) (length c.args.nodes.resources.items) c.new-run.result c.new-run.ensures.goes
     c.requires.new.managers.count c.requires.new.resources.count)
     (g.H.Shelf.tells c.args.shelf.now) (g.H.Shelf.given_back c.close-history.new.shelf) c.close-history.ensures.back c.play_all-played.result c.in_default.field-0 c.in_default.is
     (λ all. c.play_all-played.ensures.played c.args.scenario.now c.requires.runnable (sym c.as_slice-locals.ensures) (sym c.as_slice.ensures)
     (c.new-run.ensures.plays c.args.scenario.now (are_nodes g.H.D.Disk.state c.args.scenario.now c.args.nodes c.requires.new all)))
+
+pub returns-in-Err-clause-given : goal.returns-in-Err-clause-given
+returns-in-Err-clause-given g c =
+    let run = c.play_all-played.new.self in
+    closed_given c.args.scenario.now run.nodes.coordinator.seat.node run.nodes.resources.items (length c.args.scenario.now.resources)
+    (c.play_all-played.ensures.count ∙ count_of_resources c.args.scenario.now c.requires.runnable (length c.args.nodes.managers.items) (length c.args.nodes.resources.items) c.new-run.result c.new-run.ensures.goes
+    c.requires.new.managers.count c.requires.new.resources.count)
+    (omega arith) (g.H.Shelf.tells c.args.shelf.now) (g.H.Shelf.given_back c.close-history.new.shelf) c.close-history.ensures.back
+
+pub returns-in-Ok-clause-given : goal.returns-in-Ok-clause-given
+returns-in-Ok-clause-given g c =
+    let run = c.play_all-played.new.self in
+    closed_given c.args.scenario.now run.nodes.coordinator.seat.node run.nodes.resources.items (length c.args.scenario.now.resources)
+    (c.play_all-played.ensures.count ∙ count_of_resources c.args.scenario.now c.requires.runnable (length c.args.nodes.managers.items) (length c.args.nodes.resources.items) c.new-run.result c.new-run.ensures.goes
+    c.requires.new.managers.count c.requires.new.resources.count)
+    (omega arith) (g.H.Shelf.tells c.args.shelf.now) (g.H.Shelf.given_back c.close-history.new.shelf) c.close-history.ensures.back
+
+pub returns-in-Err-history-clause-given : goal.returns-in-Err-history-clause-given
+returns-in-Err-history-clause-given g c =
+    let run = c.play_all-played.new.self in
+    closed_given c.args.scenario.now run.nodes.coordinator.seat.node run.nodes.resources.items (length c.args.scenario.now.resources)
+    (c.play_all-played.ensures.count ∙ count_of_resources c.args.scenario.now c.requires.runnable (length c.args.nodes.managers.items) (length c.args.nodes.resources.items) c.new-run.result c.new-run.ensures.goes
+    c.requires.new.managers.count c.requires.new.resources.count)
+    (omega arith) (g.H.Shelf.tells c.args.shelf.now) (g.H.Shelf.given_back c.close-history.new.shelf) c.close-history.ensures.back

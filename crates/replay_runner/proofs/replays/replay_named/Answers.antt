@@ -1,17 +1,34 @@
-use Rattle.std.proofs.Common.{inl, Bool, subst}
+use Rattle.std.proofs.Common.{inl, Bool, length, subst}
 use Rattle.disk_model.specs.Disk.{Rose}
 use Rattle.replay_runner.specs.Leaving.{GivesBack}
+use Rattle.replay_runner.specs.Opened.{IsOfServer}
+use Rattle.scenario_nodes.proofs.Returned.{all_in, all_same, showing, still}
 use Rattle.replay_runner.proofs.Finished.{takes_none}
 use Rattle.replay_runner.proofs.replays.replay_named.Goals as goal
 
-pub returns-in_default : goal.returns-in_default
-returns-in_default g c =
+pub returns-in_default-clause-replays : goal.returns-in_default-clause-replays
+returns-in_default-clause-replays g c =
     takes_none g.H.D.Disk.state c.args.scenario.now (g.H.Shelf.tells c.args.shelf.now) (g.H.Shelf.given_back c.args.shelf.now) (Rose (g.H.Shelf.faults c.args.shelf.now) (g.H.Shelf.faults c.args.shelf.now))
 
-pub returns-in_default-new_managers : goal.returns-in_default-new_managers
-returns-in_default-new_managers g c =
+pub returns-in_default-new_managers-clause-replays : goal.returns-in_default-new_managers-clause-replays
+returns-in_default-new_managers-clause-replays g c =
     takes_none g.H.D.Disk.state c.args.scenario.now (g.H.Shelf.tells c.args.shelf.now) (g.H.Shelf.given_back c.args.shelf.now) (Rose (g.H.Shelf.faults c.args.shelf.now) (g.H.Shelf.faults c.args.shelf.now))
 
-pub returns-in-Ok-open_nodes : goal.returns-in-Ok-open_nodes
-returns-in-Ok-open_nodes g c =
-    inl (subst (λ (t : Bool). GivesBack g.H.D.Disk.state t (g.H.Shelf.given_back c.play.new.shelf) c.args.scenario.now c.play.result) c.open_nodes.ensures.tells c.play.ensures)
+pub returns-in-Ok-open_nodes-clause-replays : goal.returns-in-Ok-open_nodes-clause-replays
+returns-in-Ok-open_nodes-clause-replays g c =
+    inl (subst (λ (t : Bool). GivesBack g.H.D.Disk.state t (g.H.Shelf.given_back c.play.new.shelf) c.args.scenario.now c.play.result) c.open_nodes.ensures.tells c.play.ensures.back)
+
+pub returns-in_default-clause-returned : goal.returns-in_default-clause-returned
+returns-in_default-clause-returned g c = all_same (showing g.H.Shelf.has_place g.H.Shelf.given_back g.H.Shelf.faults g.H.Shelf.tells c.args.shelf.now)
+
+pub returns-in_default-new_managers-clause-returned : goal.returns-in_default-new_managers-clause-returned
+returns-in_default-new_managers-clause-returned g c = all_same (showing g.H.Shelf.has_place g.H.Shelf.given_back g.H.Shelf.faults g.H.Shelf.tells c.args.shelf.now)
+
+pub returns-in-Ok-open_nodes-clause-returned : goal.returns-in-Ok-open_nodes-clause-returned
+returns-in-Ok-open_nodes-clause-returned g c =
+    let rs = c.args.scenario.now.resources in
+    let before = showing g.H.Shelf.has_place g.H.Shelf.given_back g.H.Shelf.faults g.H.Shelf.tells c.args.shelf.now in
+    let opened = showing g.H.Shelf.has_place g.H.Shelf.given_back g.H.Shelf.faults g.H.Shelf.tells c.open_nodes.new.shelf in
+    let after = showing g.H.Shelf.has_place g.H.Shelf.given_back g.H.Shelf.faults g.H.Shelf.tells c.play.new.shelf in
+    all_in (IsOfServer rs (length rs)) before opened after c.open_nodes.ensures.tells c.in-Ok-open_nodes.ensures.out c.play.ensures.returned
+    (λ told. c.play.ensures.given (still before.tells opened.tells c.open_nodes.ensures.tells told))

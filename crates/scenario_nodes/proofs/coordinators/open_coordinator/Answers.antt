@@ -3,6 +3,7 @@ use Rattle.scenario_nodes.specs.Nodes.{IsNewCoordinator, coordinator_role}
 use Rattle.scenario_nodes.specs.Shelves.{coordinator_name}
 use Rattle.scenario_nodes.proofs.NotOpened.{handed_back}
 use Rattle.scenario_nodes.proofs.OpenedCoordinator.{opened, unopened}
+use Rattle.scenario_nodes.proofs.Returned.{node_in, showing}
 use Rattle.scenario_nodes.proofs.coordinators.open_coordinator.Goals as goal
 
 pub returns-in-Ok-opened-clause-new : goal.returns-in-Ok-opened-clause-new
@@ -23,3 +24,11 @@ returns-in-Err-opened-clause-refused g c =
     c.open_fault.ensures
     (unopened g.H.D.Disk.state s c.in-Ok.disks.0 c.in-Ok.disks.1 c.in-Ok.ensures.first c.in-Ok.ensures.second c.requires.set.disk.0 (length c.as_slice.result.now) (length c.as_slice-2.result.now)
     (e.error, e.first, e.second) e.ensures.refused))
+
+pub returns-in-Err-opened-clause-returned : goal.returns-in-Err-opened-clause-returned
+returns-in-Err-opened-clause-returned g c =
+    let e = c.in-Err-opened in
+    let before = showing g.H.Shelf.has_place g.H.Shelf.given_back g.H.Shelf.faults g.H.Shelf.tells c.args.shelf.now in
+    let taken = showing g.H.Shelf.has_place g.H.Shelf.given_back g.H.Shelf.faults g.H.Shelf.tells c.take_disks.new.shelf in
+    let after = showing g.H.Shelf.has_place g.H.Shelf.given_back g.H.Shelf.faults g.H.Shelf.tells c.give_disks.new.shelf in
+    node_in coordinator_name (e.first, e.second) before taken after c.in-Ok.ensures.keeps.tells c.in-Ok.ensures.out c.give_disks.ensures.returned c.give_disks.ensures.back

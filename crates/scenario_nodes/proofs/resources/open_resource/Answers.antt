@@ -2,6 +2,7 @@ use Rattle.std.proofs.Common.{inr}
 use Rattle.scenario_nodes.specs.Nodes.{resource_role}
 use Rattle.scenario_nodes.proofs.NotOpened.{handed_back}
 use Rattle.scenario_nodes.proofs.OpenedResource.{opened, unopened}
+use Rattle.scenario_nodes.proofs.Returned.{node_in, showing}
 use Rattle.scenario_nodes.proofs.resources.open_resource.Goals as goal
 
 pub returns-in-Ok-open-clause-new : goal.returns-in-Ok-open-clause-new
@@ -20,3 +21,12 @@ returns-in-Err-open-clause-refused g c =
     c.give_disks.ensures.keeps c.give_disks.ensures.back c.open_fault.ensures
     (unopened g.H.D.Disk.state s d.disks.0 d.disks.1 d.ensures.first d.ensures.second c.requires.runnable.set.disk.0 c.args.number def c.in-Ok.setup c.in-Ok.ensures.setup c.in-Ok.ensures.within
     (e.error, e.first, e.other) e.ensures.refused))
+
+pub returns-in-Err-open-clause-returned : goal.returns-in-Err-open-clause-returned
+returns-in-Err-open-clause-returned g c =
+    let e = c.in-Err-open in
+    let d = c.in-Ok-take_disks in
+    let before = showing g.H.Shelf.has_place g.H.Shelf.given_back g.H.Shelf.faults g.H.Shelf.tells c.args.shelf.now in
+    let taken = showing g.H.Shelf.has_place g.H.Shelf.given_back g.H.Shelf.faults g.H.Shelf.tells c.take_disks.new.shelf in
+    let after = showing g.H.Shelf.has_place g.H.Shelf.given_back g.H.Shelf.faults g.H.Shelf.tells c.give_disks.new.shelf in
+    node_in c.as_str-name.result.now (e.first, e.other) before taken after d.ensures.keeps.tells d.ensures.out c.give_disks.ensures.returned c.give_disks.ensures.back

@@ -1,6 +1,7 @@
 use Rattle.std.proofs.Common.{inl, refl}
 use Rattle.seata_lab.specs.Answers.{IsAnswerTo, IsFaultOf}
 use Rattle.seata_lab.proofs.Shelved.{untouched_refused}
+use Rattle.scenario_nodes.proofs.Returned.{all_same, showing}
 use Rattle.seata_lab.proofs.answers.answer_to.Goals as goal
 
 pub returns-in_ok-answer-in-Ok-clause-answer : goal.returns-in_ok-answer-in-Ok-clause-answer
@@ -14,3 +15,6 @@ returns-in_ok-answer-in-Err-clause-answer g c =
 pub returns-in_ok-answer-in-Err-clause-shelf : goal.returns-in_ok-answer-in-Err-clause-shelf
 returns-in_ok-answer-in-Err-clause-shelf g c =
     inl (untouched_refused _ refl c.args.bytes.now c.in-Err.error (c.in-Err.ensures.err c.in_ok-answer-in-Err.ensures.fault) c.in_ok-answer-in-Err.answer.status c.in_ok-answer-in-Err.ensures.status)
+
+pub returns-in_ok-answer-in-Err-clause-returned : goal.returns-in_ok-answer-in-Err-clause-returned
+returns-in_ok-answer-in-Err-clause-returned g c = all_same (showing g.H.Shelf.has_place g.H.Shelf.given_back g.H.Shelf.faults g.H.Shelf.tells c.args.shelf.now)

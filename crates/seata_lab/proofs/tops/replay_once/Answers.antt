@@ -29,5 +29,6 @@ returns g c =
           );
       shelf = shelf_told ends (c.replay_input.new.shelf ≡ c.args.shelf.now) c.write_answer.result old new c.replay_input.result c.replay_input.ensures.answer c.replay_input.ensures.shelf c.replay_input.ensures.unanswered
           c.write_answer.ensures.whole c.write_answer.ensures.nothing;
+      returned = c.replay_input.ensures.returned;
       faults = t.faults;
     }
