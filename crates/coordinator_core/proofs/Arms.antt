@@ -1,15 +1,19 @@
 -- What a stop and a crash leave of the coordinator.
-use Rattle.std.proofs.Common.{◌≡◌, ℕ, Bool, true, false, List, ◌∷◌, Some, None, option_map, is_some, refl, sym, ap, subst, ◌∙◌, arith}
+use Rattle.std.proofs.Common.{◌≡◌, ◌*◌, ◌≤◌, inl, inr, ℕ, Bool, true, false, List, ◌∷◌, Some, None, option_map, is_some, refl, sym, ap, subst, ◌∙◌, arith}
 use Rattle.disk_model.specs.Disk.{DiskState, Content, IsLawful, SameKind}
 use Rattle.disk_model.specs.Stop.{below, stop_of, failures_of, state_of}
 use Rattle.disk_model.specs.declared.stoppable.Stop.TheVariants.{Armed}
 use Rattle.disk_model.specs.declared.stoppable.Stoppable.{Stoppable}
-use Rattle.journal_checkpoint.specs.Keeping.{active_disk, other_disk, is_second, with_active}
+use Rattle.disk_journal.specs.Reading.{row_length}
+use Rattle.journal_checkpoint.specs.declared.types.Found.{Found}
+use Rattle.journal_checkpoint.specs.Keeping.{KeepsPair, active_disk, other_disk, is_second, with_active}
+use Rattle.journal_checkpoint.specs.Pairs.{chosen}
+use Rattle.memory_store.specs.Settling.{KeepsOrSettled, settled}
 use Rattle.seata_types.specs.declared.acts.Act.TheVariants as act
 use Rattle.durable_records.specs.declared.coordinators.SessionRecord.{SessionRecord}
 use Rattle.session_log.specs.declared.sessions.Snapshot.{Snapshot}
 use Rattle.session_store.specs.declared.sessions.Sessions.{Sessions}
-use Rattle.session_store.specs.Keeping.{twin, known, SameOpening, SameDisks, KeepsRecords}
+use Rattle.session_store.specs.Keeping.{twin, known, meaning, BringsBack, SameOpening, SameDisks, KeepsRecords}
 use Rattle.history_rules.specs.Own.{Own, Stopped, Crashed, still}
 use Rattle.history_rules.specs.Devices.{is_down as down_by}
 use Rattle.history_rules.specs.CoordinatorMemory.{Times}
@@ -60,29 +64,71 @@ module _ {D : Type 0} (state : D → DiskState) (calls : ℕ) where
     second_moments = refl;
   }
 
-  keeps_armed : (s : Sessions (Stoppable D)) (rs : List SessionRecord) → KeepsRecords (state_of state) rs s → KeepsRecords (state_of state) rs (put_active s (armed_disk calls (active_disk (twin s))))
+  abbrev armed : Sessions (Stoppable D) → Sessions (Stoppable D)
+  armed s = put_active s (armed_disk calls (active_disk (twin s)))
+
+  kept_armed : (s : Sessions (Stoppable D)) (found : Found) → KeepsPair (state_of state) found (twin s) → KeepsPair (state_of state) found (twin (armed s))
+  kept_armed s found k = record {
+    journal = record {
+      disk = record { settled = k.journal.disk.settled; images = k.journal.disk.images };
+      end = k.journal.end;
+    };
+    settled = k.settled;
+    active = k.active;
+    passive = k.passive;
+    side = k.side;
+  }
+
+  keeps_armed : (s : Sessions (Stoppable D)) (rs : List SessionRecord) → KeepsRecords (state_of state) rs s → KeepsRecords (state_of state) rs (armed s)
   keeps_armed s rs k = record {
     found = k.found;
-    store = record {
-      pair = record {
-        journal = record {
-          disk = record { settled = k.store.pair.journal.disk.settled; images = k.store.pair.journal.disk.images };
-          end = k.store.pair.journal.end;
-        };
-        settled = k.store.pair.settled;
-        active = k.store.pair.active;
-        passive = k.store.pair.passive;
-        side = k.store.pair.side;
-      };
-      held = k.store.held;
-    };
+    store = record { pair = kept_armed s k.found k.store.pair; held = k.store.held };
     list = k.list;
     knows = k.knows;
+  }
+
+  settled_armed : (s : Sessions (Stoppable D)) (found : Found) → KeepsOrSettled (state_of state) (meaning s) found (known s) (twin s) → KeepsOrSettled (state_of state) (meaning s) found (known s) (twin (armed s))
+  settled_armed s found (inl k) = inl (kept_armed s found k)
+  settled_armed s found (inr (writable, k)) = inr (writable, kept_armed s (settled (meaning s) (known s)) k)
+
+  leaves_armed : (second : Bool) (a o : Stoppable D) (c : List ℕ)
+      → ((state_of state (chosen second (armed_disk calls a) o)).may_leave c → (state_of state (chosen second a o)).may_leave c)
+      × ((state_of state (chosen second o (armed_disk calls a))).may_leave c → (state_of state (chosen second o a)).may_leave c)
+  leaves_armed false a o c = (λ e. e, λ e. e)
+  leaves_armed true a o c = (λ e. e, λ e. e)
+
+  size_armed : (second : Bool) (a o : Stoppable D)
+      → ((state_of state (chosen second (armed_disk calls a) o)).size ≡ (state_of state (chosen second a o)).size)
+      × ((state_of state (chosen second o (armed_disk calls a))).size ≡ (state_of state (chosen second o a)).size)
+  size_armed false a o = (refl, refl)
+  size_armed true a o = (refl, refl)
+
+  back_armed : (s : Sessions (Stoppable D)) (pick : ℕ) (before : Sessions (Stoppable D)) → BringsBack (state_of state) pick before s → BringsBack (state_of state) pick before (armed s)
+  back_armed s pick before back = record {
+    a = back.a;
+    b = back.b;
+    first = back.first;
+    second = back.second;
+    is = record {
+      found = back.is.found;
+      stands = back.is.stands;
+      held = back.is.held;
+      kept = settled_armed s back.is.found back.is.kept;
+      short = back.is.short;
+      same = λ one two.
+          let alone = back.is.same (subst (λ (n : ℕ). 2 * row_length back.is.found.records ≤ n) (size_armed (is_second (twin s)) (active_disk (twin s)) (other_disk (twin s))).0 one)
+          (subst (λ (n : ℕ). 2 * row_length back.is.found.records ≤ n) (size_armed (is_second (twin s)) (active_disk (twin s)) (other_disk (twin s))).1 two) in (
+            λ c e. alone.0 c ((leaves_armed (is_second (twin s)) (active_disk (twin s)) (other_disk (twin s)) c).0 e),
+            λ c e. alone.1 c ((leaves_armed (is_second (twin s)) (active_disk (twin s)) (other_disk (twin s)) c).1 e),
+          );
+    };
+    keeps = λ rs stands. keeps_armed s rs (back.keeps rs stands);
   }
 
   sessions_armed : (s : Sessions (Stoppable D)) → ArmsSessions state calls s (put_active s (armed_disk calls (active_disk (twin s))))
   sessions_armed s = record {
     keeps = keeps_armed s;
+    back = back_armed s;
     left = refl;
     pair = pair_armed (is_second (twin s)) (active_disk (twin s)) (other_disk (twin s));
     known = refl;

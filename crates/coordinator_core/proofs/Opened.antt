@@ -10,7 +10,7 @@ use Rattle.seata_types.specs.declared.errors.OpenError.{OpenError}
 use Rattle.seata_types.specs.declared.errors.OpenError.TheVariants as open_error
 use Rattle.seata_types.specs.declared.limits.TheConstants.{MANAGERS, CALLS}
 use Rattle.journal_checkpoint.specs.Keeping.{active_disk, other_disk, first_disk, second_disk, is_second}
-use Rattle.memory_store.specs.Keeping.{FindsFirst, IsDamage}
+use Rattle.memory_store.specs.Keeping.{FindsFirst, IsDamage, IsNotFull, IsOf}
 use Rattle.memory_store.specs.Settling.{RunsOn}
 use Rattle.durable_records.specs.declared.coordinators.SessionRecord.{SessionRecord}
 use Rattle.durable_records.specs.declared.coordinators.SessionRecord.TheVariants as log
@@ -114,6 +114,7 @@ module _ {D : Type 0} (state : D → DiskState) (law : (d : Stoppable D) → IsL
   module _ (few : manager_count ≤ MANAGERS) (c : Coordinator D)
       (keeps : (rs : List SessionRecord) → Told (λ a b. StandsForSessions manager_count resource_count rs a b → KeepsRecords (state_of state) rs (sessions_of c)))
       (place : Told (λ a b. FindsFirst a b (store_of (sessions_of c))))
+      (settles : Told (λ a b. IsOf (state_of state) (meaning_of manager_count resource_count) a b (store_of (sessions_of c))))
       (images : GoOnAs manager_count resource_count (state_of state s1) (state_of state s2) (pair_of state (sessions_of c)).first (pair_of state (sessions_of c)).second)
       (ran1 : RunsOn (state_of state s1) (pair_of state (sessions_of c)).first) (ran2 : RunsOn (state_of state s2) (pair_of state (sessions_of c)).second)
       (managers_are : managers c ≡ manager_count) (resources_are : resources c ≡ resource_count) (up : is_down c ≡ false)
@@ -131,6 +132,7 @@ module _ {D : Type 0} (state : D → DiskState) (law : (d : Stoppable D) → IsL
     is_opened = record {
       stands = λ rs a b is too stands. stands_on rs a b stands (of_told (λ a b. StandsForSessions manager_count resource_count rs a b → KeepsRecords (state_of state) rs (sessions_of c)) (keeps rs) a b is too stands);
       place = of_told (λ a b. FindsFirst a b (store_of (sessions_of c))) place;
+      settles = of_told (λ a b. IsOf (state_of state) (meaning_of manager_count resource_count) a b (store_of (sessions_of c))) settles;
       images = λ a b x y is too. images a b x y (told_below state first s1 one a is) (told_below state second s2 two b too);
       first_disk = opened_disk state first s1 one (first_disk (twin (sessions_of c))) ran1;
       second_disk = opened_disk state second s2 two (second_disk (twin (sessions_of c))) ran2;
@@ -143,11 +145,13 @@ module _ {D : Type 0} (state : D → DiskState) (law : (d : Stoppable D) → IsL
   module _ (error : OpenError) (d1 d2 : Stoppable D) (images : GoOnAs manager_count resource_count (state_of state s1) (state_of state s2) (state_of state d1) (state_of state d2))
       (ran1 : RunsOn (state_of state s1) (state_of state d1)) (ran2 : RunsOn (state_of state s2) (state_of state d2)) where
     pub hands_back : ((rs : List SessionRecord) → Told (λ a b. StandsForSessions manager_count resource_count rs a b → IsNoDamage error)) → Told (λ a b. IsDamage (meaning_of manager_count resource_count) a b error)
+        → IsNotFull error
         → (error ≡ open_error.Failed → HasCause (state_of state s1).counts (state_of state d1).counts ⊎ HasCause (state_of state s2).counts (state_of state d2).counts)
         → HandsBack state first second manager_count resource_count (error, below d1, below d2)
-    hands_back recovers damaged failed = record {
+    hands_back recovers damaged not_full failed = record {
       recovers = λ rs. of_told (λ a b. StandsForSessions manager_count resource_count rs a b → IsNoDamage error) (recovers rs);
       damaged = of_told (λ a b. IsDamage (meaning_of manager_count resource_count) a b error) damaged;
+      not_full = not_full;
       cause = λ e. causes (failed e);
       images = λ a b x y is too. images a b x y (told_below state first s1 one a is) (told_below state second s2 two b too);
       first_disk = opened_disk state first s1 one d1 ran1;
@@ -164,6 +168,7 @@ module _ {D : Type 0} (state : D → DiskState) (law : (d : Stoppable D) → IsL
     hands_opened = record {
       recovers = λ rs a b is too stands. tt;
       damaged = λ a b is too. tt;
+      not_full = tt;
       cause = λ e. absurd (let no : open_error.NoMemory ≡ open_error.Failed = e in cc);
       images = λ a b x y is too. images a b x y (told_below state first s1 one a is) (told_below state second s2 two b too);
       first_disk = opened_disk state first s1 one d1 ran1;

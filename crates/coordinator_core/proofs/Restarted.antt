@@ -8,7 +8,7 @@ use Rattle.disk_model.specs.Stop.{state_of}
 use Rattle.disk_model.specs.declared.stoppable.Stoppable.{Stoppable}
 use Rattle.journal_checkpoint.specs.Images.{Pair, FailsItself}
 use Rattle.journal_checkpoint.specs.Keeping.{active_disk, other_disk, first_disk, second_disk, is_second}
-use Rattle.memory_store.specs.Keeping.{ComesUp, IsDamage, IsTold}
+use Rattle.memory_store.specs.Keeping.{ComesUp, IsDamage, IsNotFull, IsTold, StaysWhereShort}
 use Rattle.seata_types.specs.declared.acts.Act.{Act}
 use Rattle.seata_types.specs.declared.acts.Act.TheVariants as act
 use Rattle.seata_types.specs.declared.acts.Durable.{Durable}
@@ -72,6 +72,7 @@ less_one n = grind (arith, nat_tests)
 
 pub record Rearmed {D : Type 0} (state : D → DiskState) (calls : Option ℕ) (old new : Sessions (Stoppable D)) : Type 0 where
   pub keeps : (rs : List SessionRecord) → KeepsRecords (state_of state) rs old → KeepsRecords (state_of state) rs new
+  pub back : (pick : ℕ) (before : Sessions (Stoppable D)) → BringsBack (state_of state) pick before old → BringsBack (state_of state) pick before new
   pub left : (active_of state new).counts.left ≡ calls
   pub pair : ArmsPair (pair_of state old) (pair_of state new)
   pub known : known new ≡ known old
@@ -82,6 +83,7 @@ module _ {D : Type 0} (state : D → DiskState) where
   rearmed_itself : (s : Sessions (Stoppable D)) → (active_of state s).counts.left ≡ None → Rearmed state None s s
   rearmed_itself s unarmed = record {
     keeps = λ rs k. k;
+    back = λ pick before b. b;
     left = unarmed;
     pair = record {
       own = refl;
@@ -101,6 +103,7 @@ module _ {D : Type 0} (state : D → DiskState) where
   rearmed None c c' unarmed same = subst (λ (q : Coordinator D). Rearmed state None (sessions_of c) (sessions_of q)) (sym same) (rearmed_itself (sessions_of c) unarmed)
   rearmed (Some calls) c c' unarmed a = record {
     keeps = a.sessions.keeps;
+    back = a.sessions.back;
     left = a.sessions.left;
     pair = a.sessions.pair;
     known = a.sessions.known;
@@ -332,17 +335,21 @@ same_error : (e f : OpenError) → act_error e ≡ act_error f → e ≡ f
 same_error e f same = cc
 
 module _ {D : Type 0} (state : D → DiskState) (law : (d : Stoppable D) → IsLawful (state_of state d)) (c : Coordinator D) (s1 : Sessions (Stoppable D)) (pick now : ℕ) (calls : Option ℕ) (down : is_down c ≡ true)
-    (opening : SameOpening (sessions_of c) s1) (go_on : GoOn state (sessions_of c) s1) where
+    (opening : SameOpening (sessions_of c) s1) (go_on : GoOn state (sessions_of c) s1) (stays : StaysWhereShort (state_of state) (twin (sessions_of c)) (twin s1)) where
   -- its disks weren't brought back
   pub not_back : (c' : Coordinator D) (error : OpenError) → sessions_of c' ≡ s1 → SameRest c c' → sessions_down s1 ≡ true → ComeUp state false pick (sessions_of c) s1
       → ((a b : List ℕ) → present (pair_of state s1).first ≡ Some a → present (pair_of state s1).second ≡ Some b → IsDamage (meaning_of (managers_of (sessions_of c)) (resources_of (sessions_of c))) a b error)
+      → IsNotFull error
       → (error ≡ open_error.Failed → FailsItself (disks_of state c).first.counts (pair_of state s1).first.counts ⊎ FailsItself (disks_of state c).second.counts (pair_of state s1).second.counts)
       → RestartsBy state c c' pick calls now (Err error)
-  not_back c' error is rest fell up damaged fails = record {
+  not_back c' error is rest fell up damaged not_full fails = record {
     restarts = λ told. tt;
     after = λ told. after_error state law c c' down (subst (GoOn state (sessions_of c)) (sym is) go_on) (subst (λ q. own_faults (disks_of state c) ≤ own_faults (pair_of state q)) (sym is) (up_grown state false pick (sessions_of c) s1 up))
         (subst (SameOpening (sessions_of c)) (sym is) opening) (ap sessions_down is ∙ fell) rest;
     cause = λ told role owns s. restart_cause state law c s1 go_on (needs c') (size_of state c') (DisksFail (disks_of state c) (disks_of state c')) error told up.first.kind up.second.kind damaged failing role owns s;
+    not_full = not_full;
+    not_due = subst (λ q. StaysWhereShort (state_of state) (twin (sessions_of c)) (twin q)) (sym is) stays;
+    settles = λ told. tt;
     picked = tt;
     failed = λ e. failing (same_error error open_error.Failed e);
     same = same_by state c c' (subst (SameOpening (sessions_of c)) (sym is) opening) (subst (λ q. SameKind (disks_of state c).first (pair_of state q).first) (sym is) up.first.kind)
@@ -365,6 +372,9 @@ module _ {D : Type 0} (state : D → DiskState) (law : (d : Stoppable D) → IsL
           after = λ told. after_error state law c c' down (λ x y first second. go_on x y (subst (λ (p : Pair). p.first.may_leave x) (sym pair) first) (subst (λ (p : Pair). p.second.may_leave y) (sym pair) second))
               (subst (λ p. own_faults (disks_of state c) ≤ own_faults p) pair (up_grown state true pick (sessions_of c) s1 both)) now_opening fell.down beside;
           cause = λ told role owns s. free role owns s;
+          not_full = tt;
+          not_due = λ short x y first second. stays short x y (subst (λ (p : Pair). p.first.may_leave x) (sym pair) first) (subst (λ (p : Pair). p.second.may_leave y) (sym pair) second);
+          settles = λ told. tt;
           picked = tt;
           failed = λ e. absurd (let no : act_error open_error.NoMemory ≡ act_error open_error.Failed = e in cc);
           same = same_by state c c' now_opening (subst (λ (p : Pair). SameKind (disks_of state c).first p.first) pair both.first.kind) (subst (λ (p : Pair). SameKind (disks_of state c).second p.second) pair both.second.kind);
@@ -398,6 +408,9 @@ module _ {D : Type 0} (state : D → DiskState) (law : (d : Stoppable D) → IsL
         restarts = λ told. comes_back told;
         after = λ told. tt;
         cause = λ told role owns s. tt;
+        not_full = tt;
+        not_due = tt;
+        settles = λ told. armed.back pick (sessions_of c) (back told.first told.second);
         picked = (λ told e. both.first.picked refl told (sym (content_first) ∙ e), λ told e. both.second.picked refl told (sym (content_second) ∙ e));
         failed = λ e. absurd (let no : ended (kept_of c') ≡ act_error open_error.Failed = e in cc);
         same = same_by state c c' all_opening kind_first kind_second;

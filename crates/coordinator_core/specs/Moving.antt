@@ -12,7 +12,7 @@ use Rattle.durable_records.specs.declared.coordinators.SessionRecord.{SessionRec
 use Rattle.session_store.specs.declared.sessions.Sessions.{Sessions}
 use Rattle.disk_model.specs.declared.stoppable.Stoppable.{Stoppable}
 use Rattle.disk_model.specs.contracts.stoppable.Stoppable.{the_row as stoppable_row}
-use Rattle.session_store.specs.Keeping.{KeepsRecords, SameOpening, SameDisks, known, is_down as sessions_down, with_disk as sessions_with}
+use Rattle.session_store.specs.Keeping.{BringsBack, KeepsRecords, SameOpening, SameDisks, known, is_down as sessions_down, with_disk as sessions_with}
 use Rattle.history_text.specs.Durable.{own_faults}
 use Rattle.coordinator_core.specs.declared.nodes.Coordinator.{Coordinator}
 use Rattle.coordinator_core.specs.contracts.nodes.Coordinator.{the_row}
@@ -48,6 +48,8 @@ pub record ArmsPair (old new : Pair) : Type 0 where
 -- a stop was armed on the active disk, and all else stays
 pub record ArmsSessions {D : Type 0} (state : D → DiskState) (calls : ℕ) (old new : Sessions (Stoppable D)) : Type 0 where
   pub keeps : (rs : List SessionRecord) → KeepsRecords (state_of state) rs old → KeepsRecords (state_of state) rs new
+  -- what a restart brought back it keeps
+  pub back : (pick : ℕ) (before : Sessions (Stoppable D)) → BringsBack (state_of state) pick before old → BringsBack (state_of state) pick before new
   pub left : (active_of state new).counts.left ≡ Some calls
   pub pair : ArmsPair (pair_of state old) (pair_of state new)
   pub known : known new ≡ known old

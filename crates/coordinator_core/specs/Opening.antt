@@ -1,11 +1,11 @@
 -- What an opening of the coordinator gives, or hands back.
 use Rattle.std.specs.Prelude.{◌≡◌, ◌⊎◌, ◌≤◌, ℕ, false, List, [], Some}
 use Rattle.disk_model.specs.Disk.{DiskState, KeepsRest, Rose, present}
-use Rattle.disk_model.specs.Stop.{below}
+use Rattle.disk_model.specs.Stop.{below, state_of}
 use Rattle.seata_types.specs.declared.errors.OpenError.{OpenError}
 use Rattle.seata_types.specs.declared.errors.OpenError.TheVariants as open_error
 use Rattle.journal_checkpoint.specs.Keeping.{first_disk, second_disk}
-use Rattle.memory_store.specs.Keeping.{IsDamage, FindsFirst}
+use Rattle.memory_store.specs.Keeping.{IsDamage, IsNotFull, IsOf, FindsFirst}
 use Rattle.durable_records.specs.declared.coordinators.SessionRecord.{SessionRecord}
 use Rattle.session_store.specs.Meaning.{meaning_of}
 use Rattle.session_store.specs.Standing.{StandsForSessions}
@@ -31,6 +31,8 @@ pub record IsOpened {D : Type 0} (state : D → DiskState) (first second : D) (m
       → StandsOver state c rs []
   -- the first record that it found is the first one there
   pub place : (a b : List ℕ) → present (state first) ≡ Some a → present (state second) ≡ Some b → FindsFirst a b (store_of (sessions_of c))
+  -- it knows what the bytes hold, with a snapshot in place of the records where one was due
+  pub settles : (a b : List ℕ) → present (state first) ≡ Some a → present (state second) ≡ Some b → IsOf (state_of state) (meaning_of manager_count resource_count) a b (store_of (sessions_of c))
   pub images : GoOnAs manager_count resource_count (state first) (state second) (state (below (first_disk (twin (sessions_of c))))) (state (below (second_disk (twin (sessions_of c)))))
   pub first_disk : IsOpenedDisk (state first) (state (below (first_disk (twin (sessions_of c)))))
   pub second_disk : IsOpenedDisk (state second) (state (below (second_disk (twin (sessions_of c)))))
@@ -44,6 +46,7 @@ pub record IsOpened {D : Type 0} (state : D → DiskState) (first second : D) (m
 pub record HandsBack {D : Type 0} (state : D → DiskState) (first second : D) (manager_count resource_count : ℕ) (failed : OpenError × D × D) : Type 0 where
   pub recovers : (rs : List SessionRecord) (a b : List ℕ) → present (state first) ≡ Some a → present (state second) ≡ Some b → StandsForSessions manager_count resource_count rs a b → IsNoDamage failed.0
   pub damaged : (a b : List ℕ) → present (state first) ≡ Some a → present (state second) ≡ Some b → IsDamage (meaning_of manager_count resource_count) a b failed.0
+  pub not_full : IsNotFull failed.0
   pub cause : failed.0 ≡ open_error.Failed → Rose (state first).counts.faults (state failed.1).counts.faults ⊎ Rose (state second).counts.faults (state failed.2).counts.faults
   pub images : GoOnAs manager_count resource_count (state first) (state second) (state failed.1) (state failed.2)
   pub first_disk : IsOpenedDisk (state first) (state failed.1)

@@ -1,6 +1,7 @@
 -- What a step and a restart of the coordinator promise: all that `Node` promises of them.
 use Rattle.std.specs.Prelude.{◌≡◌, ◌+◌, ◌≤◌, ℕ, List, length, Option, Some, Result, Ok, Err, IfOk, IfErr, OnOk, OnErr}
 use Rattle.disk_model.specs.Disk.{DiskState}
+use Rattle.disk_model.specs.Stop.{state_of}
 use Rattle.seata_types.specs.declared.acts.Act.{Act}
 use Rattle.seata_types.specs.declared.errors.NodeError.{NodeError}
 use Rattle.seata_types.specs.declared.errors.NodeError.TheVariants as error
@@ -10,13 +11,15 @@ use Rattle.seata_types.specs.declared.ids.Place.{Place}
 use Rattle.seata_types.specs.declared.ids.Place.TheVariants as place
 use Rattle.seata_types.specs.declared.messages.Input.{Input}
 use Rattle.seata_types.specs.declared.messages.Step.{Step}
+use Rattle.memory_store.specs.Keeping.{IsNotFull, StaysWhereShort}
+use Rattle.session_store.specs.Keeping.{BringsBack, twin}
 use Rattle.history_rules.specs.Own.{Own}
 use Rattle.history_rules.specs.Nodes.{Role}
 use Rattle.history_text.specs.Durable.{SamePicks, HavePick}
 use Rattle.history_text.specs.Framing.{ComesFramable, SendsFramable}
 use Rattle.history_text.specs.Promises.{TakesStep, AfterError, DisksFail, StaysItself, goes_down, steps_of, AreTold, StandsAsBefore, asked_bytes, Restarts, IsRestartError, stays_down}
 use Rattle.coordinator_core.specs.declared.nodes.Coordinator.{Coordinator}
-use Rattle.coordinator_core.specs.Standing.{StandsAs, serves, disks_of, needs, size_of, steps_left, is_down}
+use Rattle.coordinator_core.specs.Standing.{StandsAs, serves, sessions_of, disks_of, needs, size_of, steps_left, is_down}
 
 -- where it stands
 abbrev pub stands_at : {D : Type 0} → Coordinator D → Place
@@ -49,6 +52,11 @@ pub record RestartsBy {D : Type 0} (state : D → DiskState) (old new : Coordina
   pub after : AreTold (disks_of state old) → OnErr result (StandsAsBefore (StandsAs state) old new)
   pub cause : AreTold (disks_of state old) → (role : Role) (owns : List Own) → StandsAs state old role owns →
       IfErr result (IsRestartError role (DisksFail (disks_of state old) (disks_of state new)) (needs new) (size_of state new))
+  pub not_full : IfErr result IsNotFull
+  -- one that fails changes no byte where the records are short
+  pub not_due : OnErr result (StaysWhereShort (state_of state) (twin (sessions_of old)) (twin (sessions_of new)))
+  -- its disks came back as this pick may bring them, with a snapshot in place of the records where one was due
+  pub settles : AreTold (disks_of state old) → OnOk result (BringsBack (state_of state) pick (sessions_of old) (sessions_of new))
   pub picked : OnOk result (HavePick pick (disks_of state new))
   pub failed : result ≡ Err open_error.Failed → DisksFail (disks_of state old) (disks_of state new)
   pub same : StaysItself stands_at serves (disks_of state) old new

@@ -305,9 +305,10 @@ impl<D: Disk> Coordinator<D> {
 }
 
 impl<D: Disk> Node for Coordinator<D> {
-    ghost use Rattle.std.specs.Prelude.{true};
+    ghost use Rattle.std.specs.Prelude.{◌≡◌, ◌≤◌, ◌^◌, true};
+    ghost use Rattle.disk_model.specs.declared.disk.TheConstants.{LAST_PICK};
     ghost use Rattle.coordinator_core.specs.Standing.{StandsAs, serves, steps_left, is_down, disks_of, needs, size_of};
-    ghost use Rattle.coordinator_core.specs.Stepping.{stands_at};
+    ghost use Rattle.coordinator_core.specs.Stepping.{stands_at, RestartsBy};
     ghost use Rattle.coordinator_core.specs.NodeLaws as laws;
 
     ghost stands_for = { StandsAs D.state };
@@ -354,13 +355,19 @@ impl<D: Disk> Node for Coordinator<D> {
         self.table.sessions.fall();
     }
 
+    // What every node promises of a restart, and that a snapshot comes in place of the records where one is due.
     fn restart(
         &mut self,
         alloc: Global,
         now: u64,
         pick: u16,
         calls: Option<u32>,
-    ) -> Result<Act, OpenError> {
+    ) -> Result<Act, OpenError>
+        requires down { is_down self.old ≡ true }
+        requires moment { now ≤ 2 ^ 63 }
+        requires pick { pick ≤ LAST_PICK }
+        ensures { RestartsBy D.state self.old self.new pick calls now result }
+    {
         self.restart_in_place(alloc, now, pick, calls)
     }
 

@@ -1,7 +1,8 @@
 -- What two disks that keep a snapshot and records say of their bytes.
 use Rattle.std.proofs.Common.{◌≡◌, ℕ, ◌+◌, ◌*◌, ◌^◌, ◌<◌, ◌≤◌, Bool, true, false, Option, Some, None, Result, Ok, List, length, refl, sym, ◌∙◌, ap, subst, arith}
 use Rattle.std.proofs.lemmas.Bool.Decides.{nat_tests}
-use Rattle.disk_model.specs.Disk.{DiskState, IsLawful, present}
+use Rattle.std.proofs.lemmas.Option.{same_Some}
+use Rattle.disk_model.specs.Disk.{DiskState, IsLawful, IsSettled, present}
 use Rattle.disk_journal.specs.Reading.{row_length}
 use Rattle.disk_journal.specs.Journals.{from_of}
 use Rattle.journal_checkpoint.specs.declared.types.Head.{Head}
@@ -14,6 +15,7 @@ use Rattle.journal_checkpoint.specs.Pairs.{head_of, active_of, is_active, chosen
 use Rattle.journal_checkpoint.specs.Images.{Pair, LeavesPairs, IsActiveDisk, IsOtherHead}
 use Rattle.journal_checkpoint.specs.Keeping.{KeepsPair, active_disk, other_disk, first_disk, second_disk, disks, ordered}
 use Rattle.memory_store.specs.Settling.{IsShort}
+use Rattle.memory_store.specs.Keeping.{LeavesAlone}
 use Rattle.memory_store.specs.Holdings.{second_of, second_in, records_at}
 
 -- ---- which disk is active
@@ -87,6 +89,21 @@ pub pairs_now : {D : Type 0} (state : D → DiskState) (old : Pair) (t : Twin D)
 pairs_now state old t leaves a b one two = leaves.now a b
     (subst (λ (d : DiskState). d.may_leave a) (sym (in_order_first state t.second (active_disk t) (other_disk t))) one)
     (subst (λ (d : DiskState). d.may_leave b) (sym (in_order_second state t.second (active_disk t) (other_disk t))) two)
+
+-- ---- nothing is pending
+
+alone : (disk : DiskState) (a c : List ℕ) → IsSettled disk → present disk ≡ Some a → disk.may_leave c → c ≡ a
+alone disk a c settled is left = same_Some _ _ (sym (settled c left) ∙ is)
+
+-- a crash leaves what is there
+pub leaves_alone : {D : Type 0} (state : D → DiskState) (found : Found) (t : Twin D) → KeepsPair state found t → (a b : List ℕ)
+    → present (state (first_disk t)) ≡ Some a → present (state (second_disk t)) ≡ Some b → LeavesAlone a (state (first_disk t)) × LeavesAlone b (state (second_disk t))
+leaves_alone {D} state found t keeps a b is too = by t.second (active_disk t) (other_disk t) keeps.journal.disk.settled keeps.settled is too
+  where
+    by : (s : Bool) (x y : D) → IsSettled (state x) → IsSettled (state y) → present (state (chosen s x y)) ≡ Some a → present (state (chosen s y x)) ≡ Some b
+        → LeavesAlone a (state (chosen s x y)) × LeavesAlone b (state (chosen s y x))
+    by true x y active other is too = (λ c left. alone (state y) a c other is left, λ c left. alone (state x) b c active too left)
+    by false x y active other is too = (λ c left. alone (state x) a c active is left, λ c left. alone (state y) b c other too left)
 
 -- ---- no checkpoint is due
 

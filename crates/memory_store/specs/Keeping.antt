@@ -1,9 +1,10 @@
 -- What a store shows of itself and keeps, and what its calls do.
-use Rattle.std.specs.Prelude.{◌≡◌, ◌⊎◌, ℕ, ◌+◌, ◌^◌, ◌<◌, ◌≤◌, Bool, true, Option, Some, None, IsSome, List, Result, Ok, Err}
+use Rattle.std.specs.Prelude.{◌≡◌, ◌⊎◌, ℕ, ◌+◌, ◌*◌, ◌^◌, ◌<◌, ◌≤◌, Bool, true, Option, Some, None, IsSome, List, Result, Ok, Err}
 use Rattle.std.specs.Borrow.{Lends, Fml, RattleType, MutBor}
 use Rattle.disk_model.specs.Disk.{DiskState, SameKind, KeepsRest, Rose, CountsCalls, last_pick}
 use Rattle.disk_model.specs.declared.errors.Failed.{Failed}
 use Rattle.disk_journal.specs.Keeping.{IsFull}
+use Rattle.disk_journal.specs.Reading.{row_length}
 use Rattle.seata_types.specs.declared.errors.Full.{Full}
 use Rattle.seata_types.specs.declared.errors.OpenError.{OpenError}
 use Rattle.seata_types.specs.declared.errors.OpenError.TheVariants as open_error
@@ -112,6 +113,10 @@ pub record IsRead {M K D I : Type 0} (state : D → DiskState) (m : Meaning K I)
   pub stands : PairStandsFor found a b
   pub keeps : Keeps state m found s
 
+-- a crash now leaves these bytes and no others
+abbrev pub LeavesAlone : List ℕ → DiskState → Type 0
+LeavesAlone a disk = (c : List ℕ) → disk.may_leave c → c ≡ a
+
 -- What these bytes hold is what it knows, and its disks keep it, as the bytes have it or as a snapshot.
 pub record IsOf {M K D I : Type 0} (state : D → DiskState) (m : Meaning K I) (a b : List ℕ) (s : Store M K D) : Type 0 where
   pub found : Found
@@ -120,6 +125,9 @@ pub record IsOf {M K D I : Type 0} (state : D → DiskState) (m : Meaning K I) (
   pub kept : KeepsOrSettled state m found (memory_of s) (twin_of s)
   -- the records past the snapshot take at most half of the disk, unless no snapshot can be put in their place
   pub short : IsShort state (twin_of s) ⊎ CannotSettle m state (memory_of s) (twin_of s)
+  -- where the records of these bytes take at most half of either disk, no byte was changed: a crash now leaves these and no others
+  pub same : 2 * row_length found.records ≤ (state (first_disk (twin_of s))).size → 2 * row_length found.records ≤ (state (second_disk (twin_of s))).size →
+      LeavesAlone a (state (first_disk (twin_of s))) × LeavesAlone b (state (second_disk (twin_of s)))
 
 -- the first record that it found is the first one there
 abbrev pub FindsFirst : {M K D : Type 0} → List ℕ → List ℕ → Store M K D → Type 0
@@ -134,6 +142,17 @@ pub record ComesUp (ok : Bool) (pick : ℕ) (old new : DiskState) : Type 0 where
   pub faults : old.counts.faults ≤ new.counts.faults
   pub own : old.counts.own ≤ new.counts.own
   pub kind : SameKind old new
+
+-- in each pair of bytes that a crash may leave of two disks the records take at most half of either
+abbrev pub AlwaysShort : (first second : DiskState) → Type 0
+AlwaysShort first second =
+    (a b : List ℕ) (found : Found) → first.may_leave a → second.may_leave b → PairStandsFor found a b → (2 * row_length found.records ≤ first.size) × (2 * row_length found.records ≤ second.size)
+
+-- where that held before, a crash now leaves a pair that it could leave then
+abbrev pub StaysWhereShort : {D : Type 0} → (D → DiskState) → (old new : Twin D) → Type 0
+StaysWhereShort state old new =
+    AlwaysShort (state (first_disk old)) (state (second_disk old)) → (c d : List ℕ) → (state (first_disk new)).may_leave c → (state (second_disk new)).may_leave d →
+    (state (first_disk old)).may_leave c × (state (second_disk old)).may_leave d
 
 -- It came back as one of the pairs of images that these picks may give, and knows what that pair holds.
 pub record IsBack {M K D I : Type 0} (state : D → DiskState) (m : Meaning K I) (pick : ℕ) (old new : Store M K D) : Type 0 where

@@ -29,9 +29,9 @@ impl<K: Drop, M: StateMachine<Memory = K> + Drop, D: Disk> Store<M, K, D> {
     ghost use Rattle.seata_types.specs.declared.limits.TheConstants.{BODY_BYTES};
     ghost use Rattle.journal_checkpoint.specs.Images.{FailsItself, PairStandsFor, LeavesPairs, Either, with_record};
     ghost use Rattle.journal_checkpoint.specs.Keeping.{KeepsPair, active_disk, first_disk, second_disk, disks};
-    ghost use Rattle.memory_store.specs.Settling.{GoesOn, RunsOn, IsNoDamage};
+    ghost use Rattle.memory_store.specs.Settling.{GoesOn, RunsOn, IsNoDamage, IsShort};
     ghost use Rattle.memory_store.specs.Adding.{Adds};
-    ghost use Rattle.memory_store.specs.Keeping.{machine_of, memory_of, twin_of, found_of, is_down, Keeps, Takes, Falls, IsAtEnd, IsFullFor, HasRoomFor, HasRoomIfTaken, ChangesMemory, IsDamage, IsOf, IsNotFull, IsRead, FindsFirst, ComesUp, IsBack, IsTold, first_after, second_after, LendsMemory, LendsActive};
+    ghost use Rattle.memory_store.specs.Keeping.{machine_of, memory_of, twin_of, found_of, is_down, Keeps, Takes, Falls, IsAtEnd, IsFullFor, HasRoomFor, HasRoomIfTaken, ChangesMemory, IsDamage, IsOf, IsNotFull, IsRead, FindsFirst, StaysWhereShort, ComesUp, IsBack, IsTold, first_after, second_after, LendsMemory, LendsActive};
 
     /// Reads two disks, and changes no byte. The disks come back where it fails: `Damaged` where their bytes hold nothing,
     /// `NoMemory` where there is none for what they hold or for appends.
@@ -253,6 +253,8 @@ impl<K: Drop, M: StateMachine<Memory = K> + Drop, D: Disk> Store<M, K, D> {
         ensures images { (c d : List ℕ) → (D.state (first_disk (twin_of self.new))).may_leave c → (D.state (second_disk (twin_of self.new))).may_leave d →
             ((a b : List ℕ) × (D.state (first_disk (twin_of self.old))).may_leave a × (D.state (second_disk (twin_of self.old))).may_leave b
             × GoesOn (M.meaning (machine_of self.old)) a b c d) }
+        // Where the records of each such pair take at most half of either disk, it leaves one of these, however it ended.
+        ensures not_due { StaysWhereShort D.state (twin_of self.old) (twin_of self.new) }
         ensures failed { result ≡ Err OpenError.Failed →
             FailsItself (D.state (first_disk (twin_of self.old))).counts (D.state (first_disk (twin_of self.new))).counts
             ⊎ FailsItself (D.state (second_disk (twin_of self.old))).counts (D.state (second_disk (twin_of self.new))).counts }
@@ -293,6 +295,7 @@ impl<K: Drop, M: StateMachine<Memory = K> + Drop, D: Disk> Store<M, K, D> {
         ensures failed { result ≡ Err OpenError.Failed →
             HasCause (D.state (first_disk (twin_of self.old))).counts (D.state (first_disk (twin_of self.new))).counts
             ⊎ HasCause (D.state (second_disk (twin_of self.old))).counts (D.state (second_disk (twin_of self.new))).counts }
+        ensures not_due { IsShort D.state (twin_of self.old) → twin_of self.new ≡ twin_of self.old }
         ensures first { RunsOn (D.state (first_disk (twin_of self.old))) (D.state (first_disk (twin_of self.new))) }
         ensures second { RunsOn (D.state (second_disk (twin_of self.old))) (D.state (second_disk (twin_of self.new))) }
         ensures not_full { IfErr result IsNotFull }

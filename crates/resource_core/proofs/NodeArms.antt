@@ -1,12 +1,16 @@
 -- What a stop and a crash leave of a resource.
-use Rattle.std.proofs.Common.{◌≡◌, inl, ℕ, Bool, true, false, List, ◌∷◌, None, option_map, is_some, refl, sym, ap, subst, ◌∙◌, arith}
+use Rattle.std.proofs.Common.{◌≡◌, ◌*◌, ◌≤◌, inl, inr, ℕ, Bool, true, false, List, ◌∷◌, None, option_map, is_some, refl, sym, ap, subst, ◌∙◌, arith}
 use Rattle.std.specs.List.{AllByRecursion}
 use Rattle.disk_model.specs.Disk.{DiskState, Content, IsLawful, SameKind}
 use Rattle.disk_model.specs.Stop.{below, stop_of, failures_of, state_of}
 use Rattle.disk_model.specs.declared.stoppable.Stop.TheVariants.{Armed}
 use Rattle.disk_model.specs.declared.stoppable.Stoppable.{Stoppable}
 use Rattle.journal_checkpoint.specs.Images.{Pair}
-use Rattle.journal_checkpoint.specs.Keeping.{active_disk, other_disk, is_second}
+use Rattle.disk_journal.specs.Reading.{row_length}
+use Rattle.journal_checkpoint.specs.declared.types.Found.{Found}
+use Rattle.journal_checkpoint.specs.Keeping.{KeepsPair, active_disk, other_disk, is_second}
+use Rattle.journal_checkpoint.specs.Pairs.{chosen}
+use Rattle.memory_store.specs.Settling.{KeepsOrSettled, settled}
 use Rattle.seata_types.specs.declared.acts.Act.TheVariants as act
 use Rattle.durable_records.specs.declared.resources.ResourceRecord.{ResourceRecord}
 use Rattle.history_rules.specs.Own.{Own, Stopped, Crashed, still}
@@ -18,8 +22,8 @@ use Rattle.history_text.specs.Durable.{SamePicks}
 use Rattle.history_text.specs.Promises.{Does, StaysItself, own_entry}
 use Rattle.resource_memory.specs.Known.{Known}
 use Rattle.resource_store.specs.declared.store.Store.{Store}
-use Rattle.resource_store.specs.Keeping.{twin, known, setting_of, is_down as store_is_down, KeepsRecords, with_disk}
-use Rattle.resource_store.specs.Meaning.{IsOf, Opens, Setting}
+use Rattle.resource_store.specs.Keeping.{twin, known, setting_of, is_down as store_is_down, BringsBack, KeepsRecords, with_disk}
+use Rattle.resource_store.specs.Meaning.{IsOf, Opens, Setting, meaning_of}
 use Rattle.record_places.specs.Within.{IsTableWithin}
 use Rattle.resource_core.specs.declared.nodes.Resource.{Resource}
 use Rattle.resource_core.specs.Holding.{Holds}
@@ -45,29 +49,72 @@ module _ {D : Type 0} (state : D → DiskState) (calls : ℕ) where
   pair_armed false a o = record { own = refl; first_content = refl; second_content = refl; first_size = refl; second_size = refl; first_moments = refl; second_moments = refl; first_leaves = λ c e. e; second_leaves = λ c e. e }
   pair_armed true a o = record { own = refl; first_content = refl; second_content = refl; first_size = refl; second_size = refl; first_moments = refl; second_moments = refl; first_leaves = λ c e. e; second_leaves = λ c e. e }
 
-  keeps_armed : (s : Store (Stoppable D)) (t : Setting) (rs : List ResourceRecord) → KeepsRecords (state_of state) t rs s → KeepsRecords (state_of state) t rs (with_disk s (armed_disk calls (active_disk (twin s))))
+  abbrev armed : Store (Stoppable D) → Store (Stoppable D)
+  armed s = with_disk s (armed_disk calls (active_disk (twin s)))
+
+  kept_armed : (s : Store (Stoppable D)) (found : Found) → KeepsPair (state_of state) found (twin s) → KeepsPair (state_of state) found (twin (armed s))
+  kept_armed s found k = record {
+    journal = record {
+      disk = record { settled = k.journal.disk.settled; images = k.journal.disk.images };
+      end = k.journal.end;
+    };
+    settled = k.settled;
+    active = k.active;
+    passive = k.passive;
+    side = k.side;
+  }
+
+  keeps_armed : (s : Store (Stoppable D)) (t : Setting) (rs : List ResourceRecord) → KeepsRecords (state_of state) t rs s → KeepsRecords (state_of state) t rs (armed s)
   keeps_armed s t rs k = record {
     found = k.found;
-    kept = record {
-      pair = record {
-        journal = record {
-          disk = record { settled = k.kept.pair.journal.disk.settled; images = k.kept.pair.journal.disk.images };
-          end = k.kept.pair.journal.end;
-        };
-        settled = k.kept.pair.settled;
-        active = k.kept.pair.active;
-        passive = k.kept.pair.passive;
-        side = k.kept.pair.side;
-      };
-      held = k.kept.held;
-    };
+    kept = record { pair = kept_armed s k.found k.kept.pair; held = k.kept.held };
     list = k.list;
     knows = k.knows;
+  }
+
+  settled_armed : (s : Store (Stoppable D)) (t : Setting) (found : Found) → KeepsOrSettled (state_of state) (meaning_of t) found (known s) (twin s)
+      → KeepsOrSettled (state_of state) (meaning_of t) found (known s) (twin (armed s))
+  settled_armed s t found (inl k) = inl (kept_armed s found k)
+  settled_armed s t found (inr (writable, k)) = inr (writable, kept_armed s (settled (meaning_of t) (known s)) k)
+
+  leaves_armed : (second : Bool) (a o : Stoppable D) (c : List ℕ)
+      → ((state_of state (chosen second (armed_disk calls a) o)).may_leave c → (state_of state (chosen second a o)).may_leave c)
+      × ((state_of state (chosen second o (armed_disk calls a))).may_leave c → (state_of state (chosen second o a)).may_leave c)
+  leaves_armed false a o c = (λ e. e, λ e. e)
+  leaves_armed true a o c = (λ e. e, λ e. e)
+
+  size_armed : (second : Bool) (a o : Stoppable D)
+      → ((state_of state (chosen second (armed_disk calls a) o)).size ≡ (state_of state (chosen second a o)).size)
+      × ((state_of state (chosen second o (armed_disk calls a))).size ≡ (state_of state (chosen second o a)).size)
+  size_armed false a o = (refl, refl)
+  size_armed true a o = (refl, refl)
+
+  back_armed : (s : Store (Stoppable D)) (pick : ℕ) (before : Store (Stoppable D)) → BringsBack (state_of state) pick before s → BringsBack (state_of state) pick before (armed s)
+  back_armed s pick before back = record {
+    a = back.a;
+    b = back.b;
+    first = back.first;
+    second = back.second;
+    is = record {
+      found = back.is.found;
+      stands = back.is.stands;
+      held = back.is.held;
+      kept = settled_armed s (setting_of before) back.is.found back.is.kept;
+      short = back.is.short;
+      same = λ one two.
+          let alone = back.is.same (subst (λ (n : ℕ). 2 * row_length back.is.found.records ≤ n) (size_armed (is_second (twin s)) (active_disk (twin s)) (other_disk (twin s))).0 one)
+          (subst (λ (n : ℕ). 2 * row_length back.is.found.records ≤ n) (size_armed (is_second (twin s)) (active_disk (twin s)) (other_disk (twin s))).1 two) in (
+            λ c e. alone.0 c ((leaves_armed (is_second (twin s)) (active_disk (twin s)) (other_disk (twin s)) c).0 e),
+            λ c e. alone.1 c ((leaves_armed (is_second (twin s)) (active_disk (twin s)) (other_disk (twin s)) c).1 e),
+          );
+    };
+    keeps = λ rs stands. keeps_armed s (setting_of before) rs (back.keeps rs stands);
   }
 
   store_armed : (s : Store (Stoppable D)) → ArmsStore state calls s (with_disk s (armed_disk calls (active_disk (twin s))))
   store_armed s = record {
     keeps = keeps_armed s;
+    back = back_armed s;
     left = refl;
     pair = pair_armed (is_second (twin s)) (active_disk (twin s)) (other_disk (twin s));
     known = refl;

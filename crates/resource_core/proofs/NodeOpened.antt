@@ -15,7 +15,7 @@ use Rattle.durable_records.specs.declared.resources.ResourceRecord.{ResourceReco
 use Rattle.history_rules.specs.ResourceMemory.{Setup as RuleSetup, boot_over}
 use Rattle.resource_memory.specs.Known.{Known}
 use Rattle.resource_store.specs.declared.store.Store.{Store}
-use Rattle.resource_store.specs.Keeping.{BootsAs, GoesOnWithBoot, KeepsRecords, is_down as store_is_down, known, setting_of, twin}
+use Rattle.resource_store.specs.Keeping.{BootsAs, BootsFrom, GoesOnWithBoot, KeepsRecords, is_down as store_is_down, known, setting_of, twin}
 use Rattle.resource_store.specs.Meaning.{IsOf, Opens, Setting, meaning_of}
 use Rattle.resource_store.specs.Openings.{IsBootDamage, IsUndamaged}
 use Rattle.resource_store.specs.Standing.{StandsForRecords}
@@ -87,6 +87,7 @@ module _ {D : Type 0} (state : D → DiskState) (law : (d : Stoppable D) → IsL
   module _ (within : IsSetupWithin number w) (s : Store (Stoppable D)) (txns : Tickets) (tickets : txns ≡ no_tickets (known s).boots) (setting : setting_of s ≡ t) (up : store_is_down s ≡ false)
       (sound : (meaning_of t).IsSound (known s))
       (keeps : (rs : List ResourceRecord) → Told (λ a b. StandsForRecords t rs a b → BootsAs (state_of state) t rs s)) (place : Told (λ a b. FindsFirst a b s.kept))
+      (settles : Told (λ a b. BootsFrom (state_of state) t a b s))
       (images : (a b c d : List ℕ) → present (state_of state s1) ≡ Some a → present (state_of state s2) ≡ Some b → (pair_of state s).first.may_leave c → (pair_of state s).second.may_leave d → GoesOnWithBoot t a b c d)
       (ran1 : RunsOn (state_of state s1) (pair_of state s).first) (ran2 : RunsOn (state_of state s2) (pair_of state s).second) where
     abbrev pub opening : Resource D
@@ -140,6 +141,7 @@ module _ {D : Type 0} (state : D → DiskState) (law : (d : Stoppable D) → IsL
     is_opened = record {
       stands = λ rs a b is too stands. stands_on rs (of_told (λ a b. StandsForRecords t rs a b → BootsAs (state_of state) t rs s) (keeps rs) a b is too stands);
       place = of_told (λ a b. FindsFirst a b s.kept) place;
+      settles = of_told (λ a b. BootsFrom (state_of state) t a b s) settles;
       images = λ a b x y is too. images a b x y (told_below state first s1 one a is) (told_below state second s2 two b too);
       first_disk = opened_disk state first s1 one (first_disk (twin s)) ran1;
       second_disk = opened_disk state second s2 two (second_disk (twin s)) ran2;

@@ -9,7 +9,7 @@ use Rattle.disk_model.specs.declared.stoppable.Stoppable.{Stoppable}
 use Rattle.disk_journal.specs.Keeping.{IsFull}
 use Rattle.journal_checkpoint.specs.Images.{Pair, FailsItself}
 use Rattle.journal_checkpoint.specs.Keeping.{active_disk, other_disk, is_second}
-use Rattle.memory_store.specs.Keeping.{ComesUp}
+use Rattle.memory_store.specs.Keeping.{ComesUp, StaysWhereShort}
 use Rattle.seata_types.specs.declared.acts.Act.{Act}
 use Rattle.seata_types.specs.declared.acts.Act.TheVariants as act
 use Rattle.seata_types.specs.declared.acts.Durable.{Durable}
@@ -114,6 +114,7 @@ GoOn t old new = (x y : List ℕ) → new.first.may_leave x → new.second.may_l
 
 pub record Rearmed {D : Type 0} (state : D → DiskState) (calls : Option ℕ) (old new : Store (Stoppable D)) : Type 0 where
   pub keeps : (t : Setting) (rs : List ResourceRecord) → KeepsRecords (state_of state) t rs old → KeepsRecords (state_of state) t rs new
+  pub back : (pick : ℕ) (before : Store (Stoppable D)) → BringsBack (state_of state) pick before old → BringsBack (state_of state) pick before new
   pub left : (active_of state new).counts.left ≡ calls
   pub pair : ArmsPair (pair_of state old) (pair_of state new)
   pub known : known new ≡ known old
@@ -124,6 +125,7 @@ module _ {D : Type 0} (state : D → DiskState) where
   rearmed_itself : (s : Store (Stoppable D)) → (active_of state s).counts.left ≡ None → Rearmed state None s s
   rearmed_itself s unarmed = record {
     keeps = λ t rs k. k;
+    back = λ pick before b. b;
     left = unarmed;
     pair = record { own = refl; first_content = refl; second_content = refl; first_size = refl; second_size = refl; first_moments = refl; second_moments = refl; first_leaves = λ c e. e; second_leaves = λ c e. e };
     known = refl;
@@ -135,6 +137,7 @@ module _ {D : Type 0} (state : D → DiskState) where
   rearmed None r r' unarmed same = subst (λ (q : Resource D). Rearmed state None (store_of r) (store_of q)) (sym same) (rearmed_itself (store_of r) unarmed)
   rearmed (Some calls) r r' unarmed a = record {
     keeps = a.store.keeps;
+    back = a.store.back;
     left = a.store.left;
     pair = a.store.pair;
     known = a.store.known;
@@ -236,7 +239,7 @@ never_error : {X : Type 0} (a : Act) (e : OpenError) → act_done a ≡ act_erro
 never_error a e same = absurd cc
 
 module _ {D : Type 0} (state : D → DiskState) (law : (d : Stoppable D) → IsLawful (state_of state d)) (r : Resource D) (s1 : Store (Stoppable D)) (pick now : ℕ) (calls : Option ℕ) (down : is_down r ≡ true)
-    (setting : setting_of s1 ≡ setting_of (store_of r)) (go_on : GoOn (setting_of (store_of r)) (disks_of state r) (pair_of state s1)) where
+    (setting : setting_of s1 ≡ setting_of (store_of r)) (go_on : GoOn (setting_of (store_of r)) (disks_of state r) (pair_of state s1)) (stays : StaysWhereShort (state_of state) (twin (store_of r)) (twin s1)) where
   -- its disks weren't brought back
   pub not_back : (e : OpenError) → ComeUp false pick (disks_of state r) (pair_of state s1)
       → (AreTold (disks_of state r) → StandsAlways (state_of state) (setting_of (store_of r)) (twin (store_of r)) → IsNoDamage e)
@@ -246,6 +249,8 @@ module _ {D : Type 0} (state : D → DiskState) (law : (d : Stoppable D) → IsL
     restarts = λ told. tt;
     after = λ told. after_error state r s1 down setting go_on (up_grown false pick (disks_of state r) (pair_of state s1) up);
     cause = λ told role owns s. by told role owns s;
+    not_due = stays;
+    settles = λ told. tt;
     picked = tt;
     failed = λ is. failing (same_error e open_error.Failed is);
     same = stays_itself state r (with_store r s1) refl (sound_down state r s1 down setting) up.first.kind up.second.kind;
@@ -428,6 +433,8 @@ module _ {D : Type 0} (state : D → DiskState) (law : (d : Stoppable D) → IsL
           restarts = restarts_up;
           after = λ told. tt;
           cause = λ told role owns s. tt;
+          not_due = tt;
+          settles = λ told. record { back = s2; setting = setting2; brings = armed.back pick (store_of r) (back told); boots = made };
           picked = have_pick (pair_of state s3) moved3.first_pick moved3.second_pick;
           failed = λ e. never_error (act.Restarted (kept_of r2)) open_error.Failed e;
           same = stays_itself state r booting refl sound_up (kind_of (disks_of state r).first (pair_of state s2).first (pair_of state s3).first first2 moved3.first_kind)
@@ -511,6 +518,8 @@ module _ {D : Type 0} (state : D → DiskState) (law : (d : Stoppable D) → IsL
           restarts = restarts_down;
           after = λ told. tt;
           cause = λ told role owns s. tt;
+          not_due = tt;
+          settles = λ told. record { back = s2; setting = setting2; brings = armed.back pick (store_of r) (back told); boots = lost };
           picked = have_pick (pair_of state s3) moved_lost.first_pick moved_lost.second_pick;
           failed = λ e. never_error (act.Down (kept_of r2) (Some durable.Boot)) open_error.Failed e;
           same = stays_itself state r falling refl sound_falling (kind_of (disks_of state r).first (pair_of state s2).first (pair_of state s3).first first2 moved_lost.first_kind)
@@ -528,6 +537,8 @@ module _ {D : Type 0} (state : D → DiskState) (law : (d : Stoppable D) → IsL
       restarts = λ told. tt;
       after = λ told. after_error state r s2 down setting2 go_on2 grown2;
       cause = causes;
+      not_due = λ short x y one two. stays short x y (armed.pair.first_leaves x one) (armed.pair.second_leaves y two);
+      settles = λ told. tt;
       picked = tt;
       failed = λ is. failing (same_error e open_error.Failed is);
       same = stays_itself state r r2 refl (sound_down state r s2 down setting2) first2 second2;

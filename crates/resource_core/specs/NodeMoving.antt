@@ -20,7 +20,7 @@ use Rattle.local_txn.specs.Answers.{no_tickets}
 use Rattle.history_text.specs.Durable.{own_faults}
 use Rattle.resource_store.specs.declared.store.Store.{Store}
 use Rattle.resource_store.specs.Meaning.{Setting}
-use Rattle.resource_store.specs.Keeping.{setting_of, known, found_of, is_down as store_is_down, KeepsRecords, Changes, boot_record, with_disk as store_with}
+use Rattle.resource_store.specs.Keeping.{setting_of, known, found_of, is_down as store_is_down, BringsBack, KeepsRecords, Changes, boot_record, with_disk as store_with}
 use Rattle.resource_core.specs.declared.nodes.Resource.{Resource}
 use Rattle.resource_core.specs.contracts.nodes.Resource.{the_row}
 use Rattle.resource_core.specs.Shown.{store_of, pair_of, active_of}
@@ -59,6 +59,8 @@ pub record ArmsPair (old new : Pair) : Type 0 where
 -- a stop was armed on the active disk, and all else stays
 pub record ArmsStore {D : Type 0} (state : D → DiskState) (calls : ℕ) (old new : Store (Stoppable D)) : Type 0 where
   pub keeps : (t : Setting) (rs : List ResourceRecord) → KeepsRecords (state_of state) t rs old → KeepsRecords (state_of state) t rs new
+  -- what a restart brought back it keeps
+  pub back : (pick : ℕ) (before : Store (Stoppable D)) → BringsBack (state_of state) pick before old → BringsBack (state_of state) pick before new
   pub left : (active_of state new).counts.left ≡ Some calls
   pub pair : ArmsPair (pair_of state old) (pair_of state new)
   pub known : known new ≡ known old

@@ -2,7 +2,7 @@
 use Rattle.std.specs.Prelude.{◌≡◌, ◌⊎◌, ◌≤◌, ℕ, false, List, [], Some}
 use Rattle.std.specs.List.{AllByRecursion}
 use Rattle.disk_model.specs.Disk.{DiskState, KeepsRest, Rose, present}
-use Rattle.disk_model.specs.Stop.{below}
+use Rattle.disk_model.specs.Stop.{below, state_of}
 use Rattle.journal_checkpoint.specs.Keeping.{first_disk, second_disk}
 use Rattle.memory_store.specs.Keeping.{FindsFirst}
 use Rattle.seata_types.specs.declared.errors.OpenError.{OpenError}
@@ -11,7 +11,7 @@ use Rattle.seata_types.specs.declared.limits.TheConstants.{RESOURCES}
 use Rattle.durable_records.specs.declared.resources.ResourceRecord.{ResourceRecord}
 use Rattle.frame_codec.specs.Limits.{IsCounted}
 use Rattle.history_rules.specs.ResourceMemory.{Setup as RuleSetup}
-use Rattle.resource_store.specs.Keeping.{GoesOnWithBoot, twin}
+use Rattle.resource_store.specs.Keeping.{BootsFrom, GoesOnWithBoot, twin}
 use Rattle.resource_store.specs.Meaning.{Setting, Opens, setting, meaning_of}
 use Rattle.resource_store.specs.Openings.{IsUndamaged, IsBootDamage}
 use Rattle.resource_store.specs.Standing.{StandsForRecords}
@@ -64,6 +64,8 @@ pub record IsOpened {D : Type 0} (state : D → DiskState) (first second : D) (n
       → StandsOver state r (setup_at number s) rs []
   -- the first record that it found is the first one there
   pub place : (a b : List ℕ) → present (state first) ≡ Some a → present (state second) ≡ Some b → FindsFirst a b (store_of r).kept
+  -- before its boot it knew what the bytes hold, with a snapshot in place of the records where one was due
+  pub settles : (a b : List ℕ) → present (state first) ≡ Some a → present (state second) ≡ Some b → BootsFrom (state_of state) (setting_at number s) a b (store_of r)
   pub images : GoOnWithBoot (setting_at number s) (state first) (state second) (state (below (first_disk (twin (store_of r))))) (state (below (second_disk (twin (store_of r)))))
   pub first_disk : IsOpenedDisk (state first) (state (below (first_disk (twin (store_of r)))))
   pub second_disk : IsOpenedDisk (state second) (state (below (second_disk (twin (store_of r)))))

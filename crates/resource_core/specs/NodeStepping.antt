@@ -1,11 +1,16 @@
 -- What a step and a restart of a resource promise: all that `Node` promises of them.
 use Rattle.std.specs.Prelude.{◌≡◌, ◌+◌, ◌≤◌, ℕ, List, length, Option, Some, Result, Ok, Err, IfOk, IfErr, OnOk, OnErr}
 use Rattle.disk_model.specs.Disk.{DiskState}
+use Rattle.disk_model.specs.Stop.{state_of}
+use Rattle.disk_model.specs.declared.stoppable.Stoppable.{Stoppable}
 use Rattle.seata_types.specs.declared.acts.Act.{Act}
+use Rattle.seata_types.specs.declared.acts.Act.TheVariants as act
 use Rattle.seata_types.specs.declared.errors.NodeError.{NodeError}
 use Rattle.seata_types.specs.declared.errors.NodeError.TheVariants as error
 use Rattle.seata_types.specs.declared.errors.OpenError.{OpenError}
 use Rattle.seata_types.specs.declared.errors.OpenError.TheVariants as open_error
+use Rattle.seata_types.specs.declared.errors.StoreError.{StoreError}
+use Rattle.seata_types.specs.declared.errors.StoreError.TheVariants as store_error
 use Rattle.seata_types.specs.declared.messages.Input.{Input}
 use Rattle.seata_types.specs.declared.messages.Step.{Step}
 use Rattle.history_rules.specs.Own.{Own}
@@ -13,9 +18,12 @@ use Rattle.history_rules.specs.Nodes.{Role}
 use Rattle.history_text.specs.Durable.{SamePicks, HavePick}
 use Rattle.history_text.specs.Framing.{ComesFramable, SendsFramable}
 use Rattle.history_text.specs.Promises.{TakesStep, AfterError, DisksFail, StaysItself, goes_down, steps_of, AreTold, StandsAsBefore, asked_bytes, Restarts, IsRestartError, stays_down}
+use Rattle.memory_store.specs.Keeping.{StaysWhereShort}
+use Rattle.resource_store.specs.declared.store.Store.{Store}
+use Rattle.resource_store.specs.Keeping.{BringsBack, Changes, boot_record, known, setting_of, twin}
 use Rattle.resource_core.specs.declared.nodes.Resource.{Resource}
 use Rattle.resource_core.specs.NodeStanding.{StandsAs, serves}
-use Rattle.resource_core.specs.Shown.{stands_at, disks_of, needs, size_of, steps_left, is_down}
+use Rattle.resource_core.specs.Shown.{stands_at, store_of, disks_of, needs, size_of, steps_left, is_down}
 
 -- the record that the rule's answer asks for, if it asks for one, ends within the active disk
 abbrev pub HasRoom : {D : Type 0} → (D → DiskState) → Resource D → Input → ℕ → Type 0
@@ -39,11 +47,29 @@ pub record StepsBy {D : Type 0} (state : D → DiskState) (old new : Resource D)
   pub counted : steps_left new + steps_of result ≡ steps_left old
   pub down : is_down new ≡ goes_down result
 
+-- what became of the boot of a restart that ended with this act
+abbrev pub boot_made : Act → Result (Unit {0}) StoreError
+boot_made (act.Restarted kept) = Ok tt
+boot_made _ = Err store_error.Failed
+
+-- What a restart with this pick left of a store: it was brought back, and then came the record of its boot, or the disks failed
+-- at it.
+pub record ComesBack {D : Type 0} (state : D → DiskState) (pick : ℕ) (boot : Result (Unit {0}) StoreError) (old new : Store (Stoppable D)) : Type 0 where
+  -- the store before its boot
+  pub back : Store (Stoppable D)
+  pub setting : setting_of back ≡ setting_of old
+  pub brings : BringsBack (state_of state) pick old back
+  pub boots : Changes (state_of state) (boot_record (known back)) boot back new
+
 pub record RestartsBy {D : Type 0} (state : D → DiskState) (old new : Resource D) (pick : ℕ) (calls : Option ℕ) (now : ℕ) (result : Result Act OpenError) : Type 0 where
   pub restarts : AreTold (disks_of state old) → IfOk result (Restarts (StandsAs state) (DisksFail (disks_of state old) (disks_of state new)) old new pick calls now)
   pub after : AreTold (disks_of state old) → OnErr result (StandsAsBefore (StandsAs state) old new)
   pub cause : AreTold (disks_of state old) → (role : Role) (owns : List Own) → StandsAs state old role owns →
       IfErr result (IsRestartError role (DisksFail (disks_of state old) (disks_of state new)) (needs new) (size_of state new))
+  -- one that fails changes no byte where the records are short
+  pub not_due : OnErr result (StaysWhereShort (state_of state) (twin (store_of old)) (twin (store_of new)))
+  -- its disks came back as this pick may bring them, with a snapshot in place of the records where one was due; then came its boot
+  pub settles : AreTold (disks_of state old) → IfOk result (λ done. ComesBack state pick (boot_made done) (store_of old) (store_of new))
   pub picked : OnOk result (HavePick pick (disks_of state new))
   pub failed : result ≡ Err open_error.Failed → DisksFail (disks_of state old) (disks_of state new)
   pub same : StaysItself stands_at serves (disks_of state) old new

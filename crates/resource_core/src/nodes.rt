@@ -247,8 +247,10 @@ impl<D: Disk> Resource<D> {
 }
 
 impl<D: Disk> Node for Resource<D> {
-    ghost use Rattle.std.specs.Prelude.{true};
+    ghost use Rattle.std.specs.Prelude.{◌≡◌, ◌≤◌, true};
+    ghost use Rattle.disk_model.specs.declared.disk.TheConstants.{LAST_PICK};
     ghost use Rattle.resource_core.specs.NodeStanding.{StandsAs, serves};
+    ghost use Rattle.resource_core.specs.NodeStepping.{RestartsBy};
     ghost use Rattle.resource_core.specs.NodeLaws as laws;
     ghost use Rattle.resource_core.specs.Shown.{stands_at, steps_left, is_down, disks_of, needs, size_of};
 
@@ -296,13 +298,18 @@ impl<D: Disk> Node for Resource<D> {
         self.records = self.branches.store.records();
     }
 
+    // What every node promises of a restart, and that a snapshot comes in place of the records where one is due before its boot.
     fn restart(
         &mut self,
         alloc: Global,
         now: u64,
         pick: u16,
         calls: Option<u32>,
-    ) -> Result<Act, OpenError> {
+    ) -> Result<Act, OpenError>
+        requires down { is_down self.old ≡ true }
+        requires pick { pick ≤ LAST_PICK }
+        ensures { RestartsBy D.state self.old self.new pick calls now result }
+    {
         self.restart_in_place(alloc, now, pick, calls)
     }
 

@@ -235,6 +235,7 @@ module _ {D : Type 0} (state : D → DiskState) (law : (d : D) → IsLawful (sta
     b = is.b;
     first = is.first;
     second = is.second;
+    is = is.is;
     keeps = open_keeps (setting_of old) state is.a is.b new is.is;
   }
 

@@ -1,7 +1,9 @@
 -- What the calls of a store say of lists of records.
-use Rattle.std.proofs.Common.{◌≡◌, ◌⊎◌, inl, inr, ◌<◌, ◌≤◌, ◌+◌, ◌^◌, ℕ, Bool, true, false, List, ◌∷◌, length, Some, Result, Ok, Err, refl, sym, ap, subst, ◌∙◌, IsTrue, ◌↔◌, arith}
+use Rattle.std.proofs.Common.{◌≡◌, ◌⊎◌, inl, inr, ◌<◌, ◌≤◌, ◌+◌, ◌^◌, ℕ, Bool, true, false, List, [], ◌∷◌, length, Some, Result, Ok, Err, refl, sym, ap, subst, ◌∙◌, IsTrue, ◌↔◌, arith}
 use Rattle.std.specs.Prelude.{OnOk}
 use Rattle.disk_model.specs.Disk.{DiskState}
+use Rattle.disk_journal.specs.Reading.{record_length}
+use Rattle.disk_journal.proofs.Rows.{row_length-append}
 use Rattle.seata_types.specs.declared.errors.Full.{Full}
 use Rattle.seata_types.specs.declared.errors.OpenError.{OpenError}
 use Rattle.seata_types.specs.declared.errors.OpenError.TheVariants as open_error
@@ -10,7 +12,7 @@ use Rattle.seata_types.specs.declared.errors.StoreError.TheVariants as store_err
 use Rattle.journal_checkpoint.specs.declared.types.Found.{Found}
 use Rattle.journal_checkpoint.specs.Pairs.{pair_reading}
 use Rattle.journal_checkpoint.specs.Images.{Pair, PairStandsFor, LeavesPairs, Either, with_record}
-use Rattle.journal_checkpoint.specs.Keeping.{KeepsPair, active_disk, disks}
+use Rattle.journal_checkpoint.specs.Keeping.{KeepsPair, active_disk, disks, records_length}
 use Rattle.memory_store.specs.Meanings.{Meaning}
 use Rattle.memory_store.specs.Holdings.{held_in as held_by_found, memory_on, second_in, on_disk, of_pair}
 use Rattle.memory_store.specs.Settling.{IsWritable, settled, GoesOn, StandsOrSettled}
@@ -104,10 +106,16 @@ module _ {D : Type 0} (state : D → DiskState) (old new : Store D) (r : Resourc
     has_record_room : HasRoomFor state (length body) old.kept → HasRoom state r old
     has_record_room = subst (λ (bytes : List ℕ). HasRoomFor state (length bytes) old.kept) is
 
+    records_grow : KeepsPair state (with_record k.found body) (twin new) → records_length (twin new) ≡ records_length (twin old) + record_length (record_bytes r)
+    records_grow pair =
+        subst (λ (bytes : List ℕ). records_length (twin new) ≡ records_length (twin old) + record_length bytes) is
+        (omega (arith, pair.journal.end, k.kept.pair.journal.end, row_length-append k.found.records (body ∷ [])))
+
     -- the disks have it, and it is known
     pub adds : HasRoomFor state (length body) old.kept → KeepsPair state (with_record k.found body) (twin new) → known new ≡ after r (known old) → Adds state r rs old new
     adds room pair now = record {
       fits = has_record_room room;
+      grows = records_grow pair;
       keeps = record {
         found = with_record k.found body;
         kept = record { pair = pair; held = held_of_list (setting_of old) (r ∷ rs) (with_record k.found body) more ∙ ap (λ (s : Known). Ok s) (sym (knows_more now)) };

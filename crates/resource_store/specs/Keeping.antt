@@ -2,6 +2,7 @@
 use Rattle.std.specs.Prelude.{◌≡◌, ◌⊎◌, ℕ, ◌<◌, ◌≤◌, ◌+◌, Bool, true, false, List, ◌∷◌, length, Option, Some, Result, Ok, Err, OnOk}
 use Rattle.std.specs.Borrow.{Lends, Fml, RattleType, MutBor}
 use Rattle.disk_model.specs.Disk.{DiskState}
+use Rattle.disk_journal.specs.Reading.{record_length}
 use Rattle.seata_types.specs.declared.errors.OpenError.{OpenError}
 use Rattle.seata_types.specs.declared.errors.StoreError.{StoreError}
 use Rattle.seata_types.specs.declared.errors.StoreError.TheVariants as store_error
@@ -9,11 +10,11 @@ use Rattle.seata_types.specs.declared.limits.TheConstants.{BODY_BYTES}
 use Rattle.journal_checkpoint.specs.declared.types.Found.{Found}
 use Rattle.journal_checkpoint.specs.declared.twin.Twin.{Twin}
 use Rattle.journal_checkpoint.specs.Images.{LeavesPairs}
-use Rattle.journal_checkpoint.specs.Keeping.{active_disk, first_disk, second_disk, with_active, disks}
+use Rattle.journal_checkpoint.specs.Keeping.{active_disk, first_disk, second_disk, with_active, disks, records_length}
 use Rattle.durable_records.specs.declared.resources.ResourceRecord.{ResourceRecord}
 use Rattle.durable_records.specs.declared.resources.ResourceRecord.TheVariants as log
 use Rattle.durable_records.specs.UndoRecords.{boots}
-use Rattle.memory_store.specs.Keeping.{SameTwins, with_twin, first_handed_on, second_handed_on, twin_of, memory_of, machine_of, found_of as store_found, is_down as store_is_down, Keeps, Takes, Falls, HasRoomFor, IsFullFor}
+use Rattle.memory_store.specs.Keeping.{SameTwins, with_twin, first_handed_on, second_handed_on, twin_of, memory_of, machine_of, found_of as store_found, is_down as store_is_down, Keeps, Takes, Falls, HasRoomFor, IsFullFor, IsOf}
 pub use Rattle.memory_store.specs.Settling.{IsNoDamage}
 use Rattle.resource_log.specs.Records.{FitsRecord, record_bytes}
 use Rattle.resource_memory.specs.Changes.{after, may_come}
@@ -71,6 +72,8 @@ HasRoom state r s = HasRoomFor state (length (record_bytes r)) s.kept
 -- The record fits, is on the disks, and known.
 pub record Adds {D : Type 0} (state : D → DiskState) (r : ResourceRecord) (rs : List ResourceRecord) (old new : Store D) : Type 0 where
   pub fits : HasRoom state r old
+  -- past the snapshot this record comes behind the others
+  pub grows : records_length (twin new) ≡ records_length (twin old) + record_length (record_bytes r)
   pub keeps : KeepsRecords state (setting_of old) (r ∷ rs) new
   pub any_moment : LeavesEither state r rs old new
 
@@ -144,13 +147,23 @@ abbrev pub StandsAlways : {D : Type 0} → (D → DiskState) → Setting → Twi
 StandsAlways state t w =
     (a b : List ℕ) → (state (first_disk w)).may_leave a → (state (second_disk w)).may_leave b → (rs : List ResourceRecord) × StandsForRecords t rs a b
 
--- It came back as one of the pairs of images that this pick may give, and keeps each list of records that this pair stands for.
+-- It came back as one of the pairs of images that this pick may give: it knows what that pair holds, with a snapshot in place
+-- of the records where one was due, and keeps each list of records that the pair stands for.
 pub record BringsBack {D : Type 0} (state : D → DiskState) (pick : ℕ) (old new : Store D) : Type 0 where
   pub a : List ℕ
   pub b : List ℕ
   pub first : (state (first_disk (twin old))).may_leave a × (state (first_disk (twin old))).comes_back pick a
   pub second : (state (second_disk (twin old))).may_leave b × (state (second_disk (twin old))).comes_back pick b
+  pub is : IsOf state (meaning_of (setting_of old)) a b new.kept
   pub keeps : (rs : List ResourceRecord) → StandsForRecords (setting_of old) rs a b → KeepsRecords state (setting_of old) rs new
+
+-- What an opening of these bytes with a boot left: it knew what they hold, with a snapshot in place of the records where one was
+-- due, and then came the record of its boot.
+pub record BootsFrom {D : Type 0} (state : D → DiskState) (t : Setting) (a b : List ℕ) (s : Store D) : Type 0 where
+  -- the store before its boot
+  pub loaded : Store D
+  pub is : IsOf state (meaning_of t) a b loaded.kept
+  pub boots : Changes state (boot_record (known loaded)) (Ok tt) loaded s
 
 -- the disks that an opening hands on
 abbrev pub first_after : {D : Type 0} → Result (Store D) (OpenError × D × D) → D

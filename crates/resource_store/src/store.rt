@@ -40,14 +40,14 @@ impl<D: Disk> Store<D> {
     ghost use Rattle.durable_records.specs.declared.resources.ResourceRecord.{ResourceRecord as Record};
     ghost use Rattle.durable_records.specs.declared.resources.ResourceRecord.TheVariants as log;
     ghost use Rattle.memory_store.specs.Settling.{RunsOn};
-    ghost use Rattle.memory_store.specs.Keeping.{IsDamage, IsRead, IsOf, FindsFirst, IsTold, ComesUp};
+    ghost use Rattle.memory_store.specs.Keeping.{IsDamage, IsNotFull, IsRead, IsOf, FindsFirst, StaysWhereShort, IsTold, ComesUp};
     ghost use Rattle.resource_store.specs.Openings.{IsUndamaged, IsBootDamage};
     ghost use Rattle.resource_memory.specs.Changes.{may_come};
     ghost use Rattle.resource_memory.specs.Keeping.{IsKept};
     ghost use Rattle.resource_memory.specs.Lookups.{tried_leg};
     ghost use Rattle.resource_store.specs.Meaning.{setting, meaning_of};
     ghost use Rattle.resource_store.specs.Standing.{StandsForRecords};
-    ghost use Rattle.resource_store.specs.Keeping.{setting_of, known, twin, found_of, is_down, KeepsRecords, Changes, IsTaken, boot_record, SameDisks, IsNoDamage, GoesOnAs, GoesOnWithBoot, BootsAs, BringsBack, first_after, second_after, LendsActive, StandsAlways};
+    ghost use Rattle.resource_store.specs.Keeping.{setting_of, known, twin, found_of, is_down, KeepsRecords, Changes, IsTaken, boot_record, SameDisks, IsNoDamage, GoesOnAs, GoesOnWithBoot, BootsAs, BootsFrom, BringsBack, first_after, second_after, LendsActive, StandsAlways};
 
     /// Reads two disks, and changes no byte. The disks come back where it fails.
     pub fn read(
@@ -76,6 +76,7 @@ impl<D: Disk> Store<D> {
             IsDamage (meaning_of (setting resource schema opening)) a b failed.0) }
         ensures failed { IfErr result (λ failed. failed.0 ≡ OpenError.Failed →
             HasCause (D.state first).counts (D.state failed.1).counts ⊎ HasCause (D.state second).counts (D.state failed.2).counts) }
+        ensures not_full { IfErr result (λ failed. IsNotFull failed.0) }
         ensures first_reads { OnlyReads (D.state first) (D.state (first_after result)) }
         ensures second_reads { OnlyReads (D.state second) (D.state (second_after result)) }
 
@@ -123,6 +124,7 @@ impl<D: Disk> Store<D> {
             OnlyReads (D.state first) (D.state (first_after result)) × OnlyReads (D.state second) (D.state (second_after result)) }
         ensures failed { IfErr result (λ failed. failed.0 ≡ OpenError.Failed →
             HasCause (D.state first).counts (D.state failed.1).counts ⊎ HasCause (D.state second).counts (D.state failed.2).counts) }
+        ensures not_full { IfErr result (λ failed. IsNotFull failed.0) }
         ensures first_disk { RunsOn (D.state first) (D.state (first_after result)) }
         ensures second_disk { RunsOn (D.state second) (D.state (second_after result)) }
 
@@ -153,6 +155,9 @@ impl<D: Disk> Store<D> {
 
         ensures keeps { IfOk result (λ s. (rs : Items Record) (a b : Items ℕ) → present (D.state first) ≡ Some a → present (D.state second) ≡ Some b →
             StandsForRecords (setting resource schema opening) rs a b → BootsAs D.state (setting resource schema opening) rs s) }
+        // Before the boot the records past the snapshot take at most half of the disk, unless no snapshot can be put in their place.
+        ensures opened { IfOk result (λ s. (a b : Items ℕ) → present (D.state first) ≡ Some a → present (D.state second) ≡ Some b →
+            BootsFrom D.state (setting resource schema opening) a b s) }
         ensures place { IfOk result (λ s. (a b : Items ℕ) → present (D.state first) ≡ Some a → present (D.state second) ≡ Some b → FindsFirst a b s.kept) }
         ensures recovers { IfErr result (λ failed. (rs : Items Record) (a b : Items ℕ) → present (D.state first) ≡ Some a → present (D.state second) ≡ Some b →
             StandsForRecords (setting resource schema opening) rs a b → IsUndamaged (D.state failed.1) (D.state failed.2) failed.0) }
@@ -461,9 +466,12 @@ impl<D: Disk> Store<D> {
         ensures images { (c d : Items ℕ) → (D.state (first_disk (twin self.new))).may_leave c → (D.state (second_disk (twin self.new))).may_leave d →
             (a b : Items ℕ) × (D.state (first_disk (twin self.old))).may_leave a × (D.state (second_disk (twin self.old))).may_leave b
             × GoesOnAs (setting_of self.old) a b c d }
+        // Where the records of each such pair take at most half of either disk, it leaves one of these, however it ended.
+        ensures not_due { StaysWhereShort D.state (twin self.old) (twin self.new) }
         ensures failed { result ≡ Err OpenError.Failed →
             FailsItself (D.state (first_disk (twin self.old))).counts (D.state (first_disk (twin self.new))).counts
             ⊎ FailsItself (D.state (second_disk (twin self.old))).counts (D.state (second_disk (twin self.new))).counts }
+        ensures not_full { IfErr result IsNotFull }
         ensures first { ComesUp (is_ok result) pick (D.state (first_disk (twin self.old))) (D.state (first_disk (twin self.new))) }
         ensures second { ComesUp (is_ok result) pick (D.state (second_disk (twin self.old))) (D.state (second_disk (twin self.new))) }
 

@@ -34,7 +34,7 @@ impl<D: Disk> Sessions<D> {
     ghost use Rattle.session_memory.specs.Lookups.{status_in, xid_for};
     ghost use Rattle.session_memory.specs.Changes.{is_begin, is_finished, is_open, may_come};
     ghost use Rattle.memory_store.specs.Settling.{RunsOn};
-    ghost use Rattle.memory_store.specs.Keeping.{IsDamage, IsRead, IsOf, FindsFirst, ComesUp, IsTold};
+    ghost use Rattle.memory_store.specs.Keeping.{IsDamage, IsNotFull, IsRead, IsOf, FindsFirst, StaysWhereShort, ComesUp, IsTold};
     ghost use Rattle.session_store.specs.Meaning.{meaning_of};
     ghost use Rattle.session_store.specs.Standing.{StandsForSessions};
     ghost use Rattle.session_store.specs.Keeping.{store_of, managers_of, resources_of, known, twin, is_down, SameOpening, SameDisks, KeepsRecords, Makes, registers, begun_record, IsNoDamage, GoesOnAs, BringsBack, first_after, second_after, LendsActive};
@@ -64,6 +64,7 @@ impl<D: Disk> Sessions<D> {
             IsDamage (meaning_of managers resources) a b failed.0) }
         ensures failed { IfErr result (λ failed. failed.0 ≡ OpenError.Failed →
             HasCause (D.state first).counts (D.state failed.1).counts ⊎ HasCause (D.state second).counts (D.state failed.2).counts) }
+        ensures not_full { IfErr result (λ failed. IsNotFull failed.0) }
         ensures first_reads { OnlyReads (D.state first) (D.state (first_after result)) }
         ensures second_reads { OnlyReads (D.state second) (D.state (second_after result)) }
 
@@ -114,6 +115,7 @@ impl<D: Disk> Sessions<D> {
             OnlyReads (D.state first) (D.state (first_after result)) × OnlyReads (D.state second) (D.state (second_after result)) }
         ensures failed { IfErr result (λ failed. failed.0 ≡ OpenError.Failed →
             HasCause (D.state first).counts (D.state failed.1).counts ⊎ HasCause (D.state second).counts (D.state failed.2).counts) }
+        ensures not_full { IfErr result (λ failed. IsNotFull failed.0) }
         ensures first_disk { RunsOn (D.state first) (D.state (first_after result)) }
         ensures second_disk { RunsOn (D.state second) (D.state (second_after result)) }
 
@@ -289,9 +291,12 @@ impl<D: Disk> Sessions<D> {
         ensures images { (c d : List ℕ) → (D.state (first_disk (twin self.new))).may_leave c → (D.state (second_disk (twin self.new))).may_leave d →
             (a b : List ℕ) × (D.state (first_disk (twin self.old))).may_leave a × (D.state (second_disk (twin self.old))).may_leave b
             × GoesOnAs (managers_of self.old) (resources_of self.old) a b c d }
+        // Where the records of each such pair take at most half of either disk, it leaves one of these, however it ended.
+        ensures not_due { StaysWhereShort D.state (twin self.old) (twin self.new) }
         ensures failed { result ≡ Err OpenError.Failed →
             FailsItself (D.state (first_disk (twin self.old))).counts (D.state (first_disk (twin self.new))).counts
             ⊎ FailsItself (D.state (second_disk (twin self.old))).counts (D.state (second_disk (twin self.new))).counts }
+        ensures not_full { IfErr result IsNotFull }
         ensures first { ComesUp (is_ok result) pick (D.state (first_disk (twin self.old))) (D.state (first_disk (twin self.new))) }
         ensures second { ComesUp (is_ok result) pick (D.state (second_disk (twin self.old))) (D.state (second_disk (twin self.new))) }
 

@@ -1,11 +1,13 @@
-use Rattle.std.proofs.Common.{◌*◌, ◌≤◌, ◌⊎◌, inr, sym, subst, arith}
+use Rattle.std.proofs.Common.{◌*◌, ◌≤◌, ◌⊎◌, inr, sym, subst, ◌∙◌, arith}
 use Rattle.disk_journal.specs.Reading.{row_length}
 use Rattle.disk_journal.specs.Keeping.{OnlyReads}
 use Rattle.journal_checkpoint.specs.declared.twin.Twin.{Twin}
+use Rattle.journal_checkpoint.proofs.Loads.{present_same}
+use Rattle.memory_store.specs.Keeping.{LeavesAlone}
 use Rattle.memory_store.proofs.Damages.{settling_not_full, same_found}
 use Rattle.journal_checkpoint.specs.Keeping.{KeepsPair, disks, first_disk, second_disk}
 use Rattle.memory_store.specs.Settling.{IsShort, CannotSettle, KeepsOrSettled, StandsOrSettled}
-use Rattle.memory_store.proofs.TwinFacts.{pairs_now, is_short}
+use Rattle.memory_store.proofs.TwinFacts.{pairs_now, is_short, leaves_alone}
 use Rattle.memory_store.proofs.store.Store.open.Goals as goal
 
 pub returns-in-Ok-settle-clause-ok : goal.returns-in-Ok-settle-clause-ok
@@ -19,6 +21,12 @@ returns-in-Ok-settle-clause-ok g c = λ a b is too.
           c.in-Ok.ensures.machine (c.in-Ok-settle.ensures.keeps read.found read.keeps.pair);
       short = subst (λ (k : g.row.M.Denot). IsShort g.D.Disk.state c.settle.new.twin ⊎ CannotSettle (g.M.StateMachine.meaning k) g.D.Disk.state c.in-Ok.store.memory c.settle.new.twin)
           c.in-Ok.ensures.machine (c.in-Ok-settle.ensures.short read.found read.keeps.pair);
+      same = λ one two.
+          let few : 2 * row_length read.found.records ≤ (g.D.Disk.state (first_disk c.in-Ok.store.twin)).size = omega (arith, one, c.settle.ensures.first.rest.kind.size) in
+          let few_too : 2 * row_length read.found.records ≤ (g.D.Disk.state (second_disk c.in-Ok.store.twin)).size = omega (arith, two, c.settle.ensures.second.rest.kind.size) in
+          subst (λ (t : Twin g.row.D.Denot). LeavesAlone a (g.D.Disk.state (first_disk t)) × LeavesAlone b (g.D.Disk.state (second_disk t)))
+          (sym (c.settle.ensures.not_due (is_short g.D.Disk.state read.found c.in-Ok.store.twin read.keeps.pair few few_too)))
+          (leaves_alone g.D.Disk.state read.found c.in-Ok.store.twin read.keeps.pair a b (present_same c.in-Ok.ensures.first_reads ∙ is) (present_same c.in-Ok.ensures.second_reads ∙ too));
     }
 
 pub returns-in-Ok-settle-clause-images : goal.returns-in-Ok-settle-clause-images

@@ -1,7 +1,10 @@
-use Rattle.std.proofs.Common.{refl, sym, ◌∙◌, inl, inr}
-use Rattle.journal_checkpoint.specs.Keeping.{disks}
+use Rattle.std.proofs.Common.{◌*◌, ◌≤◌, refl, sym, subst, ◌∙◌, inl, inr, arith}
+use Rattle.disk_journal.specs.Reading.{row_length}
+use Rattle.journal_checkpoint.specs.declared.twin.Twin.{Twin}
+use Rattle.journal_checkpoint.specs.Keeping.{disks, first_disk, second_disk}
+use Rattle.memory_store.specs.Keeping.{LeavesAlone}
 use Rattle.memory_store.proofs.Damages.{held_damage, not_failed, reading_not_full, settling_not_full}
-use Rattle.memory_store.proofs.TwinFacts.{pairs_now, records_are_small, second_here}
+use Rattle.memory_store.proofs.TwinFacts.{is_short, leaves_alone, pairs_now, records_are_small, second_here}
 use Rattle.memory_store.proofs.store.Store.recover.Goals as goal
 
 pub returns-in-Err-clause-damaged : goal.returns-in-Err-clause-damaged
@@ -23,6 +26,12 @@ returns-in-Ok-settle-clause-ok g c = λ a b is too stands keeps. record {
   held = c.in-Ok.ensures.held (records_are_small g.D.Disk.state c.args.found.now c.args.self.now.twin keeps g.met.D.Disk.lawful a b is too);
   kept = c.in-Ok-settle.ensures.keeps c.args.found.now keeps;
   short = c.in-Ok-settle.ensures.short c.args.found.now keeps;
+  same = λ one two.
+      let few : 2 * row_length c.args.found.now.records ≤ (g.D.Disk.state (first_disk c.args.self.now.twin)).size = omega (arith, one, c.settle.ensures.first.rest.kind.size) in
+      let few_too : 2 * row_length c.args.found.now.records ≤ (g.D.Disk.state (second_disk c.args.self.now.twin)).size = omega (arith, two, c.settle.ensures.second.rest.kind.size) in
+      subst (λ (t : Twin g.row.D.Denot). LeavesAlone a (g.D.Disk.state (first_disk t)) × LeavesAlone b (g.D.Disk.state (second_disk t)))
+      (sym (c.settle.ensures.not_due (is_short g.D.Disk.state c.args.found.now c.args.self.now.twin keeps few few_too)))
+      (leaves_alone g.D.Disk.state c.args.found.now c.args.self.now.twin keeps a b is too);
 }
 
 pub returns-in-Ok-settle-clause-images : goal.returns-in-Ok-settle-clause-images

@@ -30,4 +30,4 @@ returns-clause-opened g c =
     let e = c.in-Ok.ensures in
     is_opened g.D.Disk.state (stopped g.D.Disk.state g.met.D.Disk.lawful) c.args.place c.args.setup c.args.first c.args.second c.new-first.result c.new-second.result
     c.new-first.ensures.below c.new-second.ensures.below c.new-first.ensures.off c.new-second.ensures.off c.requires.setup c.in-Ok.store c.new-txns.result (c.new-txns.ensures ∙ ap no_tickets c.boot.ensures)
-    e.setting e.up e.sound e.keeps e.place e.images e.first_disk e.second_disk
+    e.setting e.up e.sound e.keeps e.place e.opened e.images e.first_disk e.second_disk

@@ -25,6 +25,9 @@ pub returns-in-Ok-start-clause-keeps : goal.returns-in-Ok-start-clause-keeps
 returns-in-Ok-start-clause-keeps g c = λ rs a b is too stands.
     boots_as g.D.Disk.state (setting c.args.resource c.args.schema c.args.opening) a b c.in-Ok.store c.in-Ok.ensures.setting (λ qs p. c.in-Ok.ensures.keeps qs a b is too p) c.start.new.self c.in-Ok-start.ensures rs stands
 
+pub returns-in-Ok-start-clause-opened : goal.returns-in-Ok-start-clause-opened
+returns-in-Ok-start-clause-opened g c = λ a b is too. record { loaded = c.in-Ok.store; is = c.in-Ok.ensures.opened a b is too; boots = c.in-Ok-start.ensures }
+
 pub returns-in-Ok-start-clause-place : goal.returns-in-Ok-start-clause-place
 returns-in-Ok-start-clause-place g c = λ a b is too found stands. c.in-Ok-start.ensures.found ∙ c.in-Ok.ensures.place a b is too found stands
 
