@@ -1,27 +1,37 @@
--- The steps that a coordinator takes: comparisons of two keys, and look-ups of a transaction.
+-- The steps that a coordinator takes: comparisons of two keys, look-ups of a transaction, and branches that are passed.
 use Rattle.std.specs.Prelude.{ℕ, ◌+◌, ◌*◌, ◌^◌, ◌<◌, ◌≤◌, length}
+use Rattle.seata_types.specs.declared.ids.Xid.{Xid}
 use Rattle.seata_types.specs.declared.messages.Input.{Input}
 use Rattle.seata_types.specs.declared.messages.Input.TheVariants as input
 use Rattle.seata_types.specs.declared.messages.Message.{Message}
 use Rattle.seata_types.specs.declared.messages.Message.TheVariants as message
+use Rattle.seata_types.specs.declared.statuses.BranchKind.{BranchKind}
+use Rattle.seata_types.specs.declared.statuses.BranchKind.TheVariants as kind
 use Rattle.lock_table.specs.Locks.{locks}
+use Rattle.session_log.specs.declared.sessions.Snapshot.{Snapshot}
 use Rattle.session_memory.specs.Holding.{held_in}
-use Rattle.coordinator_core.specs.declared.table.Table.{Table}
-use Rattle.coordinator_core.specs.Knowledge.{memory}
+use Rattle.session_memory.specs.Lookups.{branches_in}
+use Rattle.session_memory.specs.Owners.{most_branches}
 
 -- how many rows are held
-abbrev pub held_rows : {D : Type 0} → Table D → ℕ
-held_rows t = length (locks (held_in (memory t)))
+abbrev pub held_rows : Snapshot → ℕ
+held_rows s = length (locks (held_in s))
 
--- the steps that a registration takes: for each binary digit of the number of rows that are held or to be held, two
--- comparisons for a row to hold and one for a row to check, and three look-ups: the transaction's status, its timeout, and
--- the status of a row's holder. No step counts how the branch of a repeated call is found, nor what the sessions look up
--- for themselves as they take a record
-abbrev pub MessageCosts : Message → (rows old new : ℕ) → Type 0
-MessageCosts (message.Register xid resource call ticket kind hold check) rows old new =
-    (d : ℕ) → rows + length hold < 2 ^ d → new ≤ old + 3 + (2 * length hold + length check) * d
-MessageCosts _ rows old new = Unit {0}
+-- how many branches one transaction has, among which a registration looks for its branch: of TCC mode its own transaction, of AT
+-- mode the one that has the ticket
+abbrev pub passed : Snapshot → Xid → BranchKind → ℕ
+passed s xid kind.At = most_branches s.sessions
+passed s xid kind.Tcc = length (branches_in s xid.0)
 
-abbrev pub InputCosts : Input → (rows old new : ℕ) → Type 0
-InputCosts (input.Message from heard) rows old new = MessageCosts heard rows old new
-InputCosts _ rows old new = Unit {0}
+-- The steps that a registration takes: for each binary digit of the number of rows that are held or to be held, two comparisons for a
+-- row to hold and one for a row to check; four look-ups: of the transaction of a branch that was registered for it, of its own
+-- transaction's status and timeout, and of the status of a row's holder; and the branches of the first of these transactions. No step
+-- counts what the sessions look up for themselves as they take a record.
+abbrev pub MessageCosts : Message → Snapshot → (old new : ℕ) → Type 0
+MessageCosts (message.Register xid resource call ticket kind hold check) s old new =
+    (d : ℕ) → held_rows s + length hold < 2 ^ d → new ≤ old + 4 + passed s xid kind + (2 * length hold + length check) * d
+MessageCosts _ s old new = Unit {0}
+
+abbrev pub InputCosts : Input → Snapshot → (old new : ℕ) → Type 0
+InputCosts (input.Message from heard) s old new = MessageCosts heard s old new
+InputCosts _ s old new = Unit {0}

@@ -48,7 +48,7 @@ impl<D: Disk> Coordinator<D> {
     ghost use Rattle.seata_types.specs.declared.limits.TheConstants.{MANAGERS};
     ghost use Rattle.coordinator_core.specs.Opening.{IsOpened, HandsBack};
     ghost use Rattle.coordinator_core.specs.Standing.{StandsOver, start_of, times_of, steps_left, serves, is_down, sessions_of, course, unended_sessions};
-    ghost use Rattle.coordinator_core.specs.Costs.{held_rows, InputCosts};
+    ghost use Rattle.coordinator_core.specs.Costs.{InputCosts};
     ghost use Rattle.coordinator_core.specs.Moving.{kept_of, Misses, Arms, ArmsWith, ComesBack, LendsActive};
     ghost use Rattle.coordinator_core.specs.Stepping.{StepsBy, RestartsBy};
     ghost use Rattle.coordinator_core.specs.Tracks.{records};
@@ -160,8 +160,8 @@ impl<D: Disk> Coordinator<D> {
         (first.into_inner(), second.into_inner())
     }
 
-    /// Takes a step as `step` does, and counts the comparisons of keys and the look-ups of transactions that a registration
-    /// takes.
+    /// Takes a step as `step` does, and counts the comparisons of keys, the look-ups of transactions and the branches that a
+    /// registration passes.
     pub fn step_counted<L: Ledger>(
         &mut self,
         alloc: Global,
@@ -175,7 +175,7 @@ impl<D: Disk> Coordinator<D> {
         requires served { serves self.old input }
         ensures steps { StepsBy D.state self.old self.new input now result }
         ensures start { start_of self.new ≡ start_of self.old }
-        ensures cost { InputCosts input (held_rows self.old.table) steps.old steps.new }
+        ensures cost { InputCosts input (known (sessions_of self.old)) steps.old steps.new }
     {
         let records = self.table.sessions.records();
         match self.table.answer(alloc, &input, now, steps) {

@@ -29,14 +29,15 @@ impl<D: Disk> Table<D> {
     ghost use Rattle.session_memory.specs.Lookups.{status_in, session_in};
     ghost use Rattle.coordinator_core.specs.Choices.{has_passed_in, leg_in, nobody};
     ghost use Rattle.coordinator_core.specs.Knowledge.{memory};
-    ghost use Rattle.coordinator_core.specs.Costs.{held_rows, MessageCosts};
+    ghost use Rattle.coordinator_core.specs.Costs.{held_rows, passed, MessageCosts};
     ghost use Rattle.coordinator_core.specs.Serving.{ServesMessage};
     ghost use Rattle.coordinator_core.specs.Steps.{held_step, IsFramableRow};
     ghost use Rattle.coordinator_core.specs.Refusing.{Refuses};
     ghost use Rattle.history_text.specs.Framing.{SendsFramable};
     ghost use Rattle.coordinator_core.specs.Answers.{Answers, Frames};
 
-    /// Answers a registration. It looks up its transaction's status and its timeout, and the status of one holder of a row.
+    /// Answers a registration. It looks up the branch that was registered for it, its transaction's status and its timeout, and
+    /// the status of one holder of a row.
     pub(crate) fn register<L: Ledger>(
         &mut self,
         alloc: Global,
@@ -53,9 +54,9 @@ impl<D: Disk> Table<D> {
         requires served { ServesMessage (managers_of self.old.sessions) (resources_of self.old.sessions) (message.Register xid place.resource place.call place.ticket place.kind hold.now check.now) }
         ensures answers { Answers D.state self.old self.new (input.Message from (message.Register xid place.resource place.call place.ticket place.kind hold.now check.now)) now result }
         ensures framable { Frames (input.Message from (message.Register xid place.resource place.call place.ticket place.kind hold.now check.now)) result }
-        ensures cost { MessageCosts (message.Register xid place.resource place.call place.ticket place.kind hold.now check.now) (held_rows self.old) steps.old steps.new }
+        ensures cost { MessageCosts (message.Register xid place.resource place.call place.ticket place.kind hold.now check.now) (memory self.old) steps.old steps.new }
     {
-        if let Some(leg) = self.leg(xid, place) {
+        if let Some(leg) = self.leg(xid, place, steps) {
             return Ok(regranted(place, leg));
         }
         let status = self.sessions.status(xid, steps);
@@ -68,13 +69,18 @@ impl<D: Disk> Table<D> {
         self.hold(alloc, from, xid, place, hold, check, now, steps)
     }
 
-    // The branch that was registered for this, found by its ticket or its call. No step counts that.
-    fn leg(&self, xid: Xid, place: RegisterPlace) -> Option<Leg>
-        ensures { result ≡ leg_in (memory self.now) xid place }
+    // The branch that was registered for this, found by its ticket or its call among the branches of one transaction.
+    fn leg<L: Ledger>(&self, xid: Xid, place: RegisterPlace, steps: &mut Steps<L>) -> Option<Leg>
+        ensures leg { result ≡ leg_in (memory self.now) xid place }
+        ensures cost { steps.new ≤ steps.old + 1 + passed (memory self.now) xid place.kind }
     {
         match place.kind {
-            BranchKind::At => self.sessions.ticket_leg(place.resource, place.ticket),
-            BranchKind::Tcc => self.sessions.call_leg(xid, place.resource, place.call),
+            BranchKind::At => self
+                .sessions
+                .ticket_leg(place.resource, place.ticket, steps),
+            BranchKind::Tcc => self
+                .sessions
+                .call_leg(xid, place.resource, place.call, steps),
         }
     }
 
@@ -129,7 +135,7 @@ impl<D: Disk> Table<D> {
         requires timely { has_passed_in (session_in (memory self.old) xid.0) now ≡ false }
         ensures answers { Answers D.state self.old self.new (input.Message from (message.Register xid place.resource place.call place.ticket place.kind hold.now check.now)) now result }
         ensures framable { Frames (input.Message from (message.Register xid place.resource place.call place.ticket place.kind hold.now check.now)) result }
-        ensures cost { TakesAtMost (2 * length hold.now + length check.now) (held_rows self.old + length hold.now) (steps.old + 1) steps.new }
+        ensures cost { TakesAtMost (2 * length hold.now + length check.now) (held_rows (memory self.old) + length hold.now) (steps.old + 1) steps.new }
     {
         let branch = self.sessions.next_branch();
         match self

@@ -43,7 +43,7 @@ impl<D: Disk> Table<D> {
     ghost use Rattle.coordinator_core.specs.Changes.{PlansAgain};
     ghost use Rattle.coordinator_core.specs.Choices.{has_passed_in};
     ghost use Rattle.coordinator_core.specs.Knowledge.{memory, knowledge};
-    ghost use Rattle.coordinator_core.specs.Costs.{held_rows, InputCosts, MessageCosts};
+    ghost use Rattle.coordinator_core.specs.Costs.{InputCosts, MessageCosts};
     ghost use Rattle.coordinator_core.specs.Answers.{Answers, Frames, MakesOn, AddsOn};
     ghost use Rattle.coordinator_core.specs.Serving.{ServesInput, ServesMessage};
 
@@ -150,7 +150,7 @@ impl<D: Disk> Table<D> {
         choosing::has_passed_in(self.sessions.memory().find(xid), now)
     }
 
-    /// Answers an input. A step is a comparison of two keys, or a look-up of a transaction.
+    /// Answers an input. A step is a comparison of two keys, a look-up of a transaction, or a branch that is passed.
     pub fn answer<L: Ledger>(
         &mut self,
         alloc: Global,
@@ -163,7 +163,7 @@ impl<D: Disk> Table<D> {
         requires served { ServesInput (managers_of self.old.sessions) (resources_of self.old.sessions) input.now }
         ensures answers { Answers D.state self.old self.new input.now now result }
         ensures framable { Frames input.now result }
-        ensures cost { InputCosts input.now (held_rows self.old) steps.old steps.new }
+        ensures cost { InputCosts input.now (memory self.old) steps.old steps.new }
     {
         match input {
             Input::Turn => self.turn(alloc, now),
@@ -186,7 +186,7 @@ impl<D: Disk> Table<D> {
         requires served { ServesMessage (managers_of self.old.sessions) (resources_of self.old.sessions) message.now }
         ensures answers { Answers D.state self.old self.new (input.Message from message.now) now result }
         ensures framable { Frames (input.Message from message.now) result }
-        ensures cost { MessageCosts message.now (held_rows self.old) steps.old steps.new }
+        ensures cost { MessageCosts message.now (memory self.old) steps.old steps.new }
     {
         match message {
             Message::Begin { manager, timeout } => self.begin(alloc, from, *manager, *timeout, now),

@@ -3,5 +3,5 @@ pub mod SnapshotLaws
 pub mod WritingLaws
 pub mod Members
 pub mod RecordFacts
-mod SnapshotKeys
+pub mod SnapshotKeys
 pub mod SoundSnapshots

@@ -9,7 +9,8 @@ pub mod GrantLaws
 pub mod HolderLaws
 pub mod LookupLaws
 pub mod KeptLaws
-pub mod LatestLaws
+pub mod OwnerLaws
+mod TicketLaws
 pub mod PlaceLaws
 mod SearchLaws
 pub mod LoadLaws

@@ -21,6 +21,7 @@ use Rattle.session_log.specs.declared.sessions.SessionEntry.{SessionEntry}
 use Rattle.session_log.specs.declared.sessions.Snapshot.{Snapshot}
 use Rattle.session_log.specs.Soundness.{entry_xid}
 use Rattle.session_log.specs.SnapshotOf.{snapshot_of}
+use Rattle.session_log.proofs.SnapshotKeys.{tickets_differ}
 use Rattle.session_memory.specs.Lookups.{status_in, leg_of, xid_for}
 use Rattle.session_memory.specs.Holding.{keeps_rows, held_by_branches, held_by, held, held_in}
 use Rattle.session_memory.specs.Changes.{is_begin, is_new, are_free, may_come, granted_branch, after}
@@ -374,4 +375,4 @@ counted_of (r ∷ rs) a =
     subst IsCounted (sym (snapshot_after rs a.0 r a.1)) (counted_after (snapshot_of rs) r (counted_of rs a.0) (may_alike rs a.0 r ∙ a.1))
 
 pub loads_allowed : (rs : List SessionRecord) → Allowed rs → MayLoad rs
-loads_allowed rs a = record { counted = counted_of rs a; once = passes (held_in (snapshot_of rs)) (held_apart rs a) }
+loads_allowed rs a = record { counted = counted_of rs a; tickets = tickets_differ rs a; once = passes (held_in (snapshot_of rs)) (held_apart rs a) }

@@ -25,7 +25,7 @@ use Rattle.session_log.specs.Records.{FitsRecordIn, FitsRecord, record_of}
 use Rattle.session_log.specs.Snapshots.{FitsBranchIn, FitsEntryIn, FitsForgotten, FitsAllForgotten, FitsSnapshotIn, FitsSnapshot, snapshot_in_bytes}
 use Rattle.session_log.specs.SnapshotOf.{snapshot_of}
 use Rattle.session_log.specs.Layouts.{keys_of}
-use Rattle.session_log.specs.Soundness.{entry_xid, forgotten_xid, differ_after, has_counts, status_fits, failure_fits, is_entry, is_numbered_branch, is_forgotten_entry, has_sound_parts, is_sound, if_sound, xids, all_differ}
+use Rattle.session_log.specs.Soundness.{entry_xid, forgotten_xid, differ_after, has_counts, status_fits, failure_fits, is_entry, is_numbered_branch, is_forgotten_entry, has_sound_parts, is_sound, if_sound, xids, managers_of, same_ticket_key, tickets, all_differ}
 use Rattle.session_log.proofs.Members.{In, in_second}
 use Rattle.session_log.proofs.RecordLaws.{records_are_of_layouts}
 use Rattle.session_log.proofs.SnapshotLaws.{snapshots_are_of_layouts}
@@ -476,6 +476,15 @@ places_found managers resources bytes s all e =
     let is = sound_is managers resources (snapshot_in_bytes bytes) s e in
     let k = snapshots_are_of_layouts.only bytes s all is.0 in
     places_read managers resources k.0 s k.1 (sound_parts managers resources s is.1)
+
+-- no two AT branches of a resource have one ticket in it
+sound_tickets : (managers resources : ℕ) (s : Snapshot) → is_sound managers resources s ≡ true → all_differ same_ticket_key (tickets s) ≡ true
+unfolding is_sound
+sound_tickets managers resources s e =
+    and_left (all_differ same_ticket_key (tickets s)) _ (and_right (all_differ nat_eq (managers_of s)) _ (and_right (all_differ nat_eq (xids s)) _ (and_right (has_sound_parts managers resources s) _ e)))
+
+pub tickets_found : (managers resources : ℕ) (bytes : List ℕ) (s : Snapshot) → if_sound managers resources (snapshot_in_bytes bytes) ≡ Some s → all_differ same_ticket_key (tickets s) ≡ true
+tickets_found managers resources bytes s e = sound_tickets managers resources s (sound_is managers resources (snapshot_in_bytes bytes) s e).1
 
 module _ (managers resources : ℕ) (bytes : List ℕ) (s : Snapshot) (e : if_held_once (if_sound managers resources (snapshot_in_bytes bytes)) ≡ Some s) where
   pub sound_read : AreBytes bytes → HasPlaces s

@@ -15,7 +15,7 @@ use Rattle.durable_records.specs.Locks.{first_held as held_first}
 use Rattle.durable_records.specs.SessionOrder.{Allowed, May, may}
 use Rattle.lock_table.specs.Locks.{first_held}
 use Rattle.session_log.specs.SnapshotOf.{in_order, branch_now, session_now, snapshot_of}
-use Rattle.session_log.specs.Soundness.{is_at_branch, is_open_branch, is_open_with}
+use Rattle.session_log.specs.Soundness.{is_at_branch, is_open_branch, is_open_with, all_differ, same_ticket_key, tickets}
 use Rattle.session_memory.specs.Lookups.{session_in, status_in, branches_in, xid_for, ticket_leg, call_leg}
 use Rattle.session_memory.specs.Holding.{keeps_rows, held_in}
 use Rattle.session_memory.specs.Order.{IsCounted}
@@ -83,9 +83,11 @@ AnswersRecords = (rs : List SessionRecord) → Allowed rs → AnswersAlike rs
 
 -- ---- loading
 
--- the snapshot of these records can be loaded: it is counted, and no row has two holders
+-- the snapshot of these records can be loaded: it is counted, no two AT branches of a resource have one ticket, and no row has two
+-- holders
 pub record MayLoad (rs : List SessionRecord) : Type 0 where
   pub counted : IsCounted (snapshot_of rs)
+  pub tickets : all_differ same_ticket_key (tickets (snapshot_of rs)) ≡ true
   pub once : are_held_once (held_in (snapshot_of rs)) ≡ true
 
 abbrev pub LoadsAllowed : Type 0

@@ -2,7 +2,7 @@ pub mod Lookups
 pub mod Holding
 pub mod Changes
 pub mod Order
-pub mod Latest
+pub mod Owners
 pub mod Answers
 pub mod Laws
 pub mod Loading

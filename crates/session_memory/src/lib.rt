@@ -4,11 +4,11 @@
 
 mod allowing;
 mod errors;
-mod latest;
 pub mod laws;
 mod loading;
 mod lookups;
 mod memory;
+mod owners;
 mod sessions;
 mod snapshots;
 pub mod statuses;

@@ -1,15 +1,17 @@
 //! Look-ups among transactions and their branches.
-ghost use Rattle.std.specs.Prelude.{◌≡◌, ◌&&◌, ◌++◌, find, map, option_map, OnOk, IfOk};
+ghost use Rattle.std.specs.Prelude.{◌≡◌, ◌≤◌, ◌+◌, ◌&&◌, ◌++◌, find, map, length, option_map, OnOk, IfOk};
 ghost use Rattle.std.specs.List.{list_all, list_any, position};
 ghost use Rattle.std.specs.Option.{option_copied};
 ghost use Rattle.session_log.specs.Soundness.{entry_xid, is_at_branch, is_ended_branch, is_open_with};
-ghost use Rattle.session_memory.specs.Lookups.{has_xid, session_of, has_manager, was_of_manager, xid_of, forgotten_xid, has_ticket, has_call, leg_with, first_leg};
+ghost use Rattle.session_memory.specs.Lookups.{has_xid, session_of, has_manager, was_of_manager, xid_of, forgotten_xid, has_ticket, has_call, leg_with};
 ghost use Rattle.session_memory.specs.Order.{AreRising};
 ghost use Rattle.durable_records.specs.Branches.{is_at, same_ticket};
 
+use lock_table::Steps;
 use seata_types::{BranchId, BranchKind, Leg, List, NoMemory, Ticket, Xid};
 use session_log::{Branch, Forgotten, Session, SessionEntry};
 use std::alloc::Global;
+use std::sync::ledger::Ledger;
 
 /// Where a transaction stands, by a search: the numbers rise.
 pub(crate) fn place(sessions: &[SessionEntry], xid: Xid) -> Option<usize>
@@ -81,10 +83,19 @@ fn has_call(branch: &Branch, resource: u16, call: u16) -> bool
     !is_at(branch) && branch.place.resource == resource && branch.place.call == call
 }
 
-fn leg_for_ticket(xid: Xid, branches: &[Branch], resource: u16, ticket: Ticket) -> Option<Leg>
-    ensures { result ≡ leg_with (has_ticket resource ticket) xid branches.now }
+/// The AT branch of a resource's ticket. A step is a branch that is passed.
+pub(crate) fn ticket_leg<L: Ledger>(
+    xid: Xid,
+    branches: &[Branch],
+    resource: u16,
+    ticket: Ticket,
+    steps: &mut Steps<L>,
+) -> Option<Leg>
+    ensures leg { result ≡ leg_with (has_ticket resource ticket) xid branches.now }
+    ensures cost { steps.new ≤ steps.old + length branches.now }
 {
     for branch in branches {
+        steps.tick();
         if has_ticket(branch, resource, ticket) {
             return Some(Leg {
                 xid,
@@ -95,29 +106,19 @@ fn leg_for_ticket(xid: Xid, branches: &[Branch], resource: u16, ticket: Ticket) 
     None
 }
 
-/// The AT branch of a resource's local transaction.
-pub(crate) fn ticket_leg(sessions: &[SessionEntry], resource: u16, ticket: Ticket) -> Option<Leg>
-    ensures { result ≡ first_leg (has_ticket resource ticket) sessions.now }
-{
-    for entry in sessions {
-        let found = leg_for_ticket(
-            entry.xid,
-            entry.session.branches.as_slice(),
-            resource,
-            ticket,
-        );
-        if found.is_some() {
-            return found;
-        }
-    }
-    None
-}
-
-/// The TCC branch of a call at a resource.
-pub(crate) fn call_leg(xid: Xid, branches: &[Branch], resource: u16, call: u16) -> Option<Leg>
-    ensures { result ≡ leg_with (has_call resource call) xid branches.now }
+/// The TCC branch of a call at a resource. A step is a branch that is passed.
+pub(crate) fn call_leg<L: Ledger>(
+    xid: Xid,
+    branches: &[Branch],
+    resource: u16,
+    call: u16,
+    steps: &mut Steps<L>,
+) -> Option<Leg>
+    ensures leg { result ≡ leg_with (has_call resource call) xid branches.now }
+    ensures cost { steps.new ≤ steps.old + length branches.now }
 {
     for branch in branches {
+        steps.tick();
         if has_call(branch, resource, call) {
             return Some(Leg {
                 xid,

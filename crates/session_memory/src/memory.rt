@@ -5,15 +5,17 @@ ghost use Rattle.durable_records.specs.declared.coordinators.SessionRecord.TheVa
 ghost use Rattle.lock_table.specs.Locks.{HaveOneHolder, locks, TakesAtMost};
 ghost use Rattle.lock_table.specs.Answers.{FindsConflict};
 ghost use Rattle.session_log.specs.SnapshotOf.{snapshot_of};
-ghost use Rattle.session_memory.specs.Lookups.{session_in, status_in, xid_for, ticket_leg, call_leg, xid_of};
+ghost use Rattle.session_log.specs.Soundness.{all_differ, same_ticket_key, tickets};
+ghost use Rattle.session_memory.specs.Lookups.{session_in, status_in, xid_for, ticket_leg, call_leg, branches_in, leg_with, has_ticket, xid_of};
 ghost use Rattle.session_memory.specs.Holding.{held_in};
 ghost use Rattle.session_memory.specs.Changes.{is_begin, is_new, is_open, may_come, after, granted_record, turns};
 ghost use Rattle.session_memory.specs.Order.{IsCounted};
 ghost use Rattle.session_memory.specs.Answers.{Grants};
 ghost use Rattle.session_memory.specs.Loading.{LoadsSnapshot};
+ghost use Rattle.session_memory.specs.Owners.{most_branches};
 
 use crate::errors::LoadError;
-use crate::latest::LatestTickets;
+use crate::owners::TicketOwners;
 use crate::{allowing, loading, lookups, sessions, snapshots, statuses};
 use durable_records::SessionRecord;
 use lock_table::{HoldError, LockTable, Steps};
@@ -24,25 +26,25 @@ use std::marker::Model;
 use std::sync::ledger::Ledger;
 
 /// All that a coordinator knows of its transactions: contracts see the snapshot of its records. The table of global locks
-/// beside it has the rows that the snapshot's branches hold, and no branch has a later ticket than the latest of its
-/// resource, so that a new ticket is looked for in no branch.
+/// beside it has the rows that the snapshot's branches hold, and each AT branch's ticket tells its transaction, so that the
+/// branch of a ticket is looked for in one transaction.
 #[derive(Drop)]
 pub struct Memory {
     snapshot: Snapshot,
     locks: LockTable,
-    latest: LatestTickets,
+    owners: TicketOwners,
 }
 
 impl Model for Memory {
     ghost use Rattle.session_log.specs.declared.sessions.Snapshot.{Snapshot as Known};
     ghost use Rattle.session_memory.specs.Order.{IsKept};
-    ghost use Rattle.session_memory.specs.Latest.{AreReached};
+    ghost use Rattle.session_memory.specs.Owners.{AreOwned};
 
     ghost Value = { Known };
 
     ghost view = { λ m. m.snapshot };
 
-    ghost invariant = { λ m. IsKept m.snapshot m.locks × AreReached m.latest m.snapshot.sessions };
+    ghost invariant = { λ m. IsKept m.snapshot m.locks × AreOwned m.owners m.snapshot.sessions };
 }
 
 impl Memory {
@@ -60,20 +62,21 @@ impl Memory {
         Memory {
             snapshot,
             locks: LockTable::new(alloc),
-            latest: LatestTickets::new(alloc),
+            owners: TicketOwners::new(alloc),
         }
     }
 
-    /// A memory of a snapshot, unless a row has two holders in it.
+    /// A memory of a snapshot in which no two AT branches of a resource have one ticket, unless a row has two holders in it.
     pub fn load<L: Ledger>(
         alloc: Global,
         snapshot: Snapshot,
         steps: &mut Steps<L>,
     ) -> Result<Memory, LoadError>
-        requires { IsCounted snapshot }
+        requires counted { IsCounted snapshot }
+        requires tickets { all_differ same_ticket_key (tickets snapshot) ≡ true }
         ensures { LoadsSnapshot snapshot result }
     {
-        let Ok(latest) = LatestTickets::of(alloc, snapshot.sessions.as_slice()) else {
+        let Ok(owners) = TicketOwners::of(alloc, snapshot.sessions.as_slice()) else {
             drop(snapshot);
             return Err(LoadError::NoMemory);
         };
@@ -82,7 +85,7 @@ impl Memory {
             Ok(()) => Ok(Memory {
                 snapshot,
                 locks,
-                latest,
+                owners,
             }),
             Err(error) => {
                 drop(snapshot);
@@ -132,22 +135,60 @@ impl Memory {
         }
     }
 
-    /// The AT branch that was registered for a resource's ticket, of a transaction that is known; takes no memory.
-    pub fn ticket_leg(&self, resource: u16, ticket: Ticket) -> Option<Leg>
-        ensures { result ≡ ticket_leg self.now resource ticket }
+    /// The AT branch that was registered for a resource's ticket, of a transaction that is known; takes no memory. A step is
+    /// a look-up of a transaction, one at most, or a branch of it that is passed.
+    pub fn ticket_leg<L: Ledger>(
+        &self,
+        resource: u16,
+        ticket: Ticket,
+        steps: &mut Steps<L>,
+    ) -> Option<Leg>
+        ensures leg { result ≡ ticket_leg self.now resource ticket }
+        ensures cost { steps.new ≤ steps.old + 1 + most_branches self.now.sessions }
     {
-        if !self.latest.reaches(resource, ticket) {
-            return None;
+        match self.owners.find(resource, ticket) {
+            Some(xid) => self.ticket_leg_in(xid, resource, ticket, steps),
+            None => None,
         }
-        lookups::ticket_leg(self.snapshot.sessions.as_slice(), resource, ticket)
     }
 
-    /// The TCC branch that was registered for a call of a known transaction at a resource; takes no memory.
-    pub fn call_leg(&self, xid: Xid, resource: u16, call: u16) -> Option<Leg>
-        ensures { result ≡ call_leg self.now xid resource call }
+    // The AT branch of a transaction that was registered for a ticket.
+    fn ticket_leg_in<L: Ledger>(
+        &self,
+        xid: Xid,
+        resource: u16,
+        ticket: Ticket,
+        steps: &mut Steps<L>,
+    ) -> Option<Leg>
+        ensures leg { result ≡ leg_with (has_ticket resource ticket) xid (branches_in self.now xid.0) }
+        ensures cost { steps.new ≤ steps.old + 1 + length (branches_in self.now xid.0) }
     {
+        steps.tick();
         match self.find(xid) {
-            Some(session) => lookups::call_leg(xid, session.branches.as_slice(), resource, call),
+            Some(session) => {
+                lookups::ticket_leg(xid, session.branches.as_slice(), resource, ticket, steps)
+            }
+            None => None,
+        }
+    }
+
+    /// The TCC branch that was registered for a call of a known transaction at a resource; takes no memory. A step is a
+    /// look-up of a transaction, one here, or a branch of it that is passed.
+    pub fn call_leg<L: Ledger>(
+        &self,
+        xid: Xid,
+        resource: u16,
+        call: u16,
+        steps: &mut Steps<L>,
+    ) -> Option<Leg>
+        ensures leg { result ≡ call_leg self.now xid resource call }
+        ensures cost { steps.new ≤ steps.old + 1 + length (branches_in self.now xid.0) }
+    {
+        steps.tick();
+        match self.find(xid) {
+            Some(session) => {
+                lookups::call_leg(xid, session.branches.as_slice(), resource, call, steps)
+            }
             None => None,
         }
     }
@@ -193,7 +234,8 @@ impl Memory {
         BranchId(self.snapshot.granted + 1)
     }
 
-    /// Whether a record may come; takes no memory. A step is a comparison of two keys.
+    /// Whether a record may come; takes no memory. A step is a comparison of two keys, or one of those of a look-up of a
+    /// branch.
     pub fn allows<L: Ledger>(&self, item: &SessionRecord, steps: &mut Steps<L>) -> bool
         ensures { result ≡ may_come self.now item.now }
     {
@@ -212,7 +254,7 @@ impl Memory {
             } => {
                 statuses::is_begin(self.status(*xid))
                     && branch.0 == self.next_branch().0
-                    && self.is_new(*xid, *resource, *call, *ticket, *kind)
+                    && self.is_new(*xid, *resource, *call, *ticket, *kind, steps)
                     && allowing::are_free(&self.locks, *xid, hold.as_slice(), steps)
             }
             SessionRecord::Decided { xid, .. } => statuses::is_begin(self.status(*xid)),
@@ -225,12 +267,20 @@ impl Memory {
     }
 
     // Whether nothing is registered for this.
-    fn is_new(&self, xid: Xid, resource: u16, call: u16, ticket: Ticket, kind: BranchKind) -> bool
+    fn is_new<L: Ledger>(
+        &self,
+        xid: Xid,
+        resource: u16,
+        call: u16,
+        ticket: Ticket,
+        kind: BranchKind,
+        steps: &mut Steps<L>,
+    ) -> bool
         ensures { result ≡ is_new self.now xid resource call ticket kind }
     {
         match kind {
-            BranchKind::At => self.ticket_leg(resource, ticket).is_none(),
-            BranchKind::Tcc => self.call_leg(xid, resource, call).is_none(),
+            BranchKind::At => self.ticket_leg(resource, ticket, steps).is_none(),
+            BranchKind::Tcc => self.call_leg(xid, resource, call, steps).is_none(),
         }
     }
 
@@ -305,8 +355,8 @@ impl Memory {
         }
     }
 
-    /// Registers a branch of an undecided transaction under the next number, unless another transaction holds one of the
-    /// rows to hold or to check. After an error all is as before. A step is a comparison of two keys.
+    /// Registers a branch of an undecided transaction under the next number, for which nothing is registered, unless another
+    /// transaction holds one of the rows to hold or to check. After an error all is as before. A step is a comparison of two keys.
     pub fn register<L: Ledger>(
         &mut self,
         alloc: Global,
@@ -317,6 +367,7 @@ impl Memory {
         steps: &mut Steps<L>,
     ) -> Result<(), HoldError>
         requires begin { is_begin (status_in self.old xid.0) ≡ true }
+        requires new { is_new self.old xid place.resource place.call place.ticket place.kind ≡ true }
         requires room { self.old.acts + 1 < 2 ^ 32 }
         ensures granted { Grants (granted_record xid (self.old.granted + 1) place hold.now) xid hold.now check.now self.old result self.new }
         ensures cost { TakesAtMost (2 * length hold.now + length check.now) (length (locks (held_in self.old)) + length hold.now) steps.old steps.new }
@@ -335,8 +386,8 @@ impl Memory {
             hold: rows,
             ended: false,
         };
-        let latest = &mut self.latest;
-        if snapshots::register(alloc, &mut self.snapshot, latest, xid, branch).is_err() {
+        let owners = &mut self.owners;
+        if snapshots::register(alloc, &mut self.snapshot, owners, xid, branch).is_err() {
             self.locks.release(leg);
             return Err(HoldError::NoMemory);
         }
@@ -388,7 +439,7 @@ impl Memory {
         ensures ok { OnOk result (self.new ≡ after (log.Forgot xid) self.old) }
         ensures err { OnErr result (self.new ≡ self.old) }
     {
-        snapshots::forget(alloc, &mut self.snapshot, xid)?;
+        snapshots::forget(alloc, &mut self.snapshot, &mut self.owners, xid)?;
         self.locks.release_all(xid);
         Ok(())
     }

@@ -5,7 +5,9 @@ ghost use Rattle.session_log.specs.Soundness.{entry_xid};
 ghost use Rattle.session_memory.specs.Order.{AreRising};
 ghost use Rattle.session_memory.specs.Lookups.{has_xid, session_of, has_number, is_later};
 ghost use Rattle.session_memory.specs.Changes.{with_ended, turned, changed, with_branch, without, with_forgotten, forgotten_as, xid_in};
+ghost use Rattle.session_memory.specs.Owners.{OthersStay};
 
+use crate::owners::TicketOwners;
 use crate::{lookups, statuses};
 use durable_records::SessionRecord;
 use seata_types::{BranchId, Duplicate, List, NoMemory, RowKey, Xid};
@@ -102,21 +104,25 @@ fn put_forgotten(forgotten: &mut Vec<Forgotten>, entry: Forgotten) -> Result<(),
     Ok(())
 }
 
-/// Forgets a transaction, where it is known. After an error all is as before.
+/// Forgets a transaction, where it is known, and whose its tickets were. After an error all is as before.
 pub(crate) fn forget(
     sessions: &mut Vec<SessionEntry>,
     forgotten: &mut Vec<Forgotten>,
+    owners: &mut TicketOwners,
     xid: Xid,
 ) -> Result<(), NoMemory>
     requires rising { AreRising entry_xid sessions.old.items }
     ensures sessions { OnOk result (sessions.new.items ≡ without xid.0 sessions.old.items) }
     ensures forgotten { OnOk result (forgotten.new.items ≡ forgotten_as xid (option_map session_of (find (has_xid xid.0) sessions.old.items)) forgotten.old.items) }
+    ensures others { OthersStay xid owners.old owners.new }
     ensures same_sessions { OnErr result (sessions.new.items ≡ sessions.old.items) }
     ensures same_forgotten { OnErr result (forgotten.new.items ≡ forgotten.old.items) }
+    ensures same_owners { OnErr result (owners.new ≡ owners.old) }
 {
     if let Some(at) = lookups::place(sessions, xid) {
         let manager = sessions[at].session.manager;
         put_forgotten(forgotten, Forgotten { xid, manager })?;
+        owners.drop_each(xid, sessions[at].session.branches.as_slice());
         drop(sessions.remove(at));
     }
     Ok(())

@@ -3,10 +3,10 @@ ghost use Rattle.std.specs.Prelude.{◌≡◌, ◌<◌, ◌+◌, ◌^◌, OnOk, 
 ghost use Rattle.durable_records.specs.declared.coordinators.SessionRecord.TheVariants as log;
 ghost use Rattle.session_log.specs.Soundness.{entry_xid};
 ghost use Rattle.session_memory.specs.Order.{AreRising};
-ghost use Rattle.session_memory.specs.Latest.{IsReached, StayReached};
+ghost use Rattle.session_memory.specs.Owners.{IsOwned, KeepsOthers, OthersStay};
 ghost use Rattle.session_memory.specs.Changes.{after, with_turned, with_registered};
 
-use crate::latest::LatestTickets;
+use crate::owners::TicketOwners;
 use crate::sessions;
 use durable_records::SessionRecord;
 use seata_types::{GlobalStatus, List, NoMemory, Xid};
@@ -49,11 +49,11 @@ pub(crate) fn begin(
     Ok(())
 }
 
-/// A branch is registered for a transaction, with its ticket. After an error the snapshot is as before.
+/// A branch is registered for a transaction, and is its by its ticket. After an error the snapshot is as before.
 pub(crate) fn register(
     alloc: Global,
     snapshot: &mut Snapshot,
-    latest: &mut LatestTickets,
+    owners: &mut TicketOwners,
     xid: Xid,
     branch: Branch,
 ) -> Result<(), NoMemory>
@@ -62,10 +62,10 @@ pub(crate) fn register(
     requires rising { AreRising entry_xid snapshot.old.sessions }
     ensures ok { OnOk result (snapshot.new ≡ with_registered snapshot.old xid.0 branch) }
     ensures err { OnErr result (snapshot.new ≡ snapshot.old) }
-    ensures reached { OnOk result (IsReached latest.new branch) }
-    ensures others { StayReached latest.old latest.new }
+    ensures owned { OnOk result (IsOwned owners.new xid branch) }
+    ensures others { KeepsOthers branch owners.old owners.new }
 {
-    latest.raise(branch.place.resource, branch.place.ticket)?;
+    owners.put(xid, &branch)?;
     let mut entries = sessions::take_items(alloc, &mut snapshot.sessions);
     let added = sessions::add_branch(alloc, &mut entries, xid, branch);
     snapshot.sessions = List::of(entries);
@@ -75,16 +75,23 @@ pub(crate) fn register(
     Ok(())
 }
 
-/// A transaction is known no more. After an error all is as before.
-pub(crate) fn forget(alloc: Global, snapshot: &mut Snapshot, xid: Xid) -> Result<(), NoMemory>
+/// A transaction is known no more, and has no tickets. After an error all is as before.
+pub(crate) fn forget(
+    alloc: Global,
+    snapshot: &mut Snapshot,
+    owners: &mut TicketOwners,
+    xid: Xid,
+) -> Result<(), NoMemory>
     requires acts { snapshot.old.acts + 1 < 2 ^ 32 }
     requires rising { AreRising entry_xid snapshot.old.sessions }
     ensures ok { OnOk result (snapshot.new ≡ after (log.Forgot xid) snapshot.old) }
+    ensures others { OthersStay xid owners.old owners.new }
     ensures err { OnErr result (snapshot.new ≡ snapshot.old) }
+    ensures same { OnErr result (owners.new ≡ owners.old) }
 {
     let mut entries = sessions::take_items(alloc, &mut snapshot.sessions);
     let mut forgotten = sessions::take_items(alloc, &mut snapshot.forgotten);
-    let result = sessions::forget(&mut entries, &mut forgotten, xid);
+    let result = sessions::forget(&mut entries, &mut forgotten, owners, xid);
     snapshot.sessions = List::of(entries);
     snapshot.forgotten = List::of(forgotten);
     result?;

@@ -12,9 +12,10 @@ use std::alloc::Global;
 use std::sync::ledger::Ledger;
 
 impl<D: Disk> Sessions<D> {
-    ghost use Rattle.std.specs.Prelude.{◌≡◌, ◌+◌, ◌<◌, List, map, Option, IfOk};
+    ghost use Rattle.std.specs.Prelude.{◌≡◌, ◌+◌, ◌<◌, ◌≤◌, List, map, length, Option, IfOk};
     ghost use Rattle.std.specs.Option.{option_copied};
-    ghost use Rattle.session_memory.specs.Lookups.{session_in, status_in, xid_for, ticket_leg, call_leg, xid_of};
+    ghost use Rattle.session_memory.specs.Lookups.{session_in, status_in, xid_for, ticket_leg, call_leg, branches_in, xid_of};
+    ghost use Rattle.session_memory.specs.Owners.{most_branches};
     ghost use Rattle.session_store.specs.Keeping.{managers_of, resources_of, known, is_down, found_of};
 
     /// How many records were read and added, the acts of the snapshot included.
@@ -71,18 +72,33 @@ impl<D: Disk> Sessions<D> {
         self.store.memory().manager_xid(manager)
     }
 
-    /// The AT branch that was registered for a resource's ticket, of a transaction that is known; takes no memory.
-    pub fn ticket_leg(&self, resource: u16, ticket: Ticket) -> Option<Leg>
-        ensures { result ≡ ticket_leg (known self.now) resource ticket }
+    /// The AT branch that was registered for a resource's ticket, of a transaction that is known. It takes no memory, and a
+    /// step for its transaction and for each branch of it that is passed.
+    pub fn ticket_leg<L: Ledger>(
+        &self,
+        resource: u16,
+        ticket: Ticket,
+        steps: &mut Steps<L>,
+    ) -> Option<Leg>
+        ensures leg { result ≡ ticket_leg (known self.now) resource ticket }
+        ensures cost { steps.new ≤ steps.old + 1 + most_branches (known self.now).sessions }
     {
-        self.store.memory().ticket_leg(resource, ticket)
+        self.store.memory().ticket_leg(resource, ticket, steps)
     }
 
-    /// The TCC branch that was registered for a call of a known transaction at a resource; takes no memory.
-    pub fn call_leg(&self, xid: Xid, resource: u16, call: u16) -> Option<Leg>
-        ensures { result ≡ call_leg (known self.now) xid resource call }
+    /// The TCC branch that was registered for a call of a known transaction at a resource. It takes no memory, and a step for
+    /// the transaction and for each branch of it that is passed.
+    pub fn call_leg<L: Ledger>(
+        &self,
+        xid: Xid,
+        resource: u16,
+        call: u16,
+        steps: &mut Steps<L>,
+    ) -> Option<Leg>
+        ensures leg { result ≡ call_leg (known self.now) xid resource call }
+        ensures cost { steps.new ≤ steps.old + 1 + length (branches_in (known self.now) xid.0) }
     {
-        self.store.memory().call_leg(xid, resource, call)
+        self.store.memory().call_leg(xid, resource, call, steps)
     }
 
     /// The numbers of the transactions that are known, in rising order.

@@ -1,5 +1,6 @@
 //! Calls of a memory whose comparisons nobody counts.
 ghost use Rattle.std.specs.Prelude.{◌≡◌, ◌<◌, ◌+◌, ◌^◌, true, OnOk, OnErr};
+ghost use Rattle.session_log.specs.Soundness.{all_differ, same_ticket_key, tickets};
 ghost use Rattle.session_memory.specs.Changes.{after, may_come};
 ghost use Rattle.session_memory.specs.Loading.{LoadsSnapshot};
 ghost use Rattle.session_memory.specs.Order.{IsCounted};
@@ -67,15 +68,17 @@ fn load_by<L: Ledger>(alloc: Global, snapshot: Snapshot, blank: Blank) -> Result
     requires parts { blank.parts ≡ L.parts }
     requires some { 0 < blank.parts }
     requires counted { IsCounted snapshot }
+    requires tickets { all_differ same_ticket_key (tickets snapshot) ≡ true }
     ensures { LoadsSnapshot snapshot result }
 {
     let mut steps = Steps::<L>::new(blank);
     Memory::load(alloc, snapshot, &mut steps)
 }
 
-/// A memory of a snapshot, unless a row has two holders in it.
+/// A memory of a snapshot in which no two AT branches of a resource have one ticket, unless a row has two holders in it.
 pub(crate) fn load(alloc: Global, snapshot: Snapshot) -> Result<Memory, LoadError>
-    requires { IsCounted snapshot }
+    requires counted { IsCounted snapshot }
+    requires tickets { all_differ same_ticket_key (tickets snapshot) ≡ true }
     ensures { LoadsSnapshot snapshot result }
 {
     load_by::<Brand>(alloc, snapshot, Blank::new(1))

@@ -135,7 +135,7 @@ fn register<L: Ledger>(
     if kept.is_down() || kept.machine().resources < 1 {
         return Err(StoreError::NoMemory);
     }
-    if !is_begin(kept.memory().status(XID)) || kept.ticket_leg(1, PLACE.ticket).is_some() {
+    if !is_begin(kept.memory().status(XID)) || kept.ticket_leg(1, PLACE.ticket, steps).is_some() {
         return Err(StoreError::NoMemory);
     }
     if !is_short(alloc, XID, kept.next_branch(), PLACE) {

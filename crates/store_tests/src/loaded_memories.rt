@@ -1,10 +1,14 @@
 //! The memory of a coordinator, loaded from a snapshot: what it then finds, and that a row with two holders is refused.
-ghost use Rattle.std.specs.Prelude.{◌≡◌, ◌<◌, ◌∷◌, [], IfOk};
+ghost use Rattle.std.specs.Prelude.{◌≡◌, ◌<◌, ◌∷◌, [], true, IfOk};
+ghost use Rattle.seata_types.specs.declared.statuses.BranchKind.TheVariants as kind;
+ghost use Rattle.session_log.specs.Soundness.{all_differ, same_ticket_key, tickets};
 ghost use Rattle.session_memory.specs.Order.{IsCounted};
 
 use crate::memories::row;
 use lock_table::{HoldError, Steps};
-use seata_types::{BranchId, BranchKind, GlobalStatus, List, NoMemory, RowKey, Ticket, Value, Xid};
+use seata_types::{
+    BranchId, BranchKind, GlobalStatus, Leg, List, NoMemory, RowKey, Ticket, Value, Xid,
+};
 use session_log::{Branch, RegisterPlace, Session, SessionEntry, Snapshot};
 use session_memory::{LoadError, Memory};
 use std::alloc::Global;
@@ -22,7 +26,8 @@ fn only<T: Drop>(alloc: Global, item: T) -> Result<List<T>, NoMemory>
 
 /// A branch that holds row 7, unless it is ended.
 fn branch(alloc: Global, number: u32, ended: bool) -> Result<Branch, NoMemory>
-    ensures { IfOk result (λ b. b.id.0 ≡ number) }
+    ensures id { IfOk result (λ b. b.id.0 ≡ number) }
+    ensures place { IfOk result (λ b. b.place ≡ record { resource = 1; call = 1; ticket = record { boot = 1; seq = number }; kind = kind.At }) }
 {
     let place = RegisterPlace {
         resource: 1,
@@ -75,7 +80,8 @@ fn both(
 
 /// Two transactions whose branches were granted row 7; that of the first may be ended.
 fn two_transactions(alloc: Global, ended: bool) -> Result<Snapshot, NoMemory>
-    ensures { IfOk result IsCounted }
+    ensures counted { IfOk result IsCounted }
+    ensures tickets { IfOk result (λ s. all_differ same_ticket_key (tickets s) ≡ true) }
 {
     let first = entry(alloc, 1, branch(alloc, 1, ended)?)?;
     let second = entry(alloc, 2, branch(alloc, 2, false)?)?;
@@ -125,11 +131,26 @@ fn found(memory: &Memory, xid: u64) -> Option<(u16, usize)> {
     }
 }
 
+/// Whether the branch of a ticket is found, with the transaction of the same number.
+fn has_ticket<L: Ledger>(memory: &Memory, number: u32, steps: &mut Steps<L>) -> bool {
+    let ticket = Ticket {
+        boot: 1,
+        seq: number,
+    };
+    let leg = Leg {
+        xid: Xid(u64::from(number)),
+        branch: BranchId(u64::from(number)),
+    };
+    memory.ticket_leg(1, ticket, steps) == Some(leg)
+}
+
 fn answers<L: Ledger>(alloc: Global, memory: &Memory, steps: &mut Steps<L>) -> bool {
     let mut good = meets(alloc, memory, 1, Some(Xid(2)), steps);
     good &= meets(alloc, memory, 2, None, steps);
     good &= found(memory, 2) == Some((2, 1));
     good &= found(memory, 3) == None;
+    good &= has_ticket(memory, 1, steps) && has_ticket(memory, 2, steps);
+    good &= !has_ticket(memory, 3, steps);
     good
 }
 

@@ -132,20 +132,28 @@ fn add_granted<L: Ledger>(
     add(alloc, memory, granted(number, List::of(rows)), steps)
 }
 
+fn ticket(number: u32) -> Ticket {
+    Ticket {
+        boot: 1,
+        seq: number,
+    }
+}
+
 fn register<L: Ledger>(
     alloc: Global,
     memory: &mut Memory,
-    xid: Xid,
+    number: u32,
     rows: &[RowKey],
     steps: &mut Steps<L>,
 ) -> Result<(), HoldError> {
+    let xid = Xid(u64::from(number));
     let place = RegisterPlace {
         resource: 1,
         call: 1,
-        ticket: Ticket { boot: 1, seq: 1 },
+        ticket: ticket(number),
         kind: BranchKind::At,
     };
-    if memory.snapshot().acts > 100 {
+    if memory.snapshot().acts > 100 || memory.ticket_leg(1, place.ticket, steps).is_some() {
         return Err(HoldError::NoMemory);
     }
     match memory.status(xid) {
@@ -154,33 +162,39 @@ fn register<L: Ledger>(
     }
 }
 
-/// Whether a branch that wants the row is granted it, or refused it as held by the transaction that is told.
+/// Whether a branch of the transaction and with the ticket of this number that wants the row is granted it, or refused it as
+/// held by the transaction that is told.
 fn registers<L: Ledger>(
     alloc: Global,
     memory: &mut Memory,
-    xid: Xid,
+    number: u32,
     held: Option<Xid>,
     steps: &mut Steps<L>,
 ) -> bool {
     let Ok(key) = row(alloc) else {
         return false;
     };
-    match register(alloc, memory, xid, &[key], steps) {
+    match register(alloc, memory, number, &[key], steps) {
         Ok(()) => held.is_none(),
         Err(HoldError::Held { by, .. }) => held == Some(by),
         Err(HoldError::NoMemory) => false,
     }
 }
 
+/// Whether the branch of this number is found by its ticket, with its transaction.
+fn finds<L: Ledger>(memory: &Memory, number: u32, steps: &mut Steps<L>) -> bool {
+    let leg = Leg {
+        xid: Xid(u64::from(number)),
+        branch: BranchId(u64::from(number)),
+    };
+    memory.ticket_leg(1, ticket(number), steps) == Some(leg)
+}
+
 /// Whether the branch of ticket 1 is the first one of transaction 1, no TCC branch is found, and two transactions and this
 /// one branch are numbered.
-fn finds_first(memory: &Memory) -> bool {
-    let leg = Leg {
-        xid: Xid(1),
-        branch: BranchId(1),
-    };
-    memory.ticket_leg(1, Ticket { boot: 1, seq: 1 }) == Some(leg)
-        && memory.call_leg(Xid(1), 1, 1) == None
+fn finds_first<L: Ledger>(memory: &Memory, steps: &mut Steps<L>) -> bool {
+    finds(memory, 1, steps)
+        && memory.call_leg(Xid(1), 1, 1, steps) == None
         && memory.next_xid() == Xid(3)
         && memory.next_branch() == BranchId(2)
 }
@@ -190,10 +204,10 @@ fn wants<L: Ledger>(alloc: Global, memory: &mut Memory, steps: &mut Steps<L>) ->
     let mut good = add(alloc, memory, begun(1, 3), steps);
     good &= !add(alloc, memory, begun(2, 3), steps);
     good &= add(alloc, memory, begun(2, 4), steps);
-    good &= registers(alloc, memory, Xid(1), None, steps);
+    good &= registers(alloc, memory, 1, None, steps);
     good &= is_held(alloc, memory, Some(Xid(1)), steps);
-    good &= finds_first(memory);
-    good &= registers(alloc, memory, Xid(2), Some(Xid(1)), steps);
+    good &= finds_first(memory, steps);
+    good &= registers(alloc, memory, 2, Some(Xid(1)), steps);
     good &= !add_granted(alloc, memory, 2, steps);
     good &= add(alloc, memory, decided(1, Decision::Commit), steps);
     good &= memory.status(Xid(1)) == GlobalStatus::AsyncCommitting;
@@ -202,7 +216,7 @@ fn wants<L: Ledger>(alloc: Global, memory: &mut Memory, steps: &mut Steps<L>) ->
     good
 }
 
-/// The second keeps the row while it rolls back, and the first is forgotten once its branch is ended.
+/// The second keeps the row while it rolls back, and the first is forgotten once its branch is ended, with its ticket.
 fn ends<L: Ledger>(alloc: Global, memory: &mut Memory, steps: &mut Steps<L>) -> bool {
     let mut good = add(alloc, memory, decided(2, Decision::Rollback), steps);
     good &= is_held(alloc, memory, Some(Xid(2)), steps);
@@ -212,6 +226,8 @@ fn ends<L: Ledger>(alloc: Global, memory: &mut Memory, steps: &mut Steps<L>) -> 
     good &= knows(alloc, memory, &[Xid(1), Xid(2)]);
     good &= add(alloc, memory, forgot(1), steps);
     good &= knows(alloc, memory, &[Xid(2)]);
+    good &= finds(memory, 2, steps);
+    good &= !finds(memory, 1, steps);
     good &= memory.status(Xid(1)) == GlobalStatus::Finished;
     good &= memory.manager_xid(3) == Some(Xid(1));
     good

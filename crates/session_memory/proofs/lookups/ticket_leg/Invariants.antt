@@ -1,6 +1,10 @@
-use Rattle.std.proofs.Common.{◌≡◌, drop}
-use Rattle.session_memory.specs.Lookups.{has_ticket, first_leg}
+use Rattle.std.proofs.Common.{◌≡◌, ◌+◌, drop}
+use Rattle.std.specs.Prelude.{find}
+use Rattle.session_memory.specs.Lookups.{has_ticket}
 use Rattle.session_memory.proofs.lookups.ticket_leg.Given as goal
 
-abbrev pub invariant-loop-entry : goal.invariant-loop-entry
-invariant-loop-entry l = first_leg (has_ticket l.resource l.ticket) (drop l.entry-index l.sessions) ≡ first_leg (has_ticket l.resource l.ticket) l.sessions
+abbrev pub invariant-loop-branch : goal.invariant-loop-branch
+invariant-loop-branch g l = record {
+  rest : find (has_ticket l.resource l.ticket) (drop l.branch-index l.branches) ≡ find (has_ticket l.resource l.ticket) l.branches;
+  cost : l.steps ≡ l.initial.steps + l.branch-index;
+}

@@ -1,5 +1,5 @@
 use Rattle.session_memory.proofs.KeptLaws.{kept_as, kept_forgot}
-use Rattle.session_memory.proofs.LatestLaws.{reached_as, reached_forgot}
+use Rattle.session_memory.proofs.OwnerLaws.{owned_as, forgot_owned}
 use Rattle.session_memory.specs.Changes.{after}
 use Rattle.lock_table.specs.Locks.{without_xid}
 use Rattle.durable_records.specs.declared.coordinators.SessionRecord.TheVariants as log
@@ -9,6 +9,6 @@ pub invariant_of-self-2 : goal.invariant_of-self-2
 invariant_of-self-2 c = (
   kept_as (after (log.Forgot c.args.xid) c.self.inside.snapshot) c.forget.new.snapshot (without_xid c.self.inside.locks c.args.xid) c.release_all.new.self
       c.in_ok-forget.ensures.ok c.release_all.ensures (kept_forgot c.self.inside.snapshot c.self.inside.locks c.args.xid c.self.invariant.0),
-  reached_as c.self.inside.latest (after (log.Forgot c.args.xid) c.self.inside.snapshot) c.forget.new.snapshot c.in_ok-forget.ensures.ok
-      (reached_forgot c.self.inside.latest c.args.xid c.self.inside.snapshot c.self.invariant.1),
+  owned_as c.forget.new.owners (after (log.Forgot c.args.xid) c.self.inside.snapshot) c.forget.new.snapshot c.in_ok-forget.ensures.ok
+      (forgot_owned c.args.xid c.self.inside.owners c.forget.new.owners c.self.inside.snapshot c.forget.ensures.others c.self.invariant.0.counted.rising c.self.invariant.1),
 )

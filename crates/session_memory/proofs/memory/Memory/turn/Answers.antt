@@ -2,7 +2,7 @@ use Rattle.std.proofs.Common.{◌∙◌, ap}
 use Rattle.session_log.specs.declared.sessions.Snapshot.{Snapshot}
 use Rattle.session_memory.specs.Changes.{with_turned, locks_after, may_come}
 use Rattle.session_memory.proofs.KeptLaws.{kept_as, kept_turned}
-use Rattle.session_memory.proofs.LatestLaws.{reached_as, reached_turned}
+use Rattle.session_memory.proofs.OwnerLaws.{owned_as, owned_turned}
 use Rattle.session_memory.proofs.memory.Memory.turn.Goals as goal
 
 pub invariant_of-self : goal.invariant_of-self
@@ -11,6 +11,6 @@ invariant_of-self c = (
       c.turn.ensures c.give_back.ensures
       (kept_turned c.args.item.now c.self.inside.snapshot c.self.inside.locks c.self.invariant.0 c.requires.turns
       (ap (λ (s : Snapshot). may_come s c.args.item.now) c.self.view_is ∙ c.requires.allowed)),
-  reached_as c.self.inside.latest (with_turned c.args.item.now c.self.inside.snapshot) c.turn.new.snapshot c.turn.ensures
-      (reached_turned c.self.inside.latest c.args.item.now c.self.inside.snapshot c.self.invariant.1),
+  owned_as c.self.inside.owners (with_turned c.args.item.now c.self.inside.snapshot) c.turn.new.snapshot c.turn.ensures
+      (owned_turned c.self.inside.owners c.args.item.now c.self.inside.snapshot c.self.invariant.1),
 )
