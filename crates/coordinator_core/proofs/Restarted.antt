@@ -32,7 +32,7 @@ use Rattle.coordinator_core.specs.declared.nodes.Coordinator.{Coordinator}
 use Rattle.coordinator_core.specs.Knowledge.{knowledge, memory}
 use Rattle.coordinator_core.specs.Moving.{ArmsPair, ArmsWith, FallsAgain, SameRest, StartsAgain, kept_of}
 use Rattle.coordinator_core.specs.Serving.{ServesInput}
-use Rattle.coordinator_core.specs.Standing.{StandsAs, StandsOver, OnDisks, IsFallen, StandsForEither, course, pair_of, active_of, disks_of, sessions_of, start_of, is_down, times_of, serves, needs, size_of}
+use Rattle.coordinator_core.specs.Standing.{StandsAs, StandsOver, OnDisks, IsFallen, StandsForEither, course, pair_of, active_of, disks_of, sessions_of, start_of, is_down, times_of, serves, size_of}
 use Rattle.coordinator_core.specs.Stepping.{RestartsBy, stands_at}
 use Rattle.coordinator_core.specs.Starting.{started_on, no_moments}
 use Rattle.coordinator_core.specs.Tracks.{Tracks, Follows, AreSendable}
@@ -270,27 +270,27 @@ module _ {D : Type 0} (state : D → DiskState) (law : (d : Stoppable D) → IsL
   some_list past owns a b (inl e) = ((sessions_left past owns).records, e)
   some_list past owns a b (inr (r, is, e)) = (r ∷ (sessions_left past owns).records, e)
 
-  cause_by : (times : Times) (past : List SessionRecord) (failed : Type 0) (needs : ℕ → ℕ) (size : ℕ) (error : OpenError) → IsNoDamage error → (error ≡ open_error.Failed → failed)
-      → IsRestartError (CoordinatorRole times past) failed needs size error
-  cause_by times past failed needs size open_error.Failed none fails = fails refl
-  cause_by times past failed needs size (open_error.Damaged second at) none fails = absurd none
-  cause_by times past failed needs size (open_error.Full full) none fails = absurd none
-  cause_by times past failed needs size open_error.NoMemory none fails = tt
+  cause_by : (times : Times) (past : List SessionRecord) (failed : Type 0) (pair : Pair) (size : ℕ) (error : OpenError) → IsNoDamage error → (error ≡ open_error.Failed → failed)
+      → IsRestartError (CoordinatorRole times past) failed pair size error
+  cause_by times past failed pair size open_error.Failed none fails = fails refl
+  cause_by times past failed pair size (open_error.Damaged second at) none fails = absurd none
+  cause_by times past failed pair size (open_error.Full full) none fails = absurd none
+  cause_by times past failed pair size open_error.NoMemory none fails = tt
 
   -- bytes that it stands for are never damaged
-  pub restart_cause : (needs : ℕ → ℕ) (size : ℕ) (failed : Type 0) (error : OpenError) → AreTold (disks_of state c)
+  pub restart_cause : (pair : Pair) (size : ℕ) (failed : Type 0) (error : OpenError) → AreTold (disks_of state c)
       → SameKind (disks_of state c).first (pair_of state s').first → SameKind (disks_of state c).second (pair_of state s').second
       → ((a b : List ℕ) → present (pair_of state s').first ≡ Some a → present (pair_of state s').second ≡ Some b → IsDamage (meaning_of (managers_of (sessions_of c)) (resources_of (sessions_of c))) a b error)
-      → (error ≡ open_error.Failed → failed) → (role : Role) (owns : List Own) → StandsAs state c role owns → IsRestartError role failed needs size error
-  restart_cause needs size failed error told first second damaged fails (CoordinatorRole times past) owns (same, s) =
+      → (error ≡ open_error.Failed → failed) → (role : Role) (owns : List Own) → StandsAs state c role owns → IsRestartError role failed pair size error
+  restart_cause pair size failed error told first second damaged fails (CoordinatorRole times past) owns (same, s) =
       let one = told_bytes (pair_of state s').first.content (first.tells_images ∙ told.first) in
       let two = told_bytes (pair_of state s').second.content (second.tells_images ∙ told.second) in
       let from = go_on one.0 two.0 ((law (first_disk (twin s'))).present_may_stay one.0 one.1) ((law (second_disk (twin s'))).present_may_stay two.0 two.1) in
       let list = some_list past owns from.0 from.1 (s.disks.images from.0 from.1 from.2 from.3) in
-      cause_by times past failed needs size error
+      cause_by times past failed pair size error
       (not_damaged (managers_of (sessions_of c)) (resources_of (sessions_of c)) one.0 two.0 error (damaged one.0 two.0 one.1 two.1) list.0 (from.4 list.0 list.1)) fails
-  restart_cause needs size failed error told first second damaged fails (Resource setup past) owns s = absurd s
-  restart_cause needs size failed error told first second damaged fails (Manager settings) owns s = absurd s
+  restart_cause pair size failed error told first second damaged fails (Resource setup past) owns s = absurd s
+  restart_cause pair size failed error told first second damaged fails (Manager settings) owns s = absurd s
 
 module _ {D : Type 0} (state : D → DiskState) (law : (d : Stoppable D) → IsLawful (state_of state d)) (c c' : Coordinator D) (down : is_down c ≡ true) (go_on : GoOn state (sessions_of c) (sessions_of c'))
     (grown : own_faults (disks_of state c) ≤ own_faults (disks_of state c')) (opening : SameOpening (sessions_of c) (sessions_of c')) (still_down : is_down c' ≡ true) (rest : SameRest c c') where
@@ -346,7 +346,7 @@ module _ {D : Type 0} (state : D → DiskState) (law : (d : Stoppable D) → IsL
     restarts = λ told. tt;
     after = λ told. after_error state law c c' down (subst (GoOn state (sessions_of c)) (sym is) go_on) (subst (λ q. own_faults (disks_of state c) ≤ own_faults (pair_of state q)) (sym is) (up_grown state false pick (sessions_of c) s1 up))
         (subst (SameOpening (sessions_of c)) (sym is) opening) (ap sessions_down is ∙ fell) rest;
-    cause = λ told role owns s. restart_cause state law c s1 go_on (needs c') (size_of state c') (DisksFail (disks_of state c) (disks_of state c')) error told up.first.kind up.second.kind damaged failing role owns s;
+    cause = λ told role owns s. restart_cause state law c s1 go_on (disks_of state c') (size_of state c') (DisksFail (disks_of state c) (disks_of state c')) error told up.first.kind up.second.kind damaged failing role owns s;
     not_full = not_full;
     not_due = subst (λ q. StaysWhereShort (state_of state) (twin (sessions_of c)) (twin q)) (sym is) stays;
     settles = λ told. tt;
@@ -395,7 +395,7 @@ module _ {D : Type 0} (state : D → DiskState) (law : (d : Stoppable D) → IsL
           left = two.left ∙ one.left;
         }
 
-        free : (role : Role) (owns : List Own) → StandsAs state c role owns → IsRestartError role (DisksFail (disks_of state c) (disks_of state c')) (needs c') (size_of state c') open_error.NoMemory
+        free : (role : Role) (owns : List Own) → StandsAs state c role owns → IsRestartError role (DisksFail (disks_of state c) (disks_of state c')) (disks_of state c') (size_of state c') open_error.NoMemory
         free (CoordinatorRole times past) owns s = tt
         free (Resource setup past) owns s = absurd s
         free (Manager settings) owns s = absurd s

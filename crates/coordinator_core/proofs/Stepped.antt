@@ -5,6 +5,7 @@ use Rattle.std.specs.Option.{option_and_then}
 use Rattle.disk_model.specs.Disk.{DiskState, IsLawful}
 use Rattle.disk_model.specs.Stop.{state_of}
 use Rattle.disk_model.specs.declared.stoppable.Stoppable.{Stoppable}
+use Rattle.journal_checkpoint.proofs.Ends.{no_place}
 use Rattle.seata_types.specs.declared.acts.Act.{Act}
 use Rattle.seata_types.specs.declared.acts.Act.TheVariants as act
 use Rattle.seata_types.specs.declared.acts.Durable.{Durable}
@@ -18,7 +19,7 @@ use Rattle.durable_records.specs.declared.coordinators.SessionRecord.{SessionRec
 use Rattle.session_log.specs.declared.sessions.Snapshot.{Snapshot}
 use Rattle.session_log.specs.Records.{record_bytes}
 use Rattle.session_store.specs.declared.sessions.Sessions.{Sessions}
-use Rattle.session_store.specs.Keeping.{known, is_down as sessions_down, HasRoom as HasRecordRoom}
+use Rattle.session_store.specs.Keeping.{known, twin, is_down as sessions_down, HasRoom as HasRecordRoom}
 use Rattle.history_rules.specs.Own.{Own, Left, Given, Event, leaves, added, asked_act}
 use Rattle.history_rules.specs.Devices.{calls_left, fails, fault_of, left_after, down_after, written, is_down as down_by}
 use Rattle.history_rules.specs.CoordinatorMemory.{Times, sessions_left, session_record, session_asked}
@@ -31,7 +32,7 @@ use Rattle.coordinator_core.specs.Knowledge.{Knowledge, knowledge, times_in}
 use Rattle.coordinator_core.specs.Answers.{is_answer, Frames, IsUnanswered, IsCut, IsOver, Puts, AnswersWhere, SameTimes}
 use Rattle.coordinator_core.specs.Moving.{Misses}
 use Rattle.coordinator_core.specs.Serving.{ServesInput}
-use Rattle.coordinator_core.specs.Standing.{StandsAs, StandsOver, OnDisks, course, serves, disks_of, sessions_of, start_of, is_down, needs, size_of, times_of}
+use Rattle.coordinator_core.specs.Standing.{StandsAs, StandsOver, OnDisks, course, serves, active_of, disks_of, pair_of, sessions_of, start_of, is_down, needs, size_of, times_of}
 use Rattle.coordinator_core.specs.Tracks.{with_own, rule_answer, Follows, IsSendable, AreSendable}
 use Rattle.coordinator_core.specs.NodeLaws.{on_same}
 use Rattle.coordinator_core.specs.Stepping.{HasRoom, StepsBy}
@@ -244,14 +245,14 @@ module _ {D : Type 0} (state : D → DiskState) (law : (d : Stoppable D) → IsL
     stands_before (Resource setup past) owns s = absurd s
     stands_before (Manager settings) owns s = absurd s
 
-  pub overflows : (full : Full) → IsOver (state_of state) (λ owns. ComesFramable given) c.table c'.table given now full → Overflows (StandsAs state) (needs c) (size_of state c) c given now full
+  pub overflows : (full : Full) → IsOver (state_of state) (λ owns. ComesFramable given) c.table c'.table given now full → Overflows (StandsAs state) (disks_of state c) (size_of state c) c given now full
   overflows full i (CoordinatorRole times past) owns (same, s) =
       let taken = i.due.answered.takes (course past owns) (s.follows (upon past owns s)) framable in
       let kept = s.disks.keeps (upon past owns s) in
       let asked = asked_by i.due.step.act i.done i.r i.due.durable i.due.asked in (
         record_bytes i.r,
         ap (λ (k : Step). option_map record_bytes (session_asked (own_step given now k))) (sym (is_rule times past owns i.due.step same taken.0)) ∙ ap (option_map record_bytes) asked,
-        i.no_room kept.found kept.store,
+        no_place (state_of state) law kept.found (twin (sessions_of c)) kept.store.pair (size_of state c) (length (record_bytes i.r)) full (i.no_room kept.found kept.store),
       )
   overflows full i (Resource setup past) owns s = absurd s
   overflows full i (Manager settings) owns s = absurd s
@@ -338,7 +339,10 @@ module _ {D : Type 0} (state : D → DiskState) (law : (d : Stoppable D) → IsL
       let remains = remains_same state (sessions_of c) (sessions_of c') i.sessions in record {
         answers = tt;
         framable = λ f. tt;
-        after = (stands_before state law c c' given now up served clock i.unanswered i.sessions, overflows state law c c' given now up served clock full i);
+        after = (
+          stands_before state law c c' given now up served clock i.unanswered i.sessions,
+          subst (λ s. Overflows (StandsAs state) (pair_of state s) (active_of state s).size c given now full) (sym i.sessions) (overflows state law c c' given now up served clock full i),
+        );
         room = tt;
         same = stays_itself state c c' remains;
         picks = same_picks state c c' remains;

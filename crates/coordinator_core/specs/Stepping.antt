@@ -40,7 +40,7 @@ HadRoom state c given now (Err error.NoMemory) = Unit {0}
 pub record StepsBy {D : Type 0} (state : D → DiskState) (old new : Coordinator D) (given : Input) (now : ℕ) (result : Result Step NodeError) : Type 0 where
   pub answers : IfOk result (TakesStep (StandsAs state) old new given now)
   pub framable : ComesFramable given → IfOk result SendsFramable
-  pub after : IfErr result (AfterError (StandsAs state) (DisksFail (disks_of state old) (disks_of state new)) (needs old) (size_of state old) old new given now)
+  pub after : IfErr result (AfterError (StandsAs state) (DisksFail (disks_of state old) (disks_of state new)) (disks_of state new) (size_of state new) old new given now)
   pub room : HadRoom state old given now result
   pub same : StaysItself stands_at serves (disks_of state) old new
   pub picks : SamePicks (disks_of state old) (disks_of state new)
@@ -51,7 +51,7 @@ pub record RestartsBy {D : Type 0} (state : D → DiskState) (old new : Coordina
   pub restarts : AreTold (disks_of state old) → IfOk result (Restarts (StandsAs state) (DisksFail (disks_of state old) (disks_of state new)) old new pick calls now)
   pub after : AreTold (disks_of state old) → OnErr result (StandsAsBefore (StandsAs state) old new)
   pub cause : AreTold (disks_of state old) → (role : Role) (owns : List Own) → StandsAs state old role owns →
-      IfErr result (IsRestartError role (DisksFail (disks_of state old) (disks_of state new)) (needs new) (size_of state new))
+      IfErr result (IsRestartError role (DisksFail (disks_of state old) (disks_of state new)) (disks_of state new) (size_of state new))
   pub not_full : IfErr result IsNotFull
   -- one that fails changes no byte where the records are short
   pub not_due : OnErr result (StaysWhereShort (state_of state) (twin (sessions_of old)) (twin (sessions_of new)))

@@ -307,7 +307,7 @@ impl<D: Disk> Coordinator<D> {
 impl<D: Disk> Node for Coordinator<D> {
     ghost use Rattle.std.specs.Prelude.{◌≡◌, ◌≤◌, ◌^◌, true};
     ghost use Rattle.disk_model.specs.declared.disk.TheConstants.{LAST_PICK};
-    ghost use Rattle.coordinator_core.specs.Standing.{StandsAs, serves, steps_left, is_down, disks_of, needs, size_of};
+    ghost use Rattle.coordinator_core.specs.Standing.{StandsAs, serves, steps_left, is_down, disks_of, size_of};
     ghost use Rattle.coordinator_core.specs.Stepping.{stands_at, RestartsBy};
     ghost use Rattle.coordinator_core.specs.NodeLaws as laws;
 
@@ -324,8 +324,6 @@ impl<D: Disk> Node for Coordinator<D> {
     ghost down = { is_down };
 
     ghost disks = { disks_of D.state };
-
-    ghost needs = { needs };
 
     ghost size = { size_of D.state };
 

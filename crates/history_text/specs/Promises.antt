@@ -1,8 +1,8 @@
 -- What the trait `Node` promises, in the words of the rules of all nodes.
 use Rattle.std.specs.Prelude.{◌≡◌, ◌⊎◌, ℕ, Bool, true, false, IsSome, List, ◌∷◌, length, Option, Some, None, option_map, Result, Ok, Err}
 use Rattle.disk_model.specs.Disk.{DiskState, SameKind, Rose}
-use Rattle.disk_journal.specs.Keeping.{IsFull}
 use Rattle.journal_checkpoint.specs.Images.{Pair}
+use Rattle.journal_checkpoint.specs.Ends.{HasNoPlace}
 use Rattle.seata_types.specs.declared.acts.Act.{Act}
 use Rattle.seata_types.specs.declared.acts.Act.TheVariants as act
 use Rattle.seata_types.specs.declared.acts.Durable.{Durable}
@@ -116,20 +116,20 @@ asked_bytes (Resource setup past) owns now given =
     option_map resource_bytes.record_bytes (resource_asked setup (memory setup past owns) (own_step given now (answer (Resource setup past) owns now given)))
 asked_bytes (Manager settings) owns now given = None
 
--- the record that the rule's answer asks for passes the end of the disk, with both numbers
-abbrev pub Overflows : {N : Type 0} → (N → Role → List Own → Type 0) → (needs : ℕ → ℕ) → (size : ℕ) → N → Input → ℕ → Full → Type 0
-Overflows stands_for needs size old given now full =
+-- the record that the rule's answer asks for has no place behind those that the disks hold, with both numbers
+abbrev pub Overflows : {N : Type 0} → (N → Role → List Own → Type 0) → (disks : Pair) → (size : ℕ) → N → Input → ℕ → Full → Type 0
+Overflows stands_for disks size old given now full =
     (role : Role) (owns : List Own) → stands_for old role owns →
-    (bytes : List ℕ) × (asked_bytes role owns now given ≡ Some bytes) × IsFull (needs (length bytes)) size full
+    (bytes : List ℕ) × (asked_bytes role owns now given ≡ Some bytes) × HasNoPlace disks size (length bytes) full
 
 -- ---- a step without an answer
 
 -- the disks failed; or the record doesn't fit, or memory was refused, and the node stands for all that it stood for
-abbrev pub AfterError : {N : Type 0} → (N → Role → List Own → Type 0) → (failed : Type 0) → (needs : ℕ → ℕ) → (size : ℕ) → N → N → Input → ℕ → NodeError → Type 0
-AfterError stands_for failed needs size old new given now (error.Failed flight) = FailsAt stands_for failed old new given now flight
-AfterError stands_for failed needs size old new given now (error.Full full) =
-    StandsAsBefore stands_for old new × Overflows stands_for needs size old given now full
-AfterError stands_for failed needs size old new given now error.NoMemory = StandsAsBefore stands_for old new
+abbrev pub AfterError : {N : Type 0} → (N → Role → List Own → Type 0) → (failed : Type 0) → (disks : Pair) → (size : ℕ) → N → N → Input → ℕ → NodeError → Type 0
+AfterError stands_for failed disks size old new given now (error.Failed flight) = FailsAt stands_for failed old new given now flight
+AfterError stands_for failed disks size old new given now (error.Full full) =
+    StandsAsBefore stands_for old new × Overflows stands_for disks size old given now full
+AfterError stands_for failed disks size old new given now error.NoMemory = StandsAsBefore stands_for old new
 
 -- whether the step made an own entry, and whether it took the node down
 abbrev pub steps_of : Result Step NodeError → ℕ
@@ -156,15 +156,15 @@ abbrev pub stays_down : Result Act OpenError → Bool
 stays_down (Ok (act.Restarted kept)) = false
 stays_down _ = true
 
--- a boot, whose bytes are as many for each number, doesn't fit
-abbrev pub BootOverflows : Role → (needs : ℕ → ℕ) → (size : ℕ) → Full → Type 0
-BootOverflows (Resource setup past) needs size full = IsFull (needs (length (resource_bytes.record_bytes (boot_over past)))) size full
-BootOverflows _ needs size full = ⊥
+-- a boot, whose bytes are as many for each number, has no place behind the records that the disks hold
+abbrev pub BootOverflows : Role → (disks : Pair) → (size : ℕ) → Full → Type 0
+BootOverflows (Resource setup past) disks size full = HasNoPlace disks size (length (resource_bytes.record_bytes (boot_over past))) full
+BootOverflows _ disks size full = ⊥
 
 -- why a restart ended in an error: a fault of its disks, a boot that doesn't fit, or want of memory, which is free; bytes
 -- that the node stands for are never damaged
-abbrev pub IsRestartError : Role → (failed : Type 0) → (needs : ℕ → ℕ) → (size : ℕ) → OpenError → Type 0
-IsRestartError role failed needs size open_error.Failed = failed
-IsRestartError role failed needs size (open_error.Damaged second at) = ⊥
-IsRestartError role failed needs size (open_error.Full full) = BootOverflows role needs size full
-IsRestartError role failed needs size open_error.NoMemory = Unit {0}
+abbrev pub IsRestartError : Role → (failed : Type 0) → (disks : Pair) → (size : ℕ) → OpenError → Type 0
+IsRestartError role failed disks size open_error.Failed = failed
+IsRestartError role failed disks size (open_error.Damaged second at) = ⊥
+IsRestartError role failed disks size (open_error.Full full) = BootOverflows role disks size full
+IsRestartError role failed disks size open_error.NoMemory = Unit {0}

@@ -39,9 +39,7 @@ pub trait Node {
     // its two disks; without disks a pair that tells nothing and never fails
     ghost disks: { Self → Pair };
 
-    // where a record with a body of so many bytes would end on the disk that takes records, and how many bytes that has
-    ghost needs: { Self → ℕ → ℕ };
-
+    // how many bytes the disk that takes records has
     ghost size: { Self → ℕ };
 
     /// Where it stands.
@@ -57,7 +55,7 @@ pub trait Node {
         requires served { serves self.old input }
         ensures answers { IfOk result (TakesStep stands_for self.old self.new input now) }
         ensures framable { ComesFramable input → IfOk result SendsFramable }
-        ensures after { IfErr result (AfterError stands_for (DisksFail (disks self.old) (disks self.new)) (needs self.old) (size self.old) self.old self.new input now) }
+        ensures after { IfErr result (AfterError stands_for (DisksFail (disks self.old) (disks self.new)) (disks self.new) (size self.new) self.old self.new input now) }
         ensures same { StaysItself stands_at serves disks self.old self.new }
         ensures picks { SamePicks (disks self.old) (disks self.new) }
         ensures counted { left self.new + steps_of result ≡ left self.old }
@@ -106,7 +104,7 @@ pub trait Node {
         ensures restarts { AreTold (disks self.old) → IfOk result (Restarts stands_for (DisksFail (disks self.old) (disks self.new)) self.old self.new pick calls now) }
         ensures after { AreTold (disks self.old) → OnErr result (StandsAsBefore stands_for self.old self.new) }
         ensures cause { AreTold (disks self.old) → (role : Role) (owns : List Own) → stands_for self.old role owns →
-            IfErr result (IsRestartError role (DisksFail (disks self.old) (disks self.new)) (needs self.new) (size self.new)) }
+            IfErr result (IsRestartError role (DisksFail (disks self.old) (disks self.new)) (disks self.new) (size self.new)) }
         ensures picked { stops self.old ≡ true → OnOk result (HavePick pick (disks self.new)) }
         ensures failed { result ≡ Err OpenError.Failed → DisksFail (disks self.old) (disks self.new) }
         ensures same { StaysItself stands_at serves disks self.old self.new }

@@ -87,8 +87,6 @@ impl Node for Manager {
 
     ghost disks = { λ _. no_disks };
 
-    ghost needs = { λ _ _. 0 };
-
     ghost size = { λ _. 0 };
 
     fn place(&self) -> Place {
@@ -103,7 +101,7 @@ impl Node for Manager {
         requires served { Unit {0} }
         ensures answers { IfOk result (TakesStep StandsAs self.old self.new input _now) }
         ensures framable { ComesFramable input → IfOk result SendsFramable }
-        ensures after { IfErr result (AfterError StandsAs (DisksFail no_disks no_disks) (λ _. 0) 0 self.old self.new input _now) }
+        ensures after { IfErr result (AfterError StandsAs (DisksFail no_disks no_disks) no_disks 0 self.old self.new input _now) }
         ensures same { StaysItself (λ m. places.Man (settings m).number) (λ _ _. Unit {0}) (λ _. no_disks) self.old self.new }
         ensures picks { SamePicks no_disks no_disks }
         ensures counted { steps_of self.new + steps_taken result ≡ steps_of self.old }

@@ -138,7 +138,7 @@ told_for disks c None event e told = told_all disks event (told refl)
 
 -- ---- one entry
 
-module _ {N : Type 0} (stands_for : N → Role → List Own → Type 0) (place : N → Place) (disks : N → Pair) (needs : N → ℕ → ℕ) (size : N → ℕ) (old new : N) (trace traced : List Entry)
+module _ {N : Type 0} (stands_for : N → Role → List Own → Type 0) (place : N → Place) (disks : N → Pair) (size : N → ℕ) (old new : N) (trace traced : List Entry)
     (stamp now : ℕ) (why : Cause) (given : Option Input) (event : Event) (is_event : event_by why given ≡ Some event) (next : IsNext trace stamp now why given) where
   module _ (role : Role) (at : place old ≡ place_of role) (ms : List Moment) (k : Keeps stands_for old trace role ms) (told : IsTold (disks old) event) where
     abbrev moment : Step → Moment
@@ -165,22 +165,22 @@ module _ {N : Type 0} (stands_for : N → Role → List Own → Type 0) (place :
           stands = rw (same_place-refl (place_of role)) did.1;
         }
 
-    stayed : (missed : RunFault) → Stays stands_for place disks needs size old new trace traced now event missed → Keeps stands_for new traced role ms
+    stayed : (missed : RunFault) → Stays stands_for place disks size old new trace traced now event missed → Keeps stands_for new traced role ms
     stayed missed e = record { printed = e.printed ∙ k.printed; alone = k.alone; stands = e.misses.stands told role (own (place_of role) ms) k.stands }
 
-    kept : (r : Result (Option Sent) RunFault) → IsEntered stands_for place disks needs size old new trace traced stamp now why event r
+    kept : (r : Result (Option Sent) RunFault) → IsEntered stands_for place disks size old new trace traced stamp now why event r
         → (ms' : List Moment) × Keeps stands_for new traced role ms'
     kept (Ok packet) (step, e) = (moment step ∷ ms, entered step (Ok packet) e)
     kept (Err missed) (inl e) = (ms, stayed missed e)
     kept (Err missed) (inr (is, step, e)) = (moment step ∷ ms, entered step (Err missed) e)
 
 -- a station keeps some moments after an entry
-module _ {N : Type 0} (stands_for : N → Role → List Own → Type 0) (place : N → Place) (disks : N → Pair) (needs : N → ℕ → ℕ) (size : N → ℕ) (stops : N → Bool)
+module _ {N : Type 0} (stands_for : N → Role → List Own → Type 0) (place : N → Place) (disks : N → Pair) (size : N → ℕ) (stops : N → Bool)
     (places : (n : N) (role : Role) (os : List Own) → stands_for n role os → place n ≡ place_of role)
     (with_disks : (n : N) (role : Role) (os : List Own) → stands_for n role os → stops n ≡ has_disks role) (w : World) (past : Past) where
   pub keeps_some : (old new : Station N) (stamp now : ℕ) (why : Cause) (given : Option Input) (event : Event) → event_by why given ≡ Some event → IsNext old.trace.items stamp now why given
       → (given ≡ None → stops old.node ≡ true) → SameTelling (disks old.node) (disks new.node)
-      → (r : Result (Option Sent) RunFault) → IsEntered stands_for place disks needs size old.node new.node old.trace.items new.trace.items stamp now why event r
+      → (r : Result (Option Sent) RunFault) → IsEntered stands_for place disks size old.node new.node old.trace.items new.trace.items stamp now why event r
       → KeepsSome stands_for disks w past old → KeepsSome stands_for disks w past new
   keeps_some old new stamp now why given event is_event next has same r e (role, named, some) = (
     role,
@@ -189,7 +189,7 @@ module _ {N : Type 0} (stands_for : N → Role → List Own → Type 0) (place :
         let was : has_disks role ≡ true → AreTold (disks old.node) = λ h. told_back (disks old.node) (disks new.node) same (told h) in
         let (ms, k) = some was in
         let owns = own (place_of role) ms in
-        kept stands_for place disks needs size old.node new.node old.trace.items new.trace.items stamp now why given event is_event next role (places old.node role owns k.stands) ms k
+        kept stands_for place disks size old.node new.node old.trace.items new.trace.items stamp now why given event is_event next role (places old.node role owns k.stands) ms k
         (told_for (disks old.node) why given event is_event (λ none. was (sym (with_disks old.node role owns k.stands) ∙ has none))) r e,
   )
 

@@ -51,8 +51,8 @@ module _ {N : Type 0} (stands_for : N → Role → List Own → Type 0) (disks :
   }
 
   -- a step whose disks failed
-  module _ (at : N → Place) (needs : N → ℕ → ℕ) (size : N → ℕ) (old new : N) (given : Input) (now : ℕ) (failed : Type 0) (same : SamePicks (disks old) (disks new)) where
-    fell : (flight : Durable) (step : Step) → AfterError stands_for failed (needs old) (size old) old new given now (error.Failed flight) → step ≡ cut flight
+  module _ (at : N → Place) (size : N → ℕ) (old new : N) (given : Input) (now : ℕ) (failed : Type 0) (same : SamePicks (disks old) (disks new)) where
+    fell : (flight : Durable) (step : Step) → AfterError stands_for failed (disks new) (size new) old new given now (error.Failed flight) → step ≡ cut flight
         → Does stands_for disks old new (Given given) now step
     fell flight step after is = record {
       reacts = λ told role os st. let f = after role os st in
@@ -60,7 +60,7 @@ module _ {N : Type 0} (stands_for : N → Role → List Own → Type 0) (disks :
       picked = λ told role os st have. picks_stay (disks old) (disks new) same (last_pick os) have;
     }
 
-    pub step_ok : (e : NodeError) (r : Result Step RunFault) → AfterError stands_for failed (needs old) (size old) old new given now e → IsStepOf (at old) e r
+    pub step_ok : (e : NodeError) (r : Result Step RunFault) → AfterError stands_for failed (disks new) (size new) old new given now e → IsStepOf (at old) e r
         → IfOk r (Does stands_for disks old new (Given given) now)
     step_ok (error.Failed flight) (Ok step) after is = fell flight step after cc
     step_ok (error.Full full) (Ok step) after is = absurd cc

@@ -16,10 +16,10 @@ use Rattle.history_rules.specs.Nodes.{Role, Happens}
 use Rattle.history_text.specs.declared.entries.Cause.{Cause}
 use Rattle.history_text.specs.declared.entries.Cause.TheVariants as cause
 use Rattle.history_text.specs.declared.entries.Entry.{Entry}
-use Rattle.history_text.specs.Durable.{HavePick, own_faults}
+use Rattle.history_text.specs.Durable.{HavePick}
 use Rattle.history_text.specs.Notes.{sent_of}
 use Rattle.history_text.specs.Promises.{AreTold, StandsAsBefore, own_entry}
-use Rattle.node_seat.specs.Faults.{Room, Blames}
+use Rattle.node_seat.specs.Faults.{Blames}
 use Rattle.node_seat.specs.declared.faults.RunFault.{RunFault}
 use Rattle.node_seat.specs.declared.faults.RunFault.TheVariants as fault
 
@@ -68,15 +68,11 @@ pub record Does {N : Type 0} (stands_for : N → Role → List Own → Type 0) (
   pub picked : IsTold (disks old) event → (role : Role) (owns : List Own) → stands_for old role owns →
       HaveLast (last_pick owns) (disks old) → HaveLast (last_pick (own_entry event now step ∷ owns)) (disks new)
 
--- where a record would end, and the disk's size, of a node
-abbrev pub room : {N : Type 0} → (N → ℕ → ℕ) → (N → ℕ) → N → Room
-room needs size node = record { needs = needs node; size = size node }
-
 -- nothing happened to a node, by this fault
-pub record Misses {N : Type 0} (stands_for : N → Role → List Own → Type 0) (at : N → Place) (disks : N → Pair) (needs : N → ℕ → ℕ) (size : N → ℕ) (old new : N) (event : Event) (now : ℕ) (missed : RunFault) : Type 0 where
+pub record Misses {N : Type 0} (stands_for : N → Role → List Own → Type 0) (at : N → Place) (disks : N → Pair) (size : N → ℕ) (old new : N) (event : Event) (now : ℕ) (missed : RunFault) : Type 0 where
   pub stands : IsTold (disks old) event → StandsAsBefore stands_for old new
   pub blames : IsTold (disks old) event → (role : Role) (owns : List Own) → stands_for old role owns →
-      Blames (at old) role owns now event (own_faults (disks new)) (room needs size old) (room needs size new) missed
+      Blames (at old) role owns now event (disks new) (size new) missed
 
 -- a step's error as a step: where the disks failed, the node went down with the act in flight; else as a fault
 abbrev pub IsStepOf : Place → NodeError → Result Step RunFault → Type 0
@@ -102,16 +98,16 @@ pub record Enters {N : Type 0} (stands_for : N → Role → List Own → Type 0)
   pub packed : IfOk result (λ packet. packet ≡ option_map (packet_at stamp) step.sent)
 
 -- no entry was made, by this fault
-pub record Stays {N : Type 0} (stands_for : N → Role → List Own → Type 0) (at : N → Place) (disks : N → Pair) (needs : N → ℕ → ℕ) (size : N → ℕ) (old new : N) (trace traced : List Entry)
+pub record Stays {N : Type 0} (stands_for : N → Role → List Own → Type 0) (at : N → Place) (disks : N → Pair) (size : N → ℕ) (old new : N) (trace traced : List Entry)
     (now : ℕ) (event : Event) (missed : RunFault) : Type 0 where
-  pub misses : Misses stands_for at disks needs size old new event now missed
+  pub misses : Misses stands_for at disks size old new event now missed
   pub printed : traced ≡ trace
 
 -- One entry was made at Ok. After a fault none was; or, after want of memory, it was and its message is lost.
-abbrev pub IsEntered : {N : Type 0} → (N → Role → List Own → Type 0) → (N → Place) → (N → Pair) → (N → ℕ → ℕ) → (N → ℕ) → N → N → List Entry → List Entry → ℕ → ℕ → Cause → Event
+abbrev pub IsEntered : {N : Type 0} → (N → Role → List Own → Type 0) → (N → Place) → (N → Pair) → (N → ℕ) → N → N → List Entry → List Entry → ℕ → ℕ → Cause → Event
     → Result (Option Sent) RunFault → Type 0
-IsEntered stands_for at disks needs size old new trace traced stamp now why event (Ok packet) =
+IsEntered stands_for at disks size old new trace traced stamp now why event (Ok packet) =
     (step : Step) × Enters stands_for at disks old new trace traced stamp now why event step (Ok packet)
-IsEntered stands_for at disks needs size old new trace traced stamp now why event (Err missed) =
-    Stays stands_for at disks needs size old new trace traced now event missed
+IsEntered stands_for at disks size old new trace traced stamp now why event (Err missed) =
+    Stays stands_for at disks size old new trace traced now event missed
     ⊎ ((missed ≡ fault.NoMemory) × (step : Step) × Enters stands_for at disks old new trace traced stamp now why event step (Err missed))

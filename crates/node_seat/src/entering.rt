@@ -92,7 +92,7 @@ pub(crate) fn enter<N: Node>(
     requires moment { now ≤ 2 ^ 63 }
     requires framable { IfSome input ComesFramable }
     ensures entered { (event : Event) → event_by cause input ≡ Some event
-        → IsEntered N.stands_for N.stands_at N.disks N.needs N.size node.old node.new trace.old.items trace.new.items stamp now cause event result }
+        → IsEntered N.stands_for N.stands_at N.disks N.size node.old node.new trace.old.items trace.new.items stamp now cause event result }
     ensures same { StaysItself N.stands_at N.serves N.disks node.old node.new }
     ensures counted { N.left node.old ≤ N.left node.new + 1 }
 {

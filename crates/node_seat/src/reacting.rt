@@ -33,7 +33,7 @@ fn step<N: Node>(node: &mut N, alloc: Global, now: u64, input: Input) -> Result<
     requires moment { now ≤ 2 ^ 63 }
     requires served { N.serves node.old input }
     ensures does { IfOk result (Does N.stands_for N.disks node.old node.new (Given input) now) }
-    ensures missed { IfErr result (Misses N.stands_for N.stands_at N.disks N.needs N.size node.old node.new (Given input) now) }
+    ensures missed { IfErr result (Misses N.stands_for N.stands_at N.disks N.size node.old node.new (Given input) now) }
     ensures framable { ComesFramable input → IfOk result SendsFramable }
     ensures same { StaysItself N.stands_at N.serves N.disks node.old node.new }
     ensures counted { N.left node.old ≤ N.left node.new + 1 }
@@ -51,7 +51,7 @@ fn give<N: Node>(node: &mut N, alloc: Global, now: u64, input: Input) -> Result<
     requires moment { now ≤ 2 ^ 63 }
     requires served { N.serves node.old input }
     ensures does { IfOk result (Does N.stands_for N.disks node.old node.new (Given input) now) }
-    ensures missed { IfErr result (Misses N.stands_for N.stands_at N.disks N.needs N.size node.old node.new (Given input) now) }
+    ensures missed { IfErr result (Misses N.stands_for N.stands_at N.disks N.size node.old node.new (Given input) now) }
     ensures framable { ComesFramable input → IfOk result SendsFramable }
     ensures same { StaysItself N.stands_at N.serves N.disks node.old node.new }
     ensures counted { N.left node.old ≤ N.left node.new + 1 }
@@ -108,7 +108,7 @@ fn restart<N: Node>(
     requires moment { now ≤ 2 ^ 63 }
     requires pick { pick ≤ LAST_PICK }
     ensures does { IfOk result (Does N.stands_for N.disks node.old node.new (Restarted pick calls) now) }
-    ensures missed { IfErr result (Misses N.stands_for N.stands_at N.disks N.needs N.size node.old node.new (Restarted pick calls) now) }
+    ensures missed { IfErr result (Misses N.stands_for N.stands_at N.disks N.size node.old node.new (Restarted pick calls) now) }
     ensures framable { IfOk result SendsFramable }
     ensures same { StaysItself N.stands_at N.serves N.disks node.old node.new }
     ensures counted { N.left node.new ≡ N.left node.old }
@@ -134,7 +134,7 @@ fn fall_or_rise<N: Node>(
     requires moment { now ≤ 2 ^ 63 }
     requires cause { IsOfDisks cause }
     ensures does { (event : Event) → event_by cause None ≡ Some event → IfOk result (Does N.stands_for N.disks node.old node.new event now) }
-    ensures missed { (event : Event) → event_by cause None ≡ Some event → IfErr result (Misses N.stands_for N.stands_at N.disks N.needs N.size node.old node.new event now) }
+    ensures missed { (event : Event) → event_by cause None ≡ Some event → IfErr result (Misses N.stands_for N.stands_at N.disks N.size node.old node.new event now) }
     ensures framable { IfOk result SendsFramable }
     ensures same { StaysItself N.stands_at N.serves N.disks node.old node.new }
     ensures counted { N.left node.new ≡ N.left node.old }
@@ -159,7 +159,7 @@ pub(crate) fn react<N: Node>(
     requires moment { now ≤ 2 ^ 63 }
     requires framable { IfSome input ComesFramable }
     ensures does { (event : Event) → event_by cause input ≡ Some event → IfOk result (Does N.stands_for N.disks node.old node.new event now) }
-    ensures missed { (event : Event) → event_by cause input ≡ Some event → IfErr result (Misses N.stands_for N.stands_at N.disks N.needs N.size node.old node.new event now) }
+    ensures missed { (event : Event) → event_by cause input ≡ Some event → IfErr result (Misses N.stands_for N.stands_at N.disks N.size node.old node.new event now) }
     ensures framable { IfOk result SendsFramable }
     ensures same { StaysItself N.stands_at N.serves N.disks node.old node.new }
     ensures counted { N.left node.old ≤ N.left node.new + 1 }

@@ -69,7 +69,7 @@ impl<N: Node, K: RunName> Seat<N, K> {
         requires moment { now ≤ 2 ^ 63 }
         requires framable { IfSome input ComesFramable }
         ensures entered { (event : Event) → event_by cause input ≡ Some event
-            → IsEntered N.stands_for N.stands_at N.disks N.needs N.size self.old.node self.new.node self.old.trace self.new.trace stamp now cause event result }
+            → IsEntered N.stands_for N.stands_at N.disks N.size self.old.node self.new.node self.old.trace self.new.trace stamp now cause event result }
         ensures same { StaysItself N.stands_at N.serves N.disks self.old.node self.new.node }
         ensures counted { N.left self.old.node ≤ N.left self.new.node + 1 }
     {

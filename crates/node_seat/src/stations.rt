@@ -36,7 +36,7 @@ impl<N: Node> Station<N> {
         requires moment { now ≤ 2 ^ 63 }
         requires framable { IfSome input ComesFramable }
         ensures entered { (event : Event) → event_by cause input ≡ Some event
-            → IsEntered N.stands_for N.stands_at N.disks N.needs N.size self.old.node self.new.node self.old.trace.items self.new.trace.items stamp now cause event result }
+            → IsEntered N.stands_for N.stands_at N.disks N.size self.old.node self.new.node self.old.trace.items self.new.trace.items stamp now cause event result }
         ensures same { StaysItself N.stands_at N.serves N.disks self.old.node self.new.node }
         ensures counted { N.left self.old.node ≤ N.left self.new.node + 1 }
         ensures keeps { (w : World) (past : Past) → KeepsSome N.stands_for N.disks w past self.old → KeepsSome N.stands_for N.disks w past self.new }

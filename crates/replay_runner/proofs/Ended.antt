@@ -1,6 +1,7 @@
 -- What an entry adds to a history, and how the replay ends where one isn't made.
 use Rattle.std.proofs.Common.{inl, inr, ◌≡◌, ◌⊎◌, ◌+◌, ◌≤◌, ℕ, List, ◌∷◌, length, slice_get, Option, Some, Err, refl, ap, sym, subst, ◌∙◌, arith}
 use Rattle.disk_model.specs.Disk.{DiskState}
+use Rattle.journal_checkpoint.specs.Images.{Pair}
 use Rattle.seata_types.specs.declared.ids.Place.{Place}
 use Rattle.seata_types.specs.declared.ids.Place.TheVariants as place
 use Rattle.seata_types.specs.declared.messages.Input.{Input}
@@ -17,10 +18,10 @@ use Rattle.node_seat.specs.Faults.{Blames}
 use Rattle.node_seat.specs.declared.faults.RunFault.{RunFault}
 use Rattle.node_seat.specs.declared.faults.RunFault.TheVariants as fault
 use Rattle.replay_runner.specs.declared.runs.Run.{Run}
-use Rattle.replay_runner.specs.Ends.{IsCause, IsRoom, StopsAt}
+use Rattle.replay_runner.specs.Ends.{IsCause, StopsAt}
 use Rattle.replay_runner.specs.Entering.{Comes, Entered, Unmade}
 use Rattle.replay_runner.specs.Plays.{Brings, Ends, Plays, moment_made}
-use Rattle.replay_runner.specs.Standing.{AllStand, counted_on}
+use Rattle.replay_runner.specs.Standing.{AllStand, disks_at}
 use Rattle.replay_runner.specs.Steps.{IsNextEvent, next}
 use Rattle.replay_runner.proofs.Histories.{last_now-le, rises_after}
 use Rattle.replay_runner.proofs.Lists.{drop_first}
@@ -41,16 +42,16 @@ module _ {D K : Type 0} (state : D → DiskState) (s : Scenario) (r : Run D K) (
   }
 
 -- a cause that stops the replay
-cause_is : (s : Scenario) (ms : List Moment) (counted : Place → ℕ) (missed : RunFault) → StopsAt s ms counted missed → IsCause s ms counted missed
-cause_is s ms counted fault.NoMemory stops = tt
-cause_is s ms counted (fault.Store q) stops = stops
-cause_is s ms counted (fault.Full q full) stops = stops
-cause_is s ms counted (fault.Damaged q second offset) stops = stops
-cause_is s ms counted fault.Other stops = stops
+cause_is : (s : Scenario) (ms : List Moment) (disks : Place → Pair) (missed : RunFault) → StopsAt s ms disks missed → IsCause s ms disks missed
+cause_is s ms disks fault.NoMemory stops = tt
+cause_is s ms disks (fault.Store q) stops = stops
+cause_is s ms disks (fault.Full q full) stops = stops
+cause_is s ms disks (fault.Damaged q second offset) stops = stops
+cause_is s ms disks fault.Other stops = stops
 
 -- want of memory is free
-pub memory_ends : (s : Scenario) (ms : List Moment) (counted : Place → ℕ) (missed : RunFault) → missed ≡ fault.NoMemory → IsCause s ms counted missed
-memory_ends s ms counted missed is = subst (IsCause s ms counted) (sym is) tt
+pub memory_ends : (s : Scenario) (ms : List Moment) (disks : Place → Pair) (missed : RunFault) → missed ≡ fault.NoMemory → IsCause s ms disks missed
+memory_ends s ms disks missed is = subst (IsCause s ms disks) (sym is) tt
 
 module _ {D K : Type 0} (state : D → DiskState) (r : Run D K) (p : Place) (printed : Cause) (given : Option Input) (b : Brings state r p printed given) where
   abbrev history : List Moment
@@ -99,19 +100,15 @@ module _ {D K : Type 0} (state : D → DiskState) (r : Run D K) (p : Place) (pri
   ends_here : (new : Run D K) (missed : RunFault) → Unmade state b.here.s new.nodes history p b.role r.clock b.event missed → Ends state b.here.s new missed
   ends_here new missed u = record { history = history; legal = b.here.plays.legal; follows = b.here.plays.follows; stands = u.stands; cause = by u.cause }
     where
-      by : (missed ≡ fault.NoMemory) ⊎ (IsRoom b.here.s u.before × IsRoom b.here.s u.after × Blames p b.role (own p history) r.clock b.event (counted_on state new.nodes p) u.before u.after missed) → IsCause b.here.s history (counted_on state new.nodes) missed
-      by (inl is) = memory_ends b.here.s history (counted_on state new.nodes) missed is
-      by (inr (had, has, blames)) = cause_is b.here.s history (counted_on state new.nodes) missed (record {
+      by : (missed ≡ fault.NoMemory) ⊎ Blames p b.role (own p history) r.clock b.event (disks_at state new.nodes p) b.here.s.disk missed → IsCause b.here.s history (disks_at state new.nodes) missed
+      by (inl is) = memory_ends b.here.s history (disks_at state new.nodes) missed is
+      by (inr blames) = cause_is b.here.s history (disks_at state new.nodes) missed (record {
         at = p;
         role = b.role;
         there = b.there;
         now = r.clock;
         event = b.event;
         is_next = next_event;
-        before = u.before;
-        after = u.after;
-        had = had;
-        has = has;
         blames = blames;
       })
 
@@ -123,7 +120,7 @@ module _ {D K : Type 0} (state : D → DiskState) (r : Run D K) (p : Place) (pri
     legal = (b.here.plays.legal, stands_next step happens);
     follows = (b.here.plays.follows, is_step_next step);
     stands = stands;
-    cause = memory_ends b.here.s (moment_made state r p printed given b step ∷ history) (counted_on state new.nodes) missed is;
+    cause = memory_ends b.here.s (moment_made state r p printed given b step ∷ history) (disks_at state new.nodes) missed is;
   }
 
   -- either

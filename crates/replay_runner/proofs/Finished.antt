@@ -13,12 +13,10 @@ use Rattle.history_rules.specs.Nodes.{World, no_past}
 use Rattle.history_rules.specs.Histories.{Moment, own}
 use Rattle.history_rules.specs.Schedules.{Follows, IsStep, Item, singles}
 use Rattle.history_text.specs.declared.entries.Entry.{Entry}
-use Rattle.history_text.specs.Durable.{own_faults}
 use Rattle.history_text.specs.History.{entries}
 use Rattle.history_text.specs.Worlds.{items_of, world_of}
 use Rattle.coordinator_core.specs.declared.nodes.Coordinator.{Coordinator}
 use Rattle.resource_core.specs.declared.nodes.Resource.{Resource}
-use Rattle.node_seat.specs.Faults.{Blames}
 use Rattle.node_seat.specs.declared.faults.RunFault.{RunFault}
 use Rattle.node_seat.specs.declared.faults.RunFault.TheVariants as fault
 use Rattle.scenario_nodes.specs.Nodes.{IsNewCoordinator, coordinator_role, resource_role}
@@ -31,13 +29,14 @@ use Rattle.replay_runner.specs.Ends.{IsCause, StopsAt}
 use Rattle.replay_runner.specs.Leaving.{Broken, Done, FirstGivenBack, GivesBack, Leaves, Replays, disks_in}
 use Rattle.replay_runner.specs.Opened.{AreFirst, IsNewResourceOf, IsReturned, StopsOpening, server_disks}
 use Rattle.replay_runner.specs.Plays.{Ends, HasPlayed, Plays}
-use Rattle.replay_runner.specs.Standing.{AllStand, counted_on}
+use Rattle.replay_runner.specs.Standing.{AllStand, disks_at}
 use Rattle.replay_runner.specs.Steps.{left_of}
 use Rattle.replay_runner.specs.Traces.{places_of}
+use Rattle.replay_runner.proofs.Blamed.{blames_alike}
 use Rattle.replay_runner.proofs.Closed.{both_stay, coordinator_back, count_servers, none_back, one_back}
 use Rattle.replay_runner.proofs.Gathered.{gathered}
 use Rattle.replay_runner.proofs.Lists.{drop_all}
-use Rattle.replay_runner.proofs.Shown.{all_left, all_show, all_stand, count_disks, counted_in, first_show, none_show, nth_end, one_shows, place_behind, role_behind, show_more}
+use Rattle.replay_runner.proofs.Shown.{all_left, all_show, all_stand, alike_in, count_disks, first_show, none_show, nth_end, one_shows, place_behind, role_behind, show_more}
 
 -- ---- a whole schedule
 
@@ -56,10 +55,7 @@ module _ {D K : Type 0} (state : D → DiskState) (s : Scenario) (r : Run D K) w
   abbrev left_disks : List Pair
   left_disks = map (pair_of state) (server_disks r.nodes.coordinator.seat.node r.nodes.resources.items)
 
-  abbrev counted_left : Place → ℕ
-  counted_left p = own_faults (disks_in left_disks p)
-
-  stops : (ms : List Moment) (missed : RunFault) → AllStand state s r.nodes ms → StopsAt s ms (counted_on state r.nodes) missed → StopsAt s ms counted_left missed
+  stops : (ms : List Moment) (missed : RunFault) → AllStand state s r.nodes ms → StopsAt s ms (disks_at state r.nodes) missed → StopsAt s ms (disks_in left_disks) missed
   stops ms missed stand t = record {
     at = t.at;
     role = t.role;
@@ -67,14 +63,11 @@ module _ {D K : Type 0} (state : D → DiskState) (s : Scenario) (r : Run D K) w
     now = t.now;
     event = t.event;
     is_next = t.is_next;
-    before = t.before;
-    after = t.after;
-    had = t.had;
-    has = t.has;
-    blames = subst (λ n. Blames t.at t.role (own t.at ms) t.now t.event n t.before t.after missed) (counted_in state s r.nodes t.at t.role (own t.at ms) (stand t.at t.role t.there)) t.blames;
+    blames = blames_alike (disks_at state r.nodes t.at) (disks_in left_disks t.at) (alike_in state s r.nodes t.at t.role (own t.at ms) (stand t.at t.role t.there)) s.disk
+        t.at t.role (own t.at ms) t.now t.event missed t.blames;
   }
 
-  cause_left : (ms : List Moment) (missed : RunFault) → AllStand state s r.nodes ms → IsCause s ms (counted_on state r.nodes) missed → IsCause s ms counted_left missed
+  cause_left : (ms : List Moment) (missed : RunFault) → AllStand state s r.nodes ms → IsCause s ms (disks_at state r.nodes) missed → IsCause s ms (disks_in left_disks) missed
   cause_left ms fault.NoMemory stand cause = tt
   cause_left ms (fault.Store q) stand cause = stops ms (fault.Store q) stand cause
   cause_left ms (fault.Full q full) stand cause = stops ms (fault.Full q full) stand cause
@@ -258,7 +251,7 @@ module _ {D : Type 0} (state : D → DiskState) (s : Scenario) where
                 (first_show state s all managers resources c new opened first);
             role = resource_role s (length opened + 1) t.def;
             there = role_behind s (length opened) t.def t.there (length (map (pair_of state) (server_disks c opened))) (count_disks state c opened);
-            cause = subst (λ (p : Pair). IsOpenFault (resource_role s (length opened + 1) t.def) s.disk (own_faults p) missed) (sym (nth_end (map (pair_of state) (server_disks c opened)) (pair_of state g.disks)))
+            cause = subst (λ (p : Pair). IsOpenFault (resource_role s (length opened + 1) t.def) s.disk p missed) (sym (nth_end (map (pair_of state) (server_disks c opened)) (pair_of state g.disks)))
                 (g.unopened all).cause;
           }));
     })

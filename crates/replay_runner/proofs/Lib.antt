@@ -5,7 +5,8 @@ mod Histories
 mod Waiting
 mod Roles
 mod Locals
-mod Rooms
+mod Sizes
+mod Blamed
 mod Worlds
 mod Made
 mod Entered

@@ -29,15 +29,15 @@ letter_is : (from : Place) (stamp : ℕ) (sent : Option Outgoing)
 letter_is from stamp None = refl
 letter_is from stamp (Some out) = refl
 
-module _ {N K : Type 0} (stands_for : N → Role → List Own → Type 0) (at : N → Place) (disks : N → Pair) (needs : N → ℕ → ℕ) (size : N → ℕ) (old new : Member N K) (stamp now : ℕ) (why : Cause) (event : Event) where
-  pub made_err : (missed : RunFault) → IsEntered stands_for at disks needs size old.seat.node new.seat.node old.seat.trace new.seat.trace stamp now why event (Err missed)
-      → IsMade stands_for at disks needs size old new stamp now why event (Err missed)
+module _ {N K : Type 0} (stands_for : N → Role → List Own → Type 0) (at : N → Place) (disks : N → Pair) (size : N → ℕ) (old new : Member N K) (stamp now : ℕ) (why : Cause) (event : Event) where
+  pub made_err : (missed : RunFault) → IsEntered stands_for at disks size old.seat.node new.seat.node old.seat.trace new.seat.trace stamp now why event (Err missed)
+      → IsMade stands_for at disks size old new stamp now why event (Err missed)
   made_err missed (inl e) = inl e
   made_err missed (inr (is, step, e)) = inr (is, step, record { does = e.does; printed = e.printed; turned = tt; sent = tt })
 
-  pub made_ok : (packet : Option Sent) (letter : Option Letter) → IsEntered stands_for at disks needs size old.seat.node new.seat.node old.seat.trace new.seat.trace stamp now why event (Ok packet)
+  pub made_ok : (packet : Option Sent) (letter : Option Letter) → IsEntered stands_for at disks size old.seat.node new.seat.node old.seat.trace new.seat.trace stamp now why event (Ok packet)
       → new.turned ≡ turned_by why stamp old.turned → at new.seat.node ≡ at old.seat.node → letter ≡ letter_with (at new.seat.node) (receiver_in new.seat.trace) packet
-      → IsMade stands_for at disks needs size old new stamp now why event (Ok letter)
+      → IsMade stands_for at disks size old new stamp now why event (Ok letter)
   made_ok packet letter (step, e) turned same is = (
     step,
     record {

@@ -15,7 +15,6 @@ use Rattle.history_rules.specs.Nodes.{ComesTo, Role, counted_at}
 use Rattle.history_rules.specs.Nodes.{Manager as ManagerRole}
 use Rattle.history_rules.specs.Histories.{Moment, own, same_place}
 use Rattle.history_text.specs.declared.entries.Cause.{Cause}
-use Rattle.history_text.specs.Durable.{own_faults}
 use Rattle.history_text.specs.History.{cause_of}
 use Rattle.history_text.specs.Promises.{StaysItself, no_disks}
 use Rattle.coordinator_core.specs.declared.nodes.Coordinator.{Coordinator}
@@ -26,8 +25,8 @@ use Rattle.resource_core.specs.NodeStanding as resource
 use Rattle.resource_core.specs.Shown as shown
 use Rattle.manager_core.specs.declared.nodes.Manager.{Manager}
 use Rattle.manager_core.specs.Standing as manager
-use Rattle.node_seat.specs.Entering.{IsTold, event_by, room}
-use Rattle.node_seat.specs.Faults.{Blames, Room}
+use Rattle.node_seat.specs.Entering.{IsTold, event_by}
+use Rattle.node_seat.specs.Faults.{Blames}
 use Rattle.node_seat.specs.declared.faults.RunFault.{RunFault}
 use Rattle.node_seat.specs.declared.faults.RunFault.TheVariants as fault
 use Rattle.node_seat.proofs.Kept.{told_all}
@@ -35,31 +34,29 @@ use Rattle.scenario_nodes.specs.Nodes.{HaveSize}
 use Rattle.replay_runner.specs.declared.members.Member.{Member}
 use Rattle.replay_runner.specs.declared.messages.Letter.{Letter}
 use Rattle.replay_runner.specs.declared.nodes.Nodes.{Nodes}
-use Rattle.replay_runner.specs.Ends.{IsRoom}
 use Rattle.replay_runner.specs.Entering.{Comes, Entered, moment_by}
 use Rattle.replay_runner.specs.Letters.{letter_from}
 use Rattle.replay_runner.specs.Members.{IsMade, IsMember, Makes}
-use Rattle.replay_runner.specs.Standing.{AllStand, AreNodes, IsServer, counted_on, member_disks}
+use Rattle.replay_runner.specs.Standing.{AllStand, AreNodes, IsServer, disks_at, member_disks}
 use Rattle.replay_runner.proofs.Entered.{member_enters, member_happens, member_stands, nodes_coordinator, nodes_manager, nodes_resource, own_there, server_enters, stand_coordinator, stand_manager, stand_resource, with_coordinator, with_managers, with_resources}
 use Rattle.replay_runner.proofs.Counted.{counted_set}
 use Rattle.replay_runner.proofs.Roles.{at_manager}
-use Rattle.replay_runner.proofs.Rooms.{room_coordinator, room_resource}
+use Rattle.replay_runner.proofs.Sizes.{size_coordinator, size_resource}
 
 -- why no entry was made at a place: want of memory, or what the node there is blamed for
 abbrev Missed : {D K : Type 0} → {state : D → DiskState} → {old : Nodes D K} → {stamp : ℕ} → {printed : Cause} → {given : Option Input} → (p : Place) (now : ℕ) → Comes state old stamp p printed given
-    → (counted : ℕ) (before after : Room) → RunFault → Type 0
-Missed p now c counted before after missed = (missed ≡ fault.NoMemory) ⊎ (IsRoom c.s before × IsRoom c.s after × Blames p c.role (own p c.ms) now c.event counted before after missed)
+    → (disks : Pair) → RunFault → Type 0
+Missed p now c disks missed = (missed ≡ fault.NoMemory) ⊎ Blames p c.role (own p c.ms) now c.event disks c.s.disk missed
 
 -- ---- a node of any kind
 
-module _ {N D K : Type 0} (state : D → DiskState) (stands_for : N → Role → List Own → Type 0) (place_at : N → Place) (disks : N → Pair) (needs : N → ℕ → ℕ) (size : N → ℕ)
+module _ {N D K : Type 0} (state : D → DiskState) (stands_for : N → Role → List Own → Type 0) (place_at : N → Place) (disks : N → Pair) (size : N → ℕ)
     (old new : Nodes D K) (before after : Member N K) (stamp now : ℕ) (p : Place) (printed : Cause) (given : Option Input) (c : Comes state old stamp p printed given)
     (here : place_at before.seat.node ≡ p) (stood : stands_for before.seat.node c.role (own p c.ms)) (told : IsTold (disks before.seat.node) c.event)
     (entered : (step : Step) (letter : Option Letter) → Makes stands_for place_at disks before after (length c.ms + 1) now (cause_of c.why) c.event step (Ok letter) → AreNodes state c.s new (moment_by p now c step ∷ c.ms))
     (stand : (os : List Moment) → ((q : Place) → same_place q p ≡ false → own q os ≡ own q c.ms) → stands_for after.seat.node c.role (own p os) → AllStand state c.s new os)
-    (missed_by : (missed : RunFault) → Blames p c.role (own p c.ms) now c.event (own_faults (disks after.seat.node)) (room needs size before.seat.node) (room needs size after.seat.node) missed
-    → Missed p now c (counted_on state new p) (room needs size before.seat.node) (room needs size after.seat.node) missed) where
-  entered_by : (r : Result (Option Letter) RunFault) → IsMade stands_for place_at disks needs size before after (length c.ms + 1) now (cause_of c.why) c.event r → Entered state old new stamp now p printed given c r
+    (missed_by : (missed : RunFault) → Blames p c.role (own p c.ms) now c.event (disks after.seat.node) (size after.seat.node) missed → Missed p now c (disks_at state new p) missed) where
+  entered_by : (r : Result (Option Letter) RunFault) → IsMade stands_for place_at disks size before after (length c.ms + 1) now (cause_of c.why) c.event r → Entered state old new stamp now p printed given c r
   entered_by (Ok letter) (step, e) = record {
     step = step;
     happens = member_happens stands_for p c.role place_at disks before after c.ms now c.why c.event step (Ok letter) stood told e;
@@ -68,10 +65,8 @@ module _ {N D K : Type 0} (state : D → DiskState) (stands_for : N → Role →
   }
   entered_by (Err missed) (inl e) = inl (record {
     stands = stand c.ms (λ q away. refl) (e.misses.stands told c.role (own p c.ms) stood);
-    before = room needs size before.seat.node;
-    after = room needs size after.seat.node;
     cause = missed_by missed
-        (subst (λ q. Blames q c.role (own p c.ms) now c.event (own_faults (disks after.seat.node)) (room needs size before.seat.node) (room needs size after.seat.node) missed) here
+        (subst (λ q. Blames q c.role (own p c.ms) now c.event (disks after.seat.node) (size after.seat.node) missed) here
         (e.misses.blames told c.role (own p c.ms) stood));
   })
   entered_by (Err missed) (inr (is, step, e)) = inr (record {
@@ -82,29 +77,29 @@ module _ {N D K : Type 0} (state : D → DiskState) (stands_for : N → Role →
         (member_stands stands_for p c.role place_at disks before after c.ms now c.why c.event step (Err missed) stood told e);
   })
 
-  entered_as : (r : Result (Option Letter) RunFault) → IsMade stands_for place_at disks needs size before after stamp now printed c.event r → Entered state old new stamp now p printed given c r
+  entered_as : (r : Result (Option Letter) RunFault) → IsMade stands_for place_at disks size before after stamp now printed c.event r → Entered state old new stamp now p printed given c r
   entered_as r made =
       entered_by r
-      (subst (λ n. IsMade stands_for place_at disks needs size before after n now (cause_of c.why) c.event r) c.stamped
-      (subst (λ w. IsMade stands_for place_at disks needs size before after stamp now w c.event r) c.is_printed made))
+      (subst (λ n. IsMade stands_for place_at disks size before after n now (cause_of c.why) c.event r) c.stamped
+      (subst (λ w. IsMade stands_for place_at disks size before after stamp now w c.event r) c.is_printed made))
 
 -- ---- the coordinator
 
 module _ {D K : Type 0} (state : D → DiskState) (old : Nodes D K) (after : Member (Coordinator D) K) (stamp now : ℕ) (printed : Cause) (given : Option Input)
     (same : StaysItself stepping.stands_at coordinator.serves (coordinator.disks_of state) old.coordinator.seat.node after.seat.node) (r : Result (Option Letter) RunFault) where
   abbrev CoordinatorMade : Event → Type 0
-  CoordinatorMade event = IsMade (coordinator.StandsAs state) stepping.stands_at (coordinator.disks_of state) coordinator.needs (coordinator.size_of state) old.coordinator after stamp now printed event r
+  CoordinatorMade event = IsMade (coordinator.StandsAs state) stepping.stands_at (coordinator.disks_of state) (coordinator.size_of state) old.coordinator after stamp now printed event r
 
   coordinator_here : (c : Comes state old stamp place.Tc printed given) → CoordinatorMade c.event → Entered state old (with_coordinator old after) stamp now place.Tc printed given c r
   coordinator_here c made =
       let is : IsServer (coordinator.StandsAs state) (coordinator.disks_of state) place.Tc c.role c.s.disk old.coordinator c.ms = c.nodes.each place.Tc c.role c.there in
       let sized : HaveSize c.s.disk (coordinator.disks_of state after.seat.node) = record { first = same.first.size ∙ is.sized.first; second = same.second.size ∙ is.sized.second } in
-      entered_as state (coordinator.StandsAs state) stepping.stands_at (coordinator.disks_of state) coordinator.needs (coordinator.size_of state) old (with_coordinator old after) old.coordinator after stamp now place.Tc printed given c
+      entered_as state (coordinator.StandsAs state) stepping.stands_at (coordinator.disks_of state) (coordinator.size_of state) old (with_coordinator old after) old.coordinator after stamp now place.Tc printed given c
       refl is.member.stands (told_all (coordinator.disks_of state old.coordinator.seat.node) c.event is.told)
       (λ step letter e. nodes_coordinator state c.s old after c.role c.there c.ms (moment_by place.Tc now c step) refl c.nodes
       (server_enters (coordinator.StandsAs state) (coordinator.disks_of state) place.Tc c.role c.s.disk stepping.stands_at coordinator.serves old.coordinator after c.ms now c.why c.event step letter is refl same e))
       (λ os elsewhere stands. stand_coordinator state c.s old after c.role c.there c.ms os elsewhere c.nodes stands)
-      (λ missed b. inr (room_coordinator state c.s old.coordinator.seat.node is.sized, room_coordinator state c.s after.seat.node sized, b)) r made
+      (λ missed b. inr (subst (λ n. Blames place.Tc c.role (own place.Tc c.ms) now c.event (coordinator.disks_of state after.seat.node) n missed) (size_coordinator state c.s.disk after.seat.node sized) b)) r made
 
   pub entered_coordinator : (p : Place) → p ≡ place.Tc → ((event : Event) → event_by printed given ≡ Some event → CoordinatorMade event)
       → (c : Comes state old stamp p printed given) → Entered state old (with_coordinator old after) stamp now p printed given c r
@@ -118,7 +113,7 @@ module _ {D K : Type 0} (state : D → DiskState) (old : Nodes D K) (n : ℕ) (b
     (placed : counted_at old.resources.items n ≡ Some before) (changed : resources.items ≡ set old.resources.items (n - 1) after) (stands_here : shown.stands_at before.seat.node ≡ place.Res n)
     (same : StaysItself shown.stands_at resource.serves (shown.disks_of state) before.seat.node after.seat.node) (r : Result (Option Letter) RunFault) where
   abbrev ResourceMade : Event → Type 0
-  ResourceMade event = IsMade (resource.StandsAs state) shown.stands_at (shown.disks_of state) shown.needs (shown.size_of state) before after stamp now printed event r
+  ResourceMade event = IsMade (resource.StandsAs state) shown.stands_at (shown.disks_of state) (shown.size_of state) before after stamp now printed event r
 
   resource_here : (c : Comes state old stamp (place.Res n) printed given) → ResourceMade c.event → Entered state old (with_resources old resources) stamp now (place.Res n) printed given c r
   resource_here c made =
@@ -127,17 +122,13 @@ module _ {D K : Type 0} (state : D → DiskState) (old : Nodes D K) (n : ℕ) (b
       subst (λ (m : Member (Resource D) K). IsServer (resource.StandsAs state) (shown.disks_of state) (place.Res n) c.role c.s.disk m c.ms) (same_Some x before (sym found ∙ placed)) kept in
       let sized : HaveSize c.s.disk (shown.disks_of state after.seat.node) = record { first = same.first.size ∙ is.sized.first; second = same.second.size ∙ is.sized.second } in
       let there : counted_at resources.items n ≡ Some after = ap (λ l. counted_at l n) changed ∙ counted_set old.resources.items n after before placed in
-      entered_as state (resource.StandsAs state) shown.stands_at (shown.disks_of state) shown.needs (shown.size_of state) old (with_resources old resources) before after stamp now (place.Res n) printed given c
+      entered_as state (resource.StandsAs state) shown.stands_at (shown.disks_of state) (shown.size_of state) old (with_resources old resources) before after stamp now (place.Res n) printed given c
       stands_here is.member.stands (told_all (shown.disks_of state before.seat.node) c.event is.told)
       (λ step letter e. nodes_resource state c.s old n before after resources placed changed c.role c.there c.ms (moment_by (place.Res n) now c step) refl c.nodes
       (server_enters (resource.StandsAs state) (shown.disks_of state) (place.Res n) c.role c.s.disk shown.stands_at resource.serves before after c.ms now c.why c.event step letter is stands_here same e))
       (λ os elsewhere stands. stand_resource state c.s old n before after resources placed changed c.role c.there c.ms os elsewhere c.nodes stands)
-      (λ missed b. inr (
-        room_resource state c.s before.seat.node is.sized,
-        room_resource state c.s after.seat.node sized,
-        subst (λ (o : Option (Member (Resource D) K)). Blames (place.Res n) c.role (own (place.Res n) c.ms) now c.event (own_faults (member_disks state o)) (room shown.needs (shown.size_of state) before.seat.node)
-            (room shown.needs (shown.size_of state) after.seat.node) missed) (sym there) b,
-      )) r made
+      (λ missed b. inr (subst (λ (o : Option (Member (Resource D) K)). Blames (place.Res n) c.role (own (place.Res n) c.ms) now c.event (member_disks state o) c.s.disk missed) (sym there)
+      (subst (λ k. Blames (place.Res n) c.role (own (place.Res n) c.ms) now c.event (shown.disks_of state after.seat.node) k missed) (size_resource state c.s.disk after.seat.node sized) b))) r made
 
   pub entered_resource : (p : Place) → p ≡ place.Res n → ((event : Event) → event_by printed given ≡ Some event → ResourceMade event)
       → (c : Comes state old stamp p printed given) → Entered state old (with_resources old resources) stamp now p printed given c r
@@ -155,16 +146,16 @@ manager_told m disks Crashed fits = tt
 manager_told m disks (Restarted pick calls) fits = absurd fits
 
 -- it makes no entry for want of memory alone
-only_memory : (m : Settings) (at : Place) (owns : List Own) (now : ℕ) (event : Event) (counted : ℕ) (before after : Room) (missed : RunFault) → ComesTo (ManagerRole m) event
-    → Blames at (ManagerRole m) owns now event counted before after missed → missed ≡ fault.NoMemory
-only_memory m at owns now (Given given) counted before after (fault.Store q) fits b = absurd b.2
-only_memory m at owns now (Given given) counted before after (fault.Full q full) fits b = absurd (let no : None ≡ Some b.1.0 = b.1.1 in cc)
-only_memory m at owns now (Given given) counted before after (fault.Damaged q second offset) fits b = absurd b
-only_memory m at owns now (Given given) counted before after fault.Other fits b = absurd b
-only_memory m at owns now (Given given) counted before after fault.NoMemory fits b = refl
-only_memory m at owns now (Stopped calls) counted before after missed fits b = absurd fits
-only_memory m at owns now Crashed counted before after missed fits b = absurd fits
-only_memory m at owns now (Restarted pick calls) counted before after missed fits b = absurd fits
+only_memory : (m : Settings) (at : Place) (owns : List Own) (now : ℕ) (event : Event) (disks : Pair) (size : ℕ) (missed : RunFault) → ComesTo (ManagerRole m) event
+    → Blames at (ManagerRole m) owns now event disks size missed → missed ≡ fault.NoMemory
+only_memory m at owns now (Given given) disks size (fault.Store q) fits b = absurd b.2
+only_memory m at owns now (Given given) disks size (fault.Full q full) fits b = absurd (let no : None ≡ Some b.1.0 = b.1.1 in cc)
+only_memory m at owns now (Given given) disks size (fault.Damaged q second offset) fits b = absurd b
+only_memory m at owns now (Given given) disks size fault.Other fits b = absurd b
+only_memory m at owns now (Given given) disks size fault.NoMemory fits b = refl
+only_memory m at owns now (Stopped calls) disks size missed fits b = absurd fits
+only_memory m at owns now Crashed disks size missed fits b = absurd fits
+only_memory m at owns now (Restarted pick calls) disks size missed fits b = absurd fits
 
 abbrev pub manager_at : Manager → Place
 manager_at m = place.Man (manager.settings m).number
@@ -172,16 +163,13 @@ manager_at m = place.Man (manager.settings m).number
 abbrev pub manager_disks : Manager → Pair
 manager_disks m = no_disks
 
-abbrev pub manager_needs : Manager → ℕ → ℕ
-manager_needs m body = 0
-
 abbrev pub manager_size : Manager → ℕ
 manager_size m = 0
 
 module _ {D K : Type 0} (state : D → DiskState) (old : Nodes D K) (n : ℕ) (before after : Member Manager K) (managers : Vec (Member Manager K) Global) (stamp now : ℕ) (printed : Cause) (given : Option Input)
     (placed : counted_at old.managers.items n ≡ Some before) (changed : managers.items ≡ set old.managers.items (n - 1) after) (stands_here : manager_at before.seat.node ≡ place.Man n) (r : Result (Option Letter) RunFault) where
   abbrev ManagerMade : Event → Type 0
-  ManagerMade event = IsMade manager.StandsAs manager_at manager_disks manager_needs manager_size before after stamp now printed event r
+  ManagerMade event = IsMade manager.StandsAs manager_at manager_disks manager_size before after stamp now printed event r
 
   manager_here : (c : Comes state old stamp (place.Man n) printed given) → ManagerMade c.event → Entered state old (with_managers old managers) stamp now (place.Man n) printed given c r
   manager_here c made =
@@ -190,13 +178,13 @@ module _ {D K : Type 0} (state : D → DiskState) (old : Nodes D K) (n : ℕ) (b
       let (settings, listed, role_is) = at_manager c.s n c.role c.there in
       let fits : ComesTo (ManagerRole settings) c.event = subst (λ role. ComesTo role c.event) role_is c.fits in
       let told : IsTold no_disks c.event = manager_told settings no_disks c.event fits in
-      entered_as state manager.StandsAs manager_at manager_disks manager_needs manager_size old (with_managers old managers) before after stamp now (place.Man n) printed given c
+      entered_as state manager.StandsAs manager_at manager_disks manager_size old (with_managers old managers) before after stamp now (place.Man n) printed given c
       stands_here is.stands told
       (λ step letter e. nodes_manager state c.s old n before after managers placed changed c.role c.there c.ms (moment_by (place.Man n) now c step) refl c.nodes
       (member_enters manager.StandsAs (place.Man n) c.role manager_at manager_disks before after c.ms now c.why c.event step letter is stands_here told e))
       (λ os elsewhere stands. stand_manager state c.s old n before after managers placed changed c.role c.there c.ms os elsewhere c.nodes stands)
-      (λ missed b. inl (only_memory settings (place.Man n) (own (place.Man n) c.ms) now c.event (own_faults no_disks) (room manager_needs manager_size before.seat.node) (room manager_needs manager_size after.seat.node) missed fits
-      (subst (λ role. Blames (place.Man n) role (own (place.Man n) c.ms) now c.event (own_faults no_disks) (room manager_needs manager_size before.seat.node) (room manager_needs manager_size after.seat.node) missed) role_is b)))
+      (λ missed b. inl (only_memory settings (place.Man n) (own (place.Man n) c.ms) now c.event no_disks 0 missed fits
+      (subst (λ role. Blames (place.Man n) role (own (place.Man n) c.ms) now c.event no_disks 0 missed) role_is b)))
       r made
 
   pub entered_manager : (p : Place) → p ≡ place.Man n → ((event : Event) → event_by printed given ≡ Some event → ManagerMade event)

@@ -33,7 +33,7 @@ use Rattle.replay_runner.specs.Going.{CanGoOn, IsKthManager, IsKthResource, Node
 use Rattle.replay_runner.specs.Members.{IsMade}
 use Rattle.replay_runner.proofs.Entered.{with_coordinator, with_managers, with_resources}
 use Rattle.replay_runner.proofs.Lists.{slice_get-set_other, slice_get-set_same}
-use Rattle.replay_runner.proofs.Making.{manager_at, manager_disks, manager_needs, manager_size}
+use Rattle.replay_runner.proofs.Making.{manager_at, manager_disks, manager_size}
 
 -- ---- entries that stand behind the next one
 
@@ -89,10 +89,10 @@ module _ {N K : Type 0} (left : N → ℕ) (steps stamp now : ℕ) where
     able = let able = g.able in omega (arith, able, counted);
   }
 
-  goes_made : (stands_for : N → Role → List Own → Type 0) (at : N → Place) (disks : N → Pair) (needed : N → ℕ → ℕ) (size : N → ℕ) (old new : Member N K) (why : Cause) (event : Event) (letter : Option Letter)
-      → CanGoOn left steps stamp now old → left old.seat.node ≤ left new.seat.node + 1 → IsMade stands_for at disks needed size old new stamp now why event (Ok letter)
+  goes_made : (stands_for : N → Role → List Own → Type 0) (at : N → Place) (disks : N → Pair) (size : N → ℕ) (old new : Member N K) (why : Cause) (event : Event) (letter : Option Letter)
+      → CanGoOn left steps stamp now old → left old.seat.node ≤ left new.seat.node + 1 → IsMade stands_for at disks size old new stamp now why event (Ok letter)
       → CanGoOn left steps (stamp + 1) now new
-  goes_made stands_for at disks needed size old new why event letter g counted (step, e) = goes_with old new (at old.seat.node) why step g e.printed counted
+  goes_made stands_for at disks size old new why event letter g counted (step, e) = goes_with old new (at old.seat.node) why step g e.printed counted
 
 -- ---- a later moment
 
@@ -128,10 +128,10 @@ module _ {D K : Type 0} (state : D → DiskState) (managers resources stamp now 
   -- of the coordinator
   pub goes_coordinator : (new : Member (Coordinator D) K) (r : Result (Option Letter) RunFault) → coordinator.steps_left old.coordinator.seat.node ≤ coordinator.steps_left new.seat.node + 1
       → StaysItself stepping.stands_at coordinator.serves (coordinator.disks_of state) old.coordinator.seat.node new.seat.node
-      → IsMade (coordinator.StandsAs state) stepping.stands_at (coordinator.disks_of state) coordinator.needs (coordinator.size_of state) old.coordinator new stamp now why event r
+      → IsMade (coordinator.StandsAs state) stepping.stands_at (coordinator.disks_of state) (coordinator.size_of state) old.coordinator new stamp now why event r
       → OnOk r (NodesGo managers resources (stamp + 1) now (with_coordinator old new))
   goes_coordinator new (Ok letter) counted same made = record {
-    coordinator = goes_made coordinator.steps_left NODE_STEPS stamp now (coordinator.StandsAs state) stepping.stands_at (coordinator.disks_of state) coordinator.needs (coordinator.size_of state)
+    coordinator = goes_made coordinator.steps_left NODE_STEPS stamp now (coordinator.StandsAs state) stepping.stands_at (coordinator.disks_of state) (coordinator.size_of state)
         old.coordinator new why event letter g.coordinator counted made;
     serving = λ given may framable. same.same_inputs given (g.serving given may framable);
     resource_count = g.resource_count;
@@ -145,7 +145,7 @@ module _ {D K : Type 0} (state : D → DiskState) (managers resources stamp now 
   module _ (k : ℕ) (before after : Member (Resource D) K) (list : Vec (Member (Resource D) K) Global) (placed : slice_get old.resources.items k ≡ Some before) (changed : list.items ≡ set old.resources.items k after) where
     pub goes_resource : (r : Result (Option Letter) RunFault) → shown.steps_left before.seat.node ≤ shown.steps_left after.seat.node + 1
         → StaysItself shown.stands_at resource.serves (shown.disks_of state) before.seat.node after.seat.node
-        → IsMade (resource.StandsAs state) shown.stands_at (shown.disks_of state) shown.needs (shown.size_of state) before after stamp now why event r
+        → IsMade (resource.StandsAs state) shown.stands_at (shown.disks_of state) (shown.size_of state) before after stamp now why event r
         → OnOk r (NodesGo managers resources (stamp + 1) now (with_resources old list))
     goes_resource (Ok letter) counted same made = record {
       coordinator = next_coordinator;
@@ -160,7 +160,7 @@ module _ {D K : Type 0} (state : D → DiskState) (managers resources stamp now 
         this =
             let kept = g.each_resource k before placed in
             record {
-              goes = goes_made shown.steps_left NODE_STEPS stamp now (resource.StandsAs state) shown.stands_at (shown.disks_of state) shown.needs (shown.size_of state) before after why event letter kept.goes counted made;
+              goes = goes_made shown.steps_left NODE_STEPS stamp now (resource.StandsAs state) shown.stands_at (shown.disks_of state) (shown.size_of state) before after why event letter kept.goes counted made;
               at = same.same_place ∙ kept.at;
               serving = λ given serves. same.same_inputs given (kept.serving given serves);
             }
@@ -178,7 +178,7 @@ module _ {D K : Type 0} (state : D → DiskState) (managers resources stamp now 
   -- of the k-th manager
   module _ (k : ℕ) (before after : Member Manager K) (list : Vec (Member Manager K) Global) (placed : slice_get old.managers.items k ≡ Some before) (changed : list.items ≡ set old.managers.items k after) where
     pub goes_manager : (r : Result (Option Letter) RunFault) → manager.steps_of before.seat.node ≤ manager.steps_of after.seat.node + 1 → manager_at after.seat.node ≡ manager_at before.seat.node
-        → IsMade manager.StandsAs manager_at manager_disks manager_needs manager_size before after stamp now why event r → OnOk r (NodesGo managers resources (stamp + 1) now (with_managers old list))
+        → IsMade manager.StandsAs manager_at manager_disks manager_size before after stamp now why event r → OnOk r (NodesGo managers resources (stamp + 1) now (with_managers old list))
     goes_manager (Ok letter) counted same made = record {
       coordinator = next_coordinator;
       serving = g.serving;
@@ -192,7 +192,7 @@ module _ {D K : Type 0} (state : D → DiskState) (managers resources stamp now 
         this =
             let kept = g.each_manager k before placed in
             record {
-              goes = goes_made manager.steps_of NODE_STEPS stamp now manager.StandsAs manager_at manager_disks manager_needs manager_size before after why event letter kept.goes counted made;
+              goes = goes_made manager.steps_of NODE_STEPS stamp now manager.StandsAs manager_at manager_disks manager_size before after why event letter kept.goes counted made;
               number = same_number (manager.settings after.seat.node).number (manager.settings before.seat.node).number same ∙ kept.number;
             }
           where

@@ -18,7 +18,7 @@ use Rattle.history_rules.specs.ResourceMemory.{Setup, boot_over, memory, opening
 use Rattle.history_rules.specs.Nodes.{Role, counted_at, no_past, role_at}
 use Rattle.history_rules.specs.Nodes.{Coordinator as CoordinatorRole, Manager as ManagerRole, Resource as ResourceRole}
 use Rattle.history_rules.specs.Histories.{Moment, own}
-use Rattle.history_text.specs.Durable.{AreNodeDisks, StandsForLeft, StandsForRecords, keepable, of_coordinator, of_resource, own_faults}
+use Rattle.history_text.specs.Durable.{AreNodeDisks, StandsForLeft, StandsForRecords, keepable, of_coordinator, of_resource}
 use Rattle.history_text.specs.Worlds.{setup_of, world_of}
 use Rattle.coordinator_core.specs.declared.nodes.Coordinator.{Coordinator}
 use Rattle.coordinator_core.specs.Standing as coordinator
@@ -37,7 +37,8 @@ use Rattle.replay_runner.specs.declared.members.Member.{Member}
 use Rattle.replay_runner.specs.declared.nodes.Nodes.{Nodes}
 use Rattle.replay_runner.specs.Leaving.{AreLeft, ShowNoEntry, disks_in, nth_pair, server_at}
 use Rattle.replay_runner.specs.Opened.{AreFirst, IsNewResourceOf, member_pair, server_disks}
-use Rattle.replay_runner.specs.Standing.{AllStand, AreNodes, HasNode, StandsAt, counted_on, member_disks}
+use Rattle.replay_runner.specs.Standing.{AllStand, AreNodes, HasNode, StandsAt, disks_at, member_disks}
+use Rattle.replay_runner.proofs.Blamed.{Alike}
 use Rattle.replay_runner.proofs.Lists.{member_at}
 use Rattle.replay_runner.proofs.Roles.{role_of_resource}
 
@@ -143,13 +144,15 @@ module _ {D K : Type 0} (state : D → DiskState) (s : Scenario) (n : Nodes D K)
   pub all_stand : (ms : List Moment) → AreNodes state s n ms → AllStand state s n ms
   all_stand ms nodes p role e = stands_by s.disk ms p role (nodes.each p role e)
 
-  -- the faults that are counted are those of the disks that are given back
-  pub counted_in : (p : Place) (role : Role) (owns : List Own) → StandsAt state n p role owns → counted_on state n p ≡ own_faults (disks_in node_disks p)
-  counted_in place.Net role owns stands = absurd stands
-  counted_in place.Tc role owns stands = refl
-  counted_in (place.Res k) role owns (m, here, stands) =
-      ap (λ (o : Option (Member (Resource D) K)). own_faults (member_disks state o)) here ∙ sym (ap own_faults (resource_in state n.coordinator.seat.node n.resources.items k m here))
-  counted_in (place.Man k) role owns stands = refl
+  -- the disks of the node at a place are those that are given back
+  pub alike_in : (p : Place) (role : Role) (owns : List Own) → StandsAt state n p role owns → Alike (disks_at state n p) (disks_in node_disks p)
+  alike_in place.Net role owns stands = absurd stands
+  alike_in place.Tc role owns stands = record { first = λ a one. one; second = λ b two. two; faults = refl }
+  alike_in (place.Res k) role owns (m, here, stands) =
+      subst (λ (o : Option (Member (Resource D) K)). Alike (member_disks state o) (disks_in node_disks (place.Res k))) (sym here)
+      (subst (λ (d : Pair). Alike (shown.disks_of state m.seat.node) d) (sym (resource_in state n.coordinator.seat.node n.resources.items k m here))
+      (record { first = λ a one. one; second = λ b two. two; faults = refl }))
+  alike_in (place.Man k) role owns stands = record { first = λ a one. one; second = λ b two. two; faults = refl }
 
 -- ---- disks of nodes that made no entry
 

@@ -15,14 +15,13 @@ use Rattle.history_text.specs.declared.entries.Cause.{Cause}
 use Rattle.history_text.specs.History.{cause_of}
 use Rattle.history_text.specs.Worlds.{world_of}
 use Rattle.node_seat.specs.Entering.{event_by}
-use Rattle.node_seat.specs.Faults.{Blames, Room}
+use Rattle.node_seat.specs.Faults.{Blames}
 use Rattle.node_seat.specs.declared.faults.RunFault.{RunFault}
 use Rattle.node_seat.specs.declared.faults.RunFault.TheVariants as fault
 use Rattle.replay_runner.specs.declared.messages.Letter.{Letter}
 use Rattle.replay_runner.specs.declared.nodes.Nodes.{Nodes}
-use Rattle.replay_runner.specs.Ends.{IsRoom}
 use Rattle.replay_runner.specs.Letters.{letter_of}
-use Rattle.replay_runner.specs.Standing.{AllStand, AreNodes, counted_on}
+use Rattle.replay_runner.specs.Standing.{AllStand, AreNodes, disks_at}
 use Rattle.replay_runner.specs.Steps.{next}
 
 -- The nodes stand for a history of a scenario, and the next entry brings an event to one of them.
@@ -46,9 +45,7 @@ moment_by at now c step = next c.ms at now c.why (Some c.event) step
 -- no entry was made, for a cause of its node or for want of memory, and all nodes stand for the history
 pub record Unmade {D K : Type 0} (state : D → DiskState) (s : Scenario) (new : Nodes D K) (ms : List Moment) (at : Place) (role : Role) (now : ℕ) (event : Event) (missed : RunFault) : Type 0 where
   pub stands : AllStand state s new ms
-  pub before : Room
-  pub after : Room
-  pub cause : (missed ≡ fault.NoMemory) ⊎ (IsRoom s before × IsRoom s after × Blames at role (own at ms) now event (counted_on state new at) before after missed)
+  pub cause : (missed ≡ fault.NoMemory) ⊎ Blames at role (own at ms) now event (disks_at state new at) s.disk missed
 
 -- one was made, and memory for its message was refused
 pub record Unsent {D K : Type 0} (state : D → DiskState) (s : Scenario) (new : Nodes D K) (role : Role) (os : List Moment) (at : Place) (now : ℕ) (event : Event) (moment : Step → Moment) (missed : RunFault) : Type 0 where

@@ -11,7 +11,7 @@ use Rattle.history_rules.specs.Nodes.{Role, Coordinator, Resource, Manager, no_p
 use Rattle.history_rules.specs.Histories.{Moment, own, Legal}
 use Rattle.history_rules.specs.Schedules.{Follows}
 use Rattle.history_text.specs.declared.entries.Entry.{Entry}
-use Rattle.history_text.specs.Durable.{AreCoordinatorDisks, AreNodeDisks, AreResourceDisks, own_faults}
+use Rattle.history_text.specs.Durable.{AreCoordinatorDisks, AreNodeDisks, AreResourceDisks}
 use Rattle.history_text.specs.History.{entries, IsRun}
 use Rattle.history_text.specs.Promises.{no_disks}
 use Rattle.history_text.specs.Worlds.{items_of, world_of}
@@ -66,7 +66,7 @@ pub record Broken (s : Scenario) (disks : List Pair) (missed : RunFault) : Type 
   pub follows : Follows (world_of s) no_past (items_of s) history
   pub count : length disks ≡ length s.resources + 1
   pub device : (p : Place) (role : Role) → role_at (world_of s) no_past p ≡ Some role → AreNodeDisks role (own p history) (disks_in disks p)
-  pub cause : IsCause s history (λ p. own_faults (disks_in disks p)) missed
+  pub cause : IsCause s history (disks_in disks) missed
 
 -- of the first nodes, whose disks these are, none made an entry
 abbrev pub ShowNoEntry : Scenario → List Pair → Type 0
@@ -79,7 +79,7 @@ pub record Unopened (s : Scenario) (disks : List Pair) (missed : RunFault) : Typ
   pub device : ShowNoEntry s disks
   pub role : Role
   pub there : role_at (world_of s) no_past (server_at opened) ≡ Some role
-  pub cause : IsOpenFault role s.disk (own_faults (nth_pair disks opened)) missed
+  pub cause : IsOpenFault role s.disk (nth_pair disks opened) missed
 
 -- what a replay on disks leaves
 abbrev pub Leaves : Scenario → List Pair → Result (List Entry) RunFault → Type 0

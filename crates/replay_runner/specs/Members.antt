@@ -32,12 +32,12 @@ pub record Makes {N K : Type 0} (stands_for : N → Role → List Own → Type 0
   pub sent : IfOk result (λ letter. letter ≡ option_map (letter_from (place old.seat.node) stamp) step.sent)
 
 -- One entry was made at Ok. After a fault none was; or, after want of memory, it was and its message is lost.
-abbrev pub IsMade : {N K : Type 0} → (N → Role → List Own → Type 0) → (N → Place) → (N → Pair) → (N → ℕ → ℕ) → (N → ℕ) → Member N K → Member N K → ℕ → ℕ → Cause → Event
+abbrev pub IsMade : {N K : Type 0} → (N → Role → List Own → Type 0) → (N → Place) → (N → Pair) → (N → ℕ) → Member N K → Member N K → ℕ → ℕ → Cause → Event
     → Result (Option Letter) RunFault → Type 0
-IsMade stands_for place disks needs size old new stamp now why event (Ok letter) =
+IsMade stands_for place disks size old new stamp now why event (Ok letter) =
     (step : Step) × Makes stands_for place disks old new stamp now why event step (Ok letter)
-IsMade stands_for place disks needs size old new stamp now why event (Err missed) =
-    Stays stands_for place disks needs size old.seat.node new.seat.node old.seat.trace new.seat.trace now event missed
+IsMade stands_for place disks size old new stamp now why event (Err missed) =
+    Stays stands_for place disks size old.seat.node new.seat.node old.seat.trace new.seat.trace now event missed
     ⊎ ((missed ≡ fault.NoMemory) × (step : Step) × Makes stands_for place disks old new stamp now why event step (Err missed))
 
 -- the node of this role at a place, after these moments: it stands for its own entries, and its trace is what is printed of them

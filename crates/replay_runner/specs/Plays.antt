@@ -25,7 +25,7 @@ use Rattle.replay_runner.specs.declared.messages.Delivery.{Delivery}
 use Rattle.replay_runner.specs.declared.runs.Run.{Run}
 use Rattle.replay_runner.specs.Ends.{IsCause}
 use Rattle.replay_runner.specs.Letters.{AreMessages, delivery_of, letter_at, letter_of}
-use Rattle.replay_runner.specs.Standing.{AllStand, AreNodes, counted_on}
+use Rattle.replay_runner.specs.Standing.{AllStand, AreNodes, disks_at}
 use Rattle.replay_runner.specs.Steps.{left_of, next}
 use Rattle.replay_runner.specs.Traces.{at, places_of}
 
@@ -48,7 +48,7 @@ pub record Ends {D K : Type 0} (state : D → DiskState) (s : Scenario) (r : Run
   pub legal : Legal (world_of s) no_past history
   pub follows : Follows (world_of s) no_past (items_of s) history
   pub stands : AllStand state s r.nodes history
-  pub cause : IsCause s history (counted_on state r.nodes) missed
+  pub cause : IsCause s history (disks_at state r.nodes) missed
 
 -- ---- one entry
 

@@ -9,7 +9,6 @@ use Rattle.history_rules.specs.Own.{Own}
 use Rattle.history_rules.specs.Devices.{last_pick}
 use Rattle.history_rules.specs.Nodes.{Role, counted_at, no_past, role_at}
 use Rattle.history_rules.specs.Histories.{Moment, own}
-use Rattle.history_text.specs.Durable.{own_faults}
 use Rattle.history_text.specs.Promises.{AreTold, no_disks}
 use Rattle.history_text.specs.Worlds.{world_of}
 use Rattle.coordinator_core.specs.Standing as coordinator
@@ -74,7 +73,3 @@ abbrev pub disks_at : {D K : Type 0} → (D → DiskState) → Nodes D K → Pla
 disks_at state n place.Tc = coordinator.disks_of state n.coordinator.seat.node
 disks_at state n (place.Res k) = member_disks state (counted_at n.resources.items k)
 disks_at state n _ = no_disks
-
--- how many own faults they counted
-abbrev pub counted_on : {D K : Type 0} → (D → DiskState) → Nodes D K → Place → ℕ
-counted_on state n p = own_faults (disks_at state n p)

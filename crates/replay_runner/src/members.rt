@@ -51,7 +51,7 @@ impl<N: Node, K: RunName> Member<N, K> {
         requires moment { now ≤ 2 ^ 63 }
         requires framable { IfSome input ComesFramable }
         ensures made { (event : Event) → event_by cause input ≡ Some event
-            → IsMade N.stands_for N.stands_at N.disks N.needs N.size self.old self.new stamp now cause event result }
+            → IsMade N.stands_for N.stands_at N.disks N.size self.old self.new stamp now cause event result }
         ensures same { StaysItself N.stands_at N.serves N.disks self.old.seat.node self.new.seat.node }
         ensures counted { N.left self.old.seat.node ≤ N.left self.new.seat.node + 1 }
     {

@@ -61,16 +61,13 @@ module _ {D : Type 0} (state : D → DiskState) (d : D) (s : Stoppable D) (same 
         by (inl rose) = subst (λ q. Rose (state q).counts.faults (state (below s')).counts.faults) same rose
         by (inr stuck) = absurd (let no : None ≡ Some 0 = sym (unarmed_still off) ∙ stuck in cc)
 
--- an error is told of disks of the same sizes alike
-undamaged_below : (a b c d : DiskState) (e : OpenError) → a.size ≡ c.size → b.size ≡ d.size → IsUndamaged a b e → IsUndamaged c d e
-undamaged_below a b c d (open_error.Damaged second at) one two is = is
-undamaged_below a b c d (open_error.Full full) one two is = record { past = is.past; size = by is.size }
-  where
-    by : (full.size ≡ a.size) ⊎ (full.size ≡ b.size) → (full.size ≡ c.size) ⊎ (full.size ≡ d.size)
-    by (inl e) = inl (e ∙ one)
-    by (inr e) = inr (e ∙ two)
-undamaged_below a b c d open_error.Failed one two is = tt
-undamaged_below a b c d open_error.NoMemory one two is = tt
+-- an error is told of disks without their stops alike
+undamaged_below : {D : Type 0} (state : D → DiskState) (one two : Stoppable D) (e : OpenError) → IsUndamaged (state_of state one) (state_of state two) e → IsUndamaged (state (below one)) (state (below two)) e
+undamaged_below state one two (open_error.Damaged second at) is = is
+undamaged_below state one two (open_error.Full full) is =
+    record { no_place = record { end = is.no_place.end; held = λ a b first second. is.no_place.held a b first second; past_end = is.no_place.past_end }; size = is.size }
+undamaged_below state one two open_error.Failed is = tt
+undamaged_below state one two open_error.NoMemory is = tt
 
 module _ {D : Type 0} (state : D → DiskState) (law : (d : Stoppable D) → IsLawful (state_of state d)) (number : ℕ) (w : Setup) (first second : D) (s1 s2 : Stoppable D)
     (one : below s1 ≡ first) (two : below s2 ≡ second) (off1 : stop_of s1 ≡ Off) (off2 : stop_of s2 ≡ Off) where
@@ -157,7 +154,7 @@ module _ {D : Type 0} (state : D → DiskState) (law : (d : Stoppable D) → IsL
         → (error ≡ open_error.Failed → HasCause (state_of state s1).counts (state_of state d1).counts ⊎ HasCause (state_of state s2).counts (state_of state d2).counts)
         → HandsBack state first second number w (error, below d1, below d2)
     hands_back recovers damaged failed = record {
-      recovers = λ rs a b is too stands. undamaged_below (state_of state d1) (state_of state d2) (state (below d1)) (state (below d2)) error refl refl
+      recovers = λ rs a b is too stands. undamaged_below state d1 d2 error
           (of_told (λ a b. StandsForRecords t rs a b → IsUndamaged (state_of state d1) (state_of state d2) error) (recovers rs) a b is too stands);
       damaged = of_told (λ a b. IsBootDamage (meaning_of t) a b error) damaged;
       cause = λ e. by (failed e);

@@ -6,10 +6,11 @@ use Rattle.std.proofs.lemmas.Bool.Decides.{nat_tests}
 use Rattle.disk_model.specs.Disk.{DiskState, Counts, IsLawful, SameKind, Rose, last_pick}
 use Rattle.disk_model.specs.Stop.{state_of}
 use Rattle.disk_model.specs.declared.stoppable.Stoppable.{Stoppable}
-use Rattle.disk_journal.specs.Keeping.{IsFull}
 use Rattle.journal_checkpoint.specs.Images.{Pair, FailsItself}
+use Rattle.journal_checkpoint.specs.Ends.{HasNoPlace}
 use Rattle.journal_checkpoint.specs.Keeping.{active_disk, other_disk, is_second}
 use Rattle.memory_store.specs.Keeping.{ComesUp, StaysWhereShort}
+use Rattle.journal_checkpoint.proofs.Ends.{no_place}
 use Rattle.seata_types.specs.declared.acts.Act.{Act}
 use Rattle.seata_types.specs.declared.acts.Act.TheVariants as act
 use Rattle.seata_types.specs.declared.acts.Durable.{Durable}
@@ -42,7 +43,7 @@ use Rattle.resource_core.specs.declared.nodes.Resource.{Resource}
 use Rattle.resource_core.specs.NodeMoving.{ArmsPair, ArmsWith, Boots, kept_of, with_store}
 use Rattle.resource_core.specs.NodeStanding.{IsFallen, IsSound, StandsAs, StandsForEither, StandsOver}
 use Rattle.resource_core.specs.NodeStepping.{RestartsBy}
-use Rattle.resource_core.specs.Shown.{active_of, disks_of, is_down, needs, pair_of, size_of, store_of}
+use Rattle.resource_core.specs.Shown.{active_of, disks_of, is_down, pair_of, size_of, store_of}
 use Rattle.resource_core.proofs.NodeArms.{moved_armed, setup_still}
 use Rattle.resource_core.proofs.NodeDisks.{Moved, false_true, faults_more, fell_for, keeps_images, lost_images, moved, pair_on, passed_left, passed_long}
 use Rattle.resource_core.proofs.NodeStepped.{stays_itself}
@@ -215,11 +216,11 @@ always state r setup past owns s a b one two = by (memory setup past owns).left 
     by left (inl e) = (left.records, e)
     by left (inr (q, is, e)) = (q ∷ left.records, e)
 
-cause_by : (setup : Setup) (past : List ResourceRecord) (failed : Type 0) (needs : ℕ → ℕ) (size : ℕ) (e : OpenError) → IsNoDamage e → (e ≡ open_error.Failed → failed) → IsRestartError (ResourceRole setup past) failed needs size e
-cause_by setup past failed needs size open_error.Failed none fails = fails refl
-cause_by setup past failed needs size (open_error.Damaged second at) none fails = absurd none
-cause_by setup past failed needs size (open_error.Full full) none fails = absurd none
-cause_by setup past failed needs size open_error.NoMemory none fails = tt
+cause_by : (setup : Setup) (past : List ResourceRecord) (failed : Type 0) (pair : Pair) (size : ℕ) (e : OpenError) → IsNoDamage e → (e ≡ open_error.Failed → failed) → IsRestartError (ResourceRole setup past) failed pair size e
+cause_by setup past failed pair size open_error.Failed none fails = fails refl
+cause_by setup past failed pair size (open_error.Damaged second at) none fails = absurd none
+cause_by setup past failed pair size (open_error.Full full) none fails = absurd none
+cause_by setup past failed pair size open_error.NoMemory none fails = tt
 
 -- ---- all that is promised of a restart
 
@@ -261,8 +262,8 @@ module _ {D : Type 0} (state : D → DiskState) (law : (d : Stoppable D) → IsL
       failing : e ≡ open_error.Failed → DisksFail (disks_of state r) (pair_of state s1)
       failing is = either_fails (disks_of state r).first.counts (disks_of state r).second.counts (pair_of state s1).first.counts (pair_of state s1).second.counts up.first.own up.second.own (cause is)
 
-      by : AreTold (disks_of state r) → (role : Role) (owns : List Own) → StandsAs state r role owns → IsRestartError role (DisksFail (disks_of state r) (pair_of state s1)) (needs (with_store r s1)) (size_of state (with_store r s1)) e
-      by told (ResourceRole setup past) owns s = cause_by setup past (DisksFail (disks_of state r) (pair_of state s1)) (needs (with_store r s1)) (size_of state (with_store r s1)) e (recovers told (always state r setup past owns s)) failing
+      by : AreTold (disks_of state r) → (role : Role) (owns : List Own) → StandsAs state r role owns → IsRestartError role (DisksFail (disks_of state r) (pair_of state s1)) (pair_of state s1) (size_of state (with_store r s1)) e
+      by told (ResourceRole setup past) owns s = cause_by setup past (DisksFail (disks_of state r) (pair_of state s1)) (pair_of state s1) (size_of state (with_store r s1)) e (recovers told (always state r setup past owns s)) failing
       by told (Coordinator times past) owns s = absurd s
       by told (Manager settings) owns s = absurd s
 
@@ -531,7 +532,7 @@ module _ {D : Type 0} (state : D → DiskState) (law : (d : Stoppable D) → IsL
     -- ---- the boot isn't made, and nothing more changed
 
     not_booted : (e : OpenError) → (e ≡ open_error.Failed → DisksFail (disks_of state r) (pair_of state s2))
-        → (AreTold (disks_of state r) → (role : Role) (owns : List Own) → StandsAs state r role owns → IsRestartError role (DisksFail (disks_of state r) (pair_of state s2)) (needs r2) (size_of state r2) e)
+        → (AreTold (disks_of state r) → (role : Role) (owns : List Own) → StandsAs state r role owns → IsRestartError role (DisksFail (disks_of state r) (pair_of state s2)) (pair_of state s2) (size_of state r2) e)
         → RestartsBy state r r2 pick calls now (Err e)
     not_booted e failing causes = record {
       restarts = λ told. tt;
@@ -548,15 +549,16 @@ module _ {D : Type 0} (state : D → DiskState) (law : (d : Stoppable D) → IsL
 
     -- a boot that doesn't fit
     too_full : (full : Full) → Changes (state_of state) (boot_record (known s2)) (Err (store_error.Full full)) s2 s2 → AreTold (disks_of state r) → (role : Role) (owns : List Own) → StandsAs state r role owns
-        → IsRestartError role (DisksFail (disks_of state r) (pair_of state s2)) (needs r2) (size_of state r2) (open_error.Full full)
+        → IsRestartError role (DisksFail (disks_of state r) (pair_of state s2)) (pair_of state s2) (size_of state r2) (open_error.Full full)
     too_full full changes told (ResourceRole setup past) owns s =
         let c = brought setup past owns s told in
         let kept = subst (λ (t : Setting). KeepsRecords (state_of state) t (came setup past owns s (kept_of r2)) s2) (sym setting2) c.stands in
-        subst (λ (n : ℕ). IsFull (needs r2 n) (size_of state r2) full) (boot_length ((known s2).boots + 1) (boots past + 1)) (changes.makes (came setup past owns s (kept_of r2)) kept)
+        subst (λ (n : ℕ). HasNoPlace (pair_of state s2) (size_of state r2) n full) (boot_length ((known s2).boots + 1) (boots past + 1))
+        (no_place (state_of state) law kept.found (twin s2) kept.kept.pair (size_of state r2) (length (record_bytes (boot_record (known s2)))) full (changes.makes (came setup past owns s (kept_of r2)) kept))
     too_full full changes told (Coordinator times past) owns s = absurd s
     too_full full changes told (Manager settings) owns s = absurd s
 
-    free : (role : Role) (owns : List Own) → StandsAs state r role owns → IsRestartError role (DisksFail (disks_of state r) (pair_of state s2)) (needs r2) (size_of state r2) open_error.NoMemory
+    free : (role : Role) (owns : List Own) → StandsAs state r role owns → IsRestartError role (DisksFail (disks_of state r) (pair_of state s2)) (pair_of state s2) (size_of state r2) open_error.NoMemory
     free (ResourceRole setup past) owns s = tt
     free (Coordinator times past) owns s = absurd s
     free (Manager settings) owns s = absurd s

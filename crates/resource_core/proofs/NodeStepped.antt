@@ -3,9 +3,10 @@ use Rattle.std.proofs.Common.{◌≡◌, ◌⊎◌, ⊎_elim, inl, ◌+◌, ◌-
 use Rattle.std.specs.List.{AllByRecursion}
 use Rattle.std.specs.Option.{option_and_then}
 use Rattle.disk_model.specs.Disk.{DiskState, IsLawful, SameKind}
-use Rattle.disk_journal.specs.Keeping.{IsFull}
 use Rattle.disk_model.specs.Stop.{state_of}
 use Rattle.disk_model.specs.declared.stoppable.Stoppable.{Stoppable}
+use Rattle.journal_checkpoint.specs.Ends.{HasNoPlace}
+use Rattle.journal_checkpoint.proofs.Ends.{no_place}
 use Rattle.seata_types.specs.declared.acts.Act.{Act}
 use Rattle.seata_types.specs.declared.acts.Act.TheVariants as act
 use Rattle.seata_types.specs.declared.acts.Durable.{Durable}
@@ -33,7 +34,7 @@ use Rattle.resource_log.specs.Records.{record_bytes}
 use Rattle.resource_memory.specs.Known.{Known}
 use Rattle.resource_store.specs.declared.store.Store.{Store}
 use Rattle.resource_store.specs.Answers.{Does, Leaves, outcome}
-use Rattle.resource_store.specs.Keeping.{Changes, Makes, HasRoom as HasRecordRoom, is_down as store_is_down, known, setting_of}
+use Rattle.resource_store.specs.Keeping.{Changes, Makes, HasRoom as HasRecordRoom, is_down as store_is_down, known, setting_of, twin}
 use Rattle.resource_store.specs.Meaning.{IsOf, Opens, Setting}
 use Rattle.record_places.specs.Within.{IsTableWithin}
 use Rattle.resource_core.specs.declared.branches.Branches.{Branches}
@@ -285,16 +286,20 @@ module _ {D : Type 0} (state : D → DiskState) (law : (d : Stoppable D) → IsL
 
   -- ---- a record that doesn't fit
 
-  pub overflows : (full : Full) (b' : Branches (Stoppable D)) → Answers (state_of state) r.branches b' given (Err (error.Full full)) → Overflows (StandsAs state) (needs r) (size_of state r) r given now full
+  pub overflows : (full : Full) (b' : Branches (Stoppable D)) → Answers (state_of state) r.branches b' given (Err (error.Full full)) → Overflows (StandsAs state) (disks_of state r) (size_of state r) r given now full
   overflows full b' a (ResourceRole setup past) owns s =
       let m : Memory = memory setup past owns in
       let h = s.holds (upon setup past owns s) in
       by m h (asked_record setup m given) refl (subst (λ (t : Setup). Does {A = Unit {0}} (state_of state) (asked_record t m given) (Err (store_error.Full full)) (store_of r) b'.store) (sym s.is) (a.steps m h).does)
     where
       by : (m : Memory) → Holds (state_of state) r.branches m → (o : Option ResourceRecord) → asked_record setup m given ≡ o → Does {A = Unit {0}} (state_of state) o (Err (store_error.Full full)) (store_of r) b'.store
-          → (bytes : List ℕ) × (option_map record_bytes (asked_record setup m given) ≡ Some bytes) × IsFull (needs r (length bytes)) (size_of state r) full
+          → (bytes : List ℕ) × (option_map record_bytes (asked_record setup m given) ≡ Some bytes) × HasNoPlace (disks_of state r) (size_of state r) (length bytes) full
       by m h None none does = absurd (let no : store_error.Full full ≡ store_error.NoMemory = does.0 in cc)
-      by m h (Some q) some does = (record_bytes q, ap (option_map record_bytes) some, does.makes m.left.records h.keeps)
+      by m h (Some q) some does = (
+        record_bytes q,
+        ap (option_map record_bytes) some,
+        no_place (state_of state) law h.keeps.found (twin (store_of r)) h.keeps.kept.pair (size_of state r) (length (record_bytes q)) full (does.makes m.left.records h.keeps),
+      )
   overflows full b' a (Coordinator times past) owns s = absurd s
   overflows full b' a (Manager settings) owns s = absurd s
 
@@ -383,7 +388,7 @@ module _ {D : Type 0} (state : D → DiskState) (law : (d : Stoppable D) → IsL
       }
 
   -- nothing changed
-  itself : (e : NodeError) → AfterError (StandsAs state) (DisksFail (disks_of state r) (disks_of state r)) (needs r) (size_of state r) r r given now e → HadRoom state r given now (Err e) → steps_of (Err e) ≡ 0
+  itself : (e : NodeError) → AfterError (StandsAs state) (DisksFail (disks_of state r) (disks_of state r)) (disks_of state r) (size_of state r) r r given now e → HadRoom state r given now (Err e) → steps_of (Err e) ≡ 0
       → goes_down (Err e) ≡ false → StepsBy state r r given now (Err e)
   itself e after room none not = record {
     answers = tt;

@@ -40,7 +40,7 @@ HadRoom state r given now (Err error.NoMemory) = Unit {0}
 pub record StepsBy {D : Type 0} (state : D → DiskState) (old new : Resource D) (given : Input) (now : ℕ) (result : Result Step NodeError) : Type 0 where
   pub answers : IfOk result (TakesStep (StandsAs state) old new given now)
   pub framable : ComesFramable given → IfOk result SendsFramable
-  pub after : IfErr result (AfterError (StandsAs state) (DisksFail (disks_of state old) (disks_of state new)) (needs old) (size_of state old) old new given now)
+  pub after : IfErr result (AfterError (StandsAs state) (DisksFail (disks_of state old) (disks_of state new)) (disks_of state new) (size_of state new) old new given now)
   pub room : HadRoom state old given now result
   pub same : StaysItself stands_at serves (disks_of state) old new
   pub picks : SamePicks (disks_of state old) (disks_of state new)
@@ -65,7 +65,7 @@ pub record RestartsBy {D : Type 0} (state : D → DiskState) (old new : Resource
   pub restarts : AreTold (disks_of state old) → IfOk result (Restarts (StandsAs state) (DisksFail (disks_of state old) (disks_of state new)) old new pick calls now)
   pub after : AreTold (disks_of state old) → OnErr result (StandsAsBefore (StandsAs state) old new)
   pub cause : AreTold (disks_of state old) → (role : Role) (owns : List Own) → StandsAs state old role owns →
-      IfErr result (IsRestartError role (DisksFail (disks_of state old) (disks_of state new)) (needs new) (size_of state new))
+      IfErr result (IsRestartError role (DisksFail (disks_of state old) (disks_of state new)) (disks_of state new) (size_of state new))
   -- one that fails changes no byte where the records are short
   pub not_due : OnErr result (StaysWhereShort (state_of state) (twin (store_of old)) (twin (store_of new)))
   -- its disks came back as this pick may bring them, with a snapshot in place of the records where one was due; then came its boot

@@ -252,7 +252,7 @@ impl<D: Disk> Node for Resource<D> {
     ghost use Rattle.resource_core.specs.NodeStanding.{StandsAs, serves};
     ghost use Rattle.resource_core.specs.NodeStepping.{RestartsBy};
     ghost use Rattle.resource_core.specs.NodeLaws as laws;
-    ghost use Rattle.resource_core.specs.Shown.{stands_at, steps_left, is_down, disks_of, needs, size_of};
+    ghost use Rattle.resource_core.specs.Shown.{stands_at, steps_left, is_down, disks_of, size_of};
 
     ghost stands_for = { StandsAs D.state };
 
@@ -267,8 +267,6 @@ impl<D: Disk> Node for Resource<D> {
     ghost down = { is_down };
 
     ghost disks = { disks_of D.state };
-
-    ghost needs = { needs };
 
     ghost size = { size_of D.state };
 

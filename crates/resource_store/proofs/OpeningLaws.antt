@@ -8,9 +8,12 @@ use Rattle.seata_types.specs.declared.errors.OpenError.TheVariants as open_error
 use Rattle.seata_types.specs.declared.errors.StoreError.{StoreError}
 use Rattle.seata_types.specs.declared.errors.StoreError.TheVariants as store_error
 use Rattle.journal_checkpoint.specs.declared.twin.Twin.{Twin}
+use Rattle.disk_journal.specs.Keeping.{IsFull}
 use Rattle.journal_checkpoint.specs.Images.{LeavesPairs}
+use Rattle.journal_checkpoint.specs.Ends.{HasNoPlace}
 use Rattle.journal_checkpoint.specs.Pairs.{chosen}
-use Rattle.journal_checkpoint.specs.Keeping.{active_disk, other_disk, first_disk, second_disk, is_second, disks}
+use Rattle.journal_checkpoint.specs.Keeping.{active_disk, other_disk, first_disk, second_disk, is_second, disks, needed_for}
+use Rattle.journal_checkpoint.proofs.Ends.{no_place}
 use Rattle.journal_checkpoint.proofs.Kept.{kept_pairs}
 use Rattle.memory_store.specs.Meanings.{Meaning}
 use Rattle.memory_store.specs.Settling.{RunsOn, GoesOn}
@@ -27,7 +30,7 @@ use Rattle.resource_store.specs.declared.store.Store.{Store}
 use Rattle.resource_store.specs.Meaning.{Setting, meaning_of}
 use Rattle.resource_store.specs.Standing.{StandsForRecords}
 use Rattle.resource_store.specs.Keeping.{setting_of, known, twin, is_down, IsTaken, KeepsRecords, WithOrWithout, Makes, Moves, Changes, boot_record, BootsAs, IsNoDamage, GoesOnAs, GoesOnWithBoot, BringsBack, StandsAlways}
-use Rattle.resource_store.specs.Openings.{opening_error, IsBootFull, IsUndamaged, IsBootDamage}
+use Rattle.resource_store.specs.Openings.{opening_error, boot_length, IsBootFull, IsUndamaged, IsBootDamage}
 use Rattle.resource_store.proofs.StoreLaws.{open_keeps, not_damaged, goes_on, counts_boots}
 
 -- ---- a disk that took a record, or failed
@@ -115,19 +118,30 @@ module _ {D : Type 0} (state : D → DiskState) where
   size_by n true x y same = inr same
   size_by n false x y same = inl same
 
-  boot_full : (n : ℕ) (full : Full) (s : Store D) → IsFullFor state n s.kept full → IsBootFull (state (first_disk (twin s))) (state (second_disk (twin s))) full
-  boot_full n full s is = record {
-    past = let a = is.past_end in let b = is.needed_is in let c = is.size_is in omega (arith, a, b, c);
-    size = size_by full.size (twin s).second (active_disk (twin s)) (other_disk (twin s)) is.size_is;
-  }
+  -- the record of a boot has as many bytes for each number
+  boot_bytes : (number : ℕ) → length (record_bytes (log.Boot number)) ≡ boot_length
+  unfolding fields_bytes
+  boot_bytes number = refl
 
-  -- what a boot fails for
-  pub boot_undamaged : (r : ResourceRecord) (rs : List ResourceRecord) (error : StoreError) (old new : Store D) → Makes state r rs (Err error) old new → Moves state (Err error) old new
-      → IsUndamaged (state (first_disk (twin new))) (state (second_disk (twin new))) (opening_error error)
-  boot_undamaged r rs store_error.Failed old new makes moves = tt
-  boot_undamaged r rs (store_error.Full full) old new makes moves =
-      subst (λ s. IsBootFull (state (first_disk (twin s))) (state (second_disk (twin s))) full) (sym moves) (boot_full (length (record_bytes r)) full old makes)
-  boot_undamaged r rs store_error.NoMemory old new makes moves = tt
+  module _ (law : (d : D) → IsLawful (state d)) (t : Setting) (rs : List ResourceRecord) (number : ℕ) where
+    boot_full : (full : Full) (s : Store D) → KeepsRecords state t rs s → IsFullFor state (length (record_bytes (log.Boot number))) s.kept full
+        → IsBootFull (state (first_disk (twin s))) (state (second_disk (twin s))) full
+    boot_full full s k is =
+        let bytes = length (record_bytes (log.Boot number)) in
+        let size : IsFull (needed_for (twin s) bytes) full.size full = subst (λ n. IsFull (needed_for (twin s) bytes) n full) (sym is.size_is) is in
+        record {
+          no_place = subst (λ n. HasNoPlace (record { first = state (first_disk (twin s)); second = state (second_disk (twin s)) }) full.size n full) (boot_bytes number)
+              (no_place state law k.found (twin s) k.kept.pair full.size bytes full size);
+          size = size_by full.size (twin s).second (active_disk (twin s)) (other_disk (twin s)) is.size_is;
+        }
+
+    -- what a boot fails for
+    pub boot_undamaged : (error : StoreError) (old new : Store D) → KeepsRecords state t rs old → Makes state (log.Boot number) rs (Err error) old new → Moves state (Err error) old new
+        → IsUndamaged (state (first_disk (twin new))) (state (second_disk (twin new))) (opening_error error)
+    boot_undamaged store_error.Failed old new k makes moves = tt
+    boot_undamaged (store_error.Full full) old new k makes moves =
+        subst (λ s. IsBootFull (state (first_disk (twin s))) (state (second_disk (twin s))) full) (sym moves) (boot_full full old k makes)
+    boot_undamaged store_error.NoMemory old new k makes moves = tt
 
   -- boots that can't be counted, which no store that keeps records has
   pub boots_uncounted : (s : Store D) (full : Full) → is_down s ≡ false → ((known s).boots + 1 < 2 ^ 32 → ⊥) → Changes state (boot_record (known s)) (Err (store_error.Full full)) s s
@@ -154,9 +168,9 @@ module _ {D : Type 0} (state : D → DiskState) where
         subst (λ r. KeepsRecords state t (r ∷ rs) new) (boot_is rs stands)
         (subst (λ z. KeepsRecords state z (boot_record (known old) ∷ rs) new) same (made.makes rs (kept_now rs stands)).keeps)
 
-    pub boot_refused : (error : StoreError) (new : Store D) → Changes state (boot_record (known old)) (Err error) old new → (rs : List ResourceRecord) → StandsForRecords t rs a b
+    pub boot_refused : ((d : D) → IsLawful (state d)) → (error : StoreError) (new : Store D) → Changes state (boot_record (known old)) (Err error) old new → (rs : List ResourceRecord) → StandsForRecords t rs a b
         → IsUndamaged (state (first_disk (twin new))) (state (second_disk (twin new))) (opening_error error)
-    boot_refused error new made rs stands = boot_undamaged (boot_record (known old)) rs error old new (made.makes rs (kept_now rs stands)) made.disks
+    boot_refused law error new made rs stands = boot_undamaged law t rs ((known old).boots + 1) error old new (keeps rs stands) (made.makes rs (kept_now rs stands)) made.disks
 
     module _ (images : (c d : List ℕ) → (state (first_disk (twin old))).may_leave c → (state (second_disk (twin old))).may_leave d → GoesOnAs t a b c d) where
       either_boot : (new : Store D) (rs : List ResourceRecord) → StandsForRecords t rs a b

@@ -1,13 +1,16 @@
 -- The errors of an opening that adds the record of a boot.
-use Rattle.std.specs.Prelude.{◌≡◌, ◌⊎◌, ◌<◌, List, ℕ, Err}
+use Rattle.std.specs.Prelude.{◌≡◌, ◌⊎◌, List, length, ℕ, Err}
 use Rattle.disk_model.specs.Disk.{DiskState}
+use Rattle.journal_checkpoint.specs.Ends.{HasNoPlace}
 use Rattle.seata_types.specs.declared.errors.Full.{Full}
 use Rattle.seata_types.specs.declared.errors.OpenError.{OpenError}
 use Rattle.seata_types.specs.declared.errors.OpenError.TheVariants as open_error
 use Rattle.seata_types.specs.declared.errors.StoreError.{StoreError}
 use Rattle.seata_types.specs.declared.errors.StoreError.TheVariants as store_error
+use Rattle.durable_records.specs.declared.resources.ResourceRecord.TheVariants as log
 use Rattle.memory_store.specs.Holdings.{memory_on}
 use Rattle.memory_store.specs.Meanings.{Meaning}
+use Rattle.resource_log.specs.Records.{record_bytes}
 
 -- what a store's error is there
 abbrev pub opening_error : StoreError → OpenError
@@ -15,9 +18,13 @@ opening_error store_error.Failed = open_error.Failed
 opening_error (store_error.Full full) = open_error.Full full
 opening_error store_error.NoMemory = open_error.NoMemory
 
--- the record of a boot would end behind the last byte of one of these disks
+-- how many bytes the record of a boot has, of each number
+abbrev pub boot_length : ℕ
+boot_length = length (record_bytes (log.Boot 1))
+
+-- the record of a boot has no place behind those that these disks hold, of which one has so many bytes
 pub record IsBootFull (first second : DiskState) (full : Full) : Type 0 where
-  pub past : full.size < full.needed
+  pub no_place : HasNoPlace (record { first = first; second = second }) full.size boot_length full
   pub size : (full.size ≡ first.size) ⊎ (full.size ≡ second.size)
 
 -- an opening of bytes that stand for records fails for its disks, for want of room or of memory, and never for damage

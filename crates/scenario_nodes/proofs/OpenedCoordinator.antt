@@ -9,7 +9,6 @@ use Rattle.seata_types.specs.declared.limits.TheConstants.{DISK_LEAST}
 use Rattle.seata_types.specs.declared.messages.Input.TheVariants as input
 use Rattle.scenario_reader.specs.declared.scenarios.Scenario.{Scenario}
 use Rattle.session_store.specs.Keeping.{IsNoDamage}
-use Rattle.history_text.specs.Durable.{own_faults}
 use Rattle.history_text.specs.Promises.{AreTold}
 use Rattle.history_text.specs.Worlds.{times_of}
 use Rattle.coordinator_core.specs.declared.nodes.Coordinator.{Coordinator}
@@ -29,7 +28,7 @@ module _ {D : Type 0} (state : D → DiskState) (s : Scenario) (first second : D
 
   module _ (failed : OpenError × D × D) (h : HandsBack state first second managed served failed) where
     blamed : (e : OpenError) → IsNoDamage e → (e ≡ why.Failed → Rose (state first).counts.faults (state failed.1).counts.faults ⊎ Rose (state second).counts.faults (state failed.2).counts.faults)
-        → IsOpenFault (coordinator_role s) s.disk (own_faults (pair_of state (failed.1, failed.2))) (open_fault place.Tc e)
+        → IsOpenFault (coordinator_role s) s.disk (pair_of state (failed.1, failed.2)) (open_fault place.Tc e)
     blamed why.Failed none cause = (refl, rise_counted state failed.1 failed.2 (state first).counts.faults (state second).counts.faults (cause refl))
     blamed (why.Damaged other offset) none cause = absurd none
     blamed (why.Full full) none cause = absurd none

@@ -2,6 +2,7 @@
 use Rattle.std.proofs.Common.{inl, inr, ◌≡◌, ◌⊎◌, ◌≤◌, ℕ, List, [], ◌∷◌, refl, sym, subst, ◌∙◌, arith}
 use Rattle.disk_model.specs.Disk.{DiskState, Rose}
 use Rattle.disk_model.specs.Shelf.{IsBlank}
+use Rattle.journal_checkpoint.specs.Ends.{HasNoPlace}
 use Rattle.seata_types.specs.declared.errors.Full.{Full}
 use Rattle.seata_types.specs.declared.errors.OpenError.{OpenError}
 use Rattle.seata_types.specs.declared.errors.OpenError.TheVariants as why
@@ -12,12 +13,12 @@ use Rattle.scenario_reader.specs.declared.scenarios.ResourceDef.{ResourceDef}
 use Rattle.scenario_reader.specs.declared.scenarios.Scenario.{Scenario}
 use Rattle.history_rules.specs.ResourceMemory.{boot_over, opening_tables}
 use Rattle.history_rules.specs.ResourceMemory.{Setup as RuleSetup}
-use Rattle.history_text.specs.Durable.{StandsForRecords, of_resource, own_faults}
+use Rattle.history_text.specs.Durable.{StandsForRecords, of_resource}
 use Rattle.history_text.specs.Promises.{AreTold}
 use Rattle.history_text.specs.Worlds as worlds
 use Rattle.resource_store.specs.Keeping.{WithOrWithout}
 use Rattle.resource_store.specs.Meaning.{Setting}
-use Rattle.resource_store.specs.Openings.{IsUndamaged}
+use Rattle.resource_store.specs.Openings.{IsUndamaged, boot_length}
 use Rattle.resource_store.specs.Standing as store
 use Rattle.resource_core.specs.declared.nodes.Resource.{Resource}
 use Rattle.resource_core.specs.declared.setup.Setup.{Setup}
@@ -49,10 +50,14 @@ module _ {D : Type 0} (state : D → DiskState) (s : Scenario) (first second : D
 
     blamed : (e : OpenError) → IsUndamaged (state failed.1) (state failed.2) e
         → (e ≡ why.Failed → Rose (state first).counts.faults (state failed.1).counts.faults ⊎ Rose (state second).counts.faults (state failed.2).counts.faults)
-        → IsOpenFault (resource_role s n def) s.disk (own_faults (pair_of state (failed.1, failed.2))) (open_fault (place.Res n) e)
+        → IsOpenFault (resource_role s n def) s.disk (pair_of state (failed.1, failed.2)) (open_fault (place.Res n) e)
     blamed why.Failed none cause = (refl, rise_counted state failed.1 failed.2 (state first).counts.faults (state second).counts.faults (cause refl))
     blamed (why.Damaged other offset) none cause = absurd none
-    blamed (why.Full full) none cause = (refl, refl, same_size full none.size, none.past)
+    blamed (why.Full full) none cause = (
+      refl,
+      subst (λ (n : ℕ). HasNoPlace (pair_of state (failed.1, failed.2)) n boot_length full) (same_size full none.size)
+          (record { end = none.no_place.end; held = λ a b here there. none.no_place.held a b here there; past_end = none.no_place.past_end }),
+    )
     blamed why.NoMemory none cause = tt
 
     either : (a b : List ℕ) → WithOrWithout setting (boot_over []) [] a b

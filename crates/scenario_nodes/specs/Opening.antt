@@ -1,12 +1,12 @@
 -- How the opening of a node ends that gives no node.
-use Rattle.std.specs.Prelude.{◌≡◌, ◌⊎◌, ◌≤◌, ◌<◌, ℕ, Bool, List, [], ◌∷◌}
+use Rattle.std.specs.Prelude.{◌≡◌, ◌⊎◌, ◌≤◌, ℕ, List, [], ◌∷◌}
 use Rattle.disk_model.specs.Disk.{DiskState, Rose}
 use Rattle.journal_checkpoint.specs.Images.{Pair}
 use Rattle.seata_types.specs.declared.ids.Place.{Place}
-use Rattle.history_rules.specs.Nodes.{Role, Coordinator, Resource, Manager, writes_boot}
+use Rattle.history_rules.specs.Nodes.{Role, Coordinator, Resource, Manager}
 use Rattle.history_rules.specs.ResourceMemory.{boot_over, opening_tables}
 use Rattle.history_text.specs.Durable.{StandsForRecords, of_coordinator, of_resource, own_faults}
-use Rattle.history_text.specs.Promises.{place_of}
+use Rattle.history_text.specs.Promises.{BootOverflows, place_of}
 use Rattle.node_seat.specs.declared.faults.RunFault.{RunFault}
 use Rattle.node_seat.specs.declared.faults.RunFault.TheVariants as fault
 use Rattle.scenario_nodes.specs.Shelves.{AllTell, AreGivenBack, Showing, pair_of}
@@ -25,19 +25,19 @@ HaveNoEntry (Resource setup past) disks =
     → StandsForRecords (of_resource (opening_tables setup)) [] a b ⊎ StandsForRecords (of_resource (opening_tables setup)) (boot_over [] ∷ []) a b
 HaveNoEntry (Manager settings) disks = Unit {0}
 
--- Why a node wasn't opened on two blank disks of so many bytes: a fault of theirs was counted; a resource's boot doesn't fit; or
--- memory was refused. Blank disks are never damaged.
-abbrev pub IsOpenFault : Role → (bytes counted : ℕ) → RunFault → Type 0
-IsOpenFault role bytes counted (fault.Store at) = (at ≡ place_of role) × (1 ≤ counted)
-IsOpenFault role bytes counted (fault.Full at full) = (at ≡ place_of role) × (writes_boot role ≡ Bool.true) × (full.size ≡ bytes) × (full.size < full.needed)
-IsOpenFault role bytes counted (fault.Damaged at second offset) = ⊥
-IsOpenFault role bytes counted fault.Other = ⊥
-IsOpenFault role bytes counted fault.NoMemory = Unit {0}
+-- Why a node wasn't opened on two blank disks of so many bytes, as these show it now: a fault of theirs was counted; a resource's boot
+-- doesn't fit; or memory was refused. Blank disks are never damaged.
+abbrev pub IsOpenFault : Role → (bytes : ℕ) → (disks : Pair) → RunFault → Type 0
+IsOpenFault role bytes disks (fault.Store at) = (at ≡ place_of role) × (1 ≤ own_faults disks)
+IsOpenFault role bytes disks (fault.Full at full) = (at ≡ place_of role) × BootOverflows role disks bytes full
+IsOpenFault role bytes disks (fault.Damaged at second offset) = ⊥
+IsOpenFault role bytes disks fault.Other = ⊥
+IsOpenFault role bytes disks fault.NoMemory = Unit {0}
 
 -- a node wasn't opened, and its two disks show it
 pub record IsUnopened (role : Role) (bytes : ℕ) (disks : Pair) (missed : RunFault) : Type 0 where
   pub device : HaveNoEntry role disks
-  pub cause : IsOpenFault role bytes (own_faults disks) missed
+  pub cause : IsOpenFault role bytes disks missed
 
 -- its disks were given back, and show it where they tell their bytes
 pub record GivesBack {D : Type 0} (state : D → DiskState) (new : Showing D) (role : Role) (name : List ℕ) (bytes : ℕ) (missed : RunFault) : Type 0 where

@@ -51,7 +51,7 @@ pub returns-in-Err-start-clause-recovers : goal.returns-in-Err-start-clause-reco
 returns-in-Err-start-clause-recovers g c = λ rs a b is too stands.
     subst (λ (z : g.row.D.Denot × g.row.D.Denot). IsUndamaged (g.D.Disk.state z.0) (g.D.Disk.state z.1) c.opening_error.result) (sym c.into_disks-first.ensures)
     (subst (λ (e : OpenError). IsUndamaged (g.D.Disk.state (first_disk (twin c.start.new.self))) (g.D.Disk.state (second_disk (twin c.start.new.self))) e) (sym c.opening_error.ensures)
-    (boot_refused g.D.Disk.state (setting c.args.resource c.args.schema c.args.opening) a b c.in-Ok.store c.in-Ok.ensures.setting (λ qs p. c.in-Ok.ensures.keeps qs a b is too p) c.in-Err-start.error c.start.new.self c.in-Err-start.ensures rs stands))
+    (boot_refused g.D.Disk.state (setting c.args.resource c.args.schema c.args.opening) a b c.in-Ok.store c.in-Ok.ensures.setting (λ qs p. c.in-Ok.ensures.keeps qs a b is too p) g.met.D.Disk.lawful c.in-Err-start.error c.start.new.self c.in-Err-start.ensures rs stands))
 
 pub returns-in-Err-start-clause-damaged : goal.returns-in-Err-start-clause-damaged
 returns-in-Err-start-clause-damaged g c = λ a b is too.
