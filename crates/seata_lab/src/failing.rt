@@ -1,5 +1,6 @@
 //! Runs of `top` over a reader and over a writer that fail at their second call, and over a shelf without disks.
-ghost use Rattle.std.specs.Prelude.{◌≡◌};
+ghost use Rattle.std.specs.Prelude.{◌≡◌, ◌≤◌};
+ghost use Rattle.disk_model.specs.Disk.{Rose};
 
 use crate::gallery::GALLERY;
 use crate::memory::{MemSink, MemSource};
@@ -50,13 +51,29 @@ impl Write for Stuck {
     }
 }
 
-/// A shelf that gives so many disks, and fails at each later call. It counts those that are given back, and keeps none.
+/// A shelf that gives so many disks, and at each later call fails, or refuses memory. It counts those that are given back, and
+/// keeps none.
 #[derive(Drop)]
 struct Short {
     shelf: MemShelf,
     disks: u32,
+    fails: bool,
     back: u32,
     faults: u64,
+}
+
+impl Short {
+    /// Why no disk is given.
+    fn refusal(&mut self) -> ShelfError
+        ensures failed { result ≡ ShelfError.Failed → Rose self.old.faults self.new.faults }
+        ensures faults { self.old.faults ≤ self.new.faults }
+    {
+        if !self.fails {
+            return ShelfError::NoMemory;
+        }
+        self.faults = self.faults.saturating_add(1);
+        ShelfError::Failed
+    }
 }
 
 impl Shelf for Short {
@@ -74,8 +91,7 @@ impl Shelf for Short {
 
     fn take(&mut self, alloc: Global, name: &str, size: u64) -> Result<MemDisk, ShelfError> {
         if self.disks == 0 {
-            self.faults = self.faults.saturating_add(1);
-            return Err(ShelfError::Failed);
+            return Err(self.refusal());
         }
         self.disks -= 1;
         match self.shelf.take(alloc, name, size) {
@@ -150,8 +166,8 @@ struct Ended {
     faults: u64,
 }
 
-/// A replay over a shelf of so many disks.
-fn over_disks(alloc: Global, input: &str, disks: u32) -> Result<Ended, Fail> {
+/// A replay over a shelf of so many disks, which then fails or refuses memory.
+fn over_disks(alloc: Global, input: &str, disks: u32, fails: bool) -> Result<Ended, Fail> {
     let words = word(alloc, "replay")?;
     let input = Vec::from_slice(alloc, input.as_bytes())?;
     let mut source = MemSource::new(input, Vec::new(alloc));
@@ -161,6 +177,7 @@ fn over_disks(alloc: Global, input: &str, disks: u32) -> Result<Ended, Fail> {
     let mut shelf = Short {
         shelf: MemShelf::new(alloc),
         disks,
+        fails,
         back: 0,
         faults: 0,
     };
@@ -184,11 +201,25 @@ fn a_shelf_that_fails_is_told(rt: HostRuntime) -> Result<(), Fail> {
         (2, "store: bank\n"),
         (3, "store: bank\n"),
     ] {
-        let ended = over_disks(rt.alloc(), asking, disks)?;
+        let ended = over_disks(rt.alloc(), asking, disks, true)?;
         assert_eq!(rt; ended.status, 7);
         assert_eq!(rt; ended.faults, 1);
         assert_eq!(rt; ended.back, disks);
         assert_eq!(rt; ended.written.as_slice(), line.as_bytes());
+    }
+    Ok(())
+}
+
+/// Where memory is refused instead, nothing is told, and each disk that was had is given back too.
+#[test]
+fn a_shelf_without_memory_has_its_disks_back(rt: HostRuntime) -> Result<(), Fail> {
+    let asking = GALLERY[0][0];
+    for disks in 0..4 {
+        let ended = over_disks(rt.alloc(), asking, disks, false)?;
+        assert_eq!(rt; ended.status, 6);
+        assert_eq!(rt; ended.faults, 0);
+        assert_eq!(rt; ended.back, disks);
+        assert_eq!(rt; ended.written.len(), 0);
     }
     Ok(())
 }

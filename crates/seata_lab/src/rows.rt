@@ -426,6 +426,25 @@ reads
 "#,
 ];
 
+/// The same stop, but the restart's pick loses the decision.
+pub const LOST: [&str; 2] = [
+    r#"{"resources":[],"managers":[{"name":"m1","calls":[],"end":"commit"}],"schedule":["turn m1","deliver 1","deliver 2","stop tc 2","deliver 3","restart tc 0"]}"#,
+    r#"entries
+1 m1 0 turn | starts | begin m1 60000 to tc
+2 tc 0 deliver 1 m1 | begun tc:1 | begun tc:1 to m1
+3 m1 0 deliver 2 tc | goes on | commit tc:1 to tc
+4 tc 0 stop 2 | armed | -
+5 tc 0 deliver 3 m1 | down at decided tc:1 commit | -
+6 tc 0 restart 0 | restarted | -
+sessions
+tc:1 m1 1 Begin
+locks
+tables
+fences
+reads
+"#,
+];
+
 /// A message that reaches the coordinator while it is down is lost.
 pub const CRASHED: [&str; 2] = [
     r#"{"resources":[],"managers":[{"name":"m1","calls":[],"end":"commit"}],"schedule":["deliver 9","turn m1","crash tc","deliver 2","restart tc 0"]}"#,
@@ -436,6 +455,59 @@ pub const CRASHED: [&str; 2] = [
 4 tc 0 deliver 2 m1 | lost | -
 5 tc 0 restart 0 | restarted | -
 sessions
+locks
+tables
+fences
+reads
+"#,
+];
+
+/// A transaction that is forgotten at the age that the scenario names, asked for its status and begun again.
+pub const FORGOTTEN_AT_ITS_AGE: [&str; 2] = [
+    r#"{"resources":[],"managers":[{"name":"m1","calls":[],"end":"commit","poll":true}],"schedule":["turn m1","deliver 1","deliver 2","deliver 3","deliver 4","turn tc","turn m1","deliver 7","deliver 8","wait 5","turn tc","deliver 7","deliver 12","deliver 1"],"forget":5}"#,
+    r#"entries
+1 m1 0 turn | starts | begin m1 60000 to tc
+2 tc 0 deliver 1 m1 | begun tc:1 | begun tc:1 to m1
+3 m1 0 deliver 2 tc | goes on | commit tc:1 to tc
+4 tc 0 deliver 3 m1 | decided tc:1 commit | commit-status tc:1 8 to m1
+5 m1 0 deliver 4 tc | closes 8 | -
+6 tc 0 turn | finished tc:1 9 | -
+7 m1 0 turn | polls | status-ask tc:1 to tc
+8 tc 0 deliver 7 m1 | told tc:1 9 | status tc:1 9 to m1
+9 m1 0 deliver 8 tc | learns 9 | -
+10 net 5 wait 5 | none | -
+11 tc 5 turn | forgot tc:1 | -
+12 tc 5 deliver 7 m1 | told tc:1 15 | status tc:1 15 to m1
+13 m1 5 deliver 12 tc | learns 15 | -
+14 tc 5 deliver 1 m1 | known tc:1 | begun tc:1 to m1
+sessions
+locks
+tables
+fences
+reads
+"#,
+];
+
+/// The same a tick before, when it is still known.
+pub const KEPT_BEFORE_ITS_AGE: [&str; 2] = [
+    r#"{"resources":[],"managers":[{"name":"m1","calls":[],"end":"commit","poll":true}],"schedule":["turn m1","deliver 1","deliver 2","deliver 3","deliver 4","turn tc","turn m1","deliver 7","deliver 8","wait 4","turn tc","deliver 7","deliver 12","deliver 1"],"forget":5}"#,
+    r#"entries
+1 m1 0 turn | starts | begin m1 60000 to tc
+2 tc 0 deliver 1 m1 | begun tc:1 | begun tc:1 to m1
+3 m1 0 deliver 2 tc | goes on | commit tc:1 to tc
+4 tc 0 deliver 3 m1 | decided tc:1 commit | commit-status tc:1 8 to m1
+5 m1 0 deliver 4 tc | closes 8 | -
+6 tc 0 turn | finished tc:1 9 | -
+7 m1 0 turn | polls | status-ask tc:1 to tc
+8 tc 0 deliver 7 m1 | told tc:1 9 | status tc:1 9 to m1
+9 m1 0 deliver 8 tc | learns 9 | -
+10 net 4 wait 4 | none | -
+11 tc 4 turn | none | -
+12 tc 4 deliver 7 m1 | told tc:1 9 | status tc:1 9 to m1
+13 m1 4 deliver 12 tc | learns 9 | -
+14 tc 4 deliver 1 m1 | known tc:1 | begun tc:1 to m1
+sessions
+tc:1 m1 9 Committed
 locks
 tables
 fences

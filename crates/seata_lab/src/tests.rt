@@ -5,8 +5,9 @@ use crate::answers::ended;
 use crate::gallery::GALLERY;
 use crate::memory::{MemSink, MemSource};
 use crate::rows::{
-    CHOSEN, COMMIT_IN_TIME, CRASHED, FAULTS, FORGOTTEN, FRAMES, KEPT, LATE_ONES, MADE, NOTHING,
-    POLLED, REPEATED_MESSAGES, ROLLBACK, TIMEOUT, TRANSFER,
+    CHOSEN, COMMIT_IN_TIME, CRASHED, FAULTS, FORGOTTEN, FORGOTTEN_AT_ITS_AGE, FRAMES, KEPT,
+    KEPT_BEFORE_ITS_AGE, LATE_ONES, LOST, MADE, NOTHING, POLLED, REPEATED_MESSAGES, ROLLBACK,
+    TIMEOUT, TRANSFER,
 };
 use crate::tops::top;
 use disk_model::MemShelf;
@@ -86,7 +87,10 @@ fn replays(rt: HostRuntime) -> Result<(), Fail> {
         LATE_ONES,
         POLLED,
         FORGOTTEN,
+        FORGOTTEN_AT_ITS_AGE,
+        KEPT_BEFORE_ITS_AGE,
         KEPT,
+        LOST,
         CRASHED,
         CHOSEN,
     ] {
@@ -132,6 +136,18 @@ fn crowd(alloc: Global, managers: u32, last: u32) -> Result<String, Fail>
     )?)
 }
 
+/// The end of a report of so many managers, each of which began a transaction.
+fn all_begun(alloc: Global, managers: u32) -> Result<String, Fail>
+    requires { managers ≤ 1000 }
+{
+    let mut text = String::from_str(alloc, "\nsessions\n")?;
+    for k in 1..=managers {
+        writeln!(text, "tc:{k} m{k} 1 Begin")?;
+    }
+    text.push_str("locks\ntables\nfences\nreads\n")?;
+    Ok(text)
+}
+
 /// So many managers fit on the disks, and one more doesn't.
 fn expect_full(
     rt: &impl Abort,
@@ -145,6 +161,8 @@ fn expect_full(
     let few = crowd(alloc, fitting, last)?;
     let ran = run(alloc, &["replay"], few.as_bytes(), SOUND)?;
     assert_eq!(rt; ran.status, 0);
+    let begun = all_begun(alloc, fitting)?;
+    assert_eq!(rt; ran.written.as_slice().ends_with(begun.as_bytes()), true);
     let many = crowd(alloc, fitting + 1, last)?;
     let ran = run(alloc, &["replay"], many.as_bytes(), SOUND)?;
     expect(rt, &ran, 8, line);
