@@ -36,7 +36,7 @@ use Rattle.replay_runner.proofs.Blamed.{blames_alike}
 use Rattle.replay_runner.proofs.Closed.{both_stay, coordinator_back, count_servers, none_back, one_back}
 use Rattle.replay_runner.proofs.Gathered.{gathered}
 use Rattle.replay_runner.proofs.Lists.{drop_all}
-use Rattle.replay_runner.proofs.Shown.{all_left, all_show, all_stand, alike_in, count_disks, first_show, none_show, nth_end, one_shows, place_behind, role_behind, show_more}
+use Rattle.replay_runner.proofs.Shown.{all_left, all_sized, all_show, all_stand, alike_in, count_disks, first_show, none_show, nth_end, one_shows, place_behind, role_behind, show_more}
 
 -- ---- a whole schedule
 
@@ -98,6 +98,7 @@ module _ {D K : Type 0} (state : D → DiskState) (s : Scenario) (r : Run D K) w
       };
       printed = printed;
       device = all_left state s r.nodes ms t.nodes;
+      sized = all_sized state s r.nodes ms t.nodes;
     }
 
     -- memory was refused once all was played

@@ -30,12 +30,12 @@ use Rattle.resource_core.specs.Shown as shown
 use Rattle.manager_core.specs.declared.nodes.Manager.{Manager}
 use Rattle.manager_core.specs.Standing as manager
 use Rattle.node_seat.specs.Entering.{HaveLast}
-use Rattle.scenario_nodes.specs.Nodes.{IsNewCoordinator, coordinator_disks, coordinator_role, resource_disks, resource_role}
+use Rattle.scenario_nodes.specs.Nodes.{HaveSize, IsNewCoordinator, coordinator_disks, coordinator_role, resource_disks, resource_role}
 use Rattle.scenario_nodes.specs.Opening.{HaveNoEntry}
 use Rattle.scenario_nodes.specs.Shelves.{AllTell, pair_of}
 use Rattle.replay_runner.specs.declared.members.Member.{Member}
 use Rattle.replay_runner.specs.declared.nodes.Nodes.{Nodes}
-use Rattle.replay_runner.specs.Leaving.{AreLeft, ShowNoEntry, disks_in, nth_pair, server_at}
+use Rattle.replay_runner.specs.Leaving.{AreLeft, AreSized, ShowNoEntry, disks_in, nth_pair, server_at}
 use Rattle.replay_runner.specs.Opened.{AreFirst, IsNewResourceOf, member_pair, server_disks}
 use Rattle.replay_runner.specs.Standing.{AllStand, AreNodes, HasNode, StandsAt, disks_at, member_disks}
 use Rattle.replay_runner.proofs.Blamed.{Alike}
@@ -73,6 +73,12 @@ module _ {D : Type 0} (state : D → DiskState) where
 
   manager_role_is : (m : Manager) (role : Role) (owns : List Own) (disks : Pair) → manager.StandsAs m role owns → AreNodeDisks role owns disks × AreLeft role owns disks
   manager_role_is m role owns disks stands = subst (λ r. AreNodeDisks r owns disks × AreLeft r owns disks) (sym stands.0) (tt, tt)
+
+-- disks of so many bytes are so of any role
+sized_as : (role : Role) (bytes : ℕ) (disks : Pair) → HaveSize bytes disks → AreSized role bytes disks
+sized_as (CoordinatorRole times past) bytes disks sized = sized
+sized_as (ResourceRole setup past) bytes disks sized = sized
+sized_as (ManagerRole settings) bytes disks sized = tt
 
 -- ---- among the disks of all
 
@@ -134,6 +140,17 @@ module _ {D K : Type 0} (state : D → DiskState) (s : Scenario) (n : Nodes D K)
 
   pub all_left : (ms : List Moment) → AreNodes state s n ms → (p : Place) (role : Role) → role_at (world_of s) no_past p ≡ Some role → AreLeft role (own p ms) (disks_in node_disks p)
   all_left ms nodes p role e = leaves_at s.disk ms p role (nodes.each p role e)
+
+  sized_at : (bytes : ℕ) (ms : List Moment) (p : Place) (role : Role) → HasNode state bytes n ms p role → AreSized role bytes (disks_in node_disks p)
+  sized_at bytes ms place.Net role has = absurd has
+  sized_at bytes ms place.Tc role has = sized_as role bytes (pair_of state (coordinator_disks n.coordinator.seat.node)) (record { first = has.sized.first; second = has.sized.second })
+  sized_at bytes ms (place.Res k) role (m, here, is) =
+      subst (λ (d : Pair). AreSized role bytes d) (sym (resource_in state n.coordinator.seat.node n.resources.items k m here))
+      (sized_as role bytes (pair_of state (resource_disks m.seat.node)) (record { first = is.sized.first; second = is.sized.second }))
+  sized_at bytes ms (place.Man k) role (m, here, is) = subst (λ r. AreSized r bytes (disks_in node_disks (place.Man k))) (sym is.stands.0) tt
+
+  pub all_sized : (ms : List Moment) → AreNodes state s n ms → (p : Place) (role : Role) → role_at (world_of s) no_past p ≡ Some role → AreSized role s.disk (disks_in node_disks p)
+  all_sized ms nodes p role e = sized_at s.disk ms p role (nodes.each p role e)
 
   stands_by : (bytes : ℕ) (ms : List Moment) (p : Place) (role : Role) → HasNode state bytes n ms p role → StandsAt state n p role (own p ms)
   stands_by bytes ms place.Net role has = absurd has

@@ -16,6 +16,7 @@ use Rattle.history_text.specs.History.{entries, IsRun}
 use Rattle.history_text.specs.Promises.{no_disks}
 use Rattle.history_text.specs.Worlds.{items_of, world_of}
 use Rattle.node_seat.specs.declared.faults.RunFault.{RunFault}
+use Rattle.scenario_nodes.specs.Nodes.{HaveSize}
 use Rattle.scenario_nodes.specs.Opening.{HaveNoEntry, IsOpenFault, IsShelfFault}
 use Rattle.scenario_nodes.specs.Shelves.{AllTell, AreGivenBack, coordinator_name, pair_of}
 use Rattle.replay_runner.specs.Ends.{IsCause}
@@ -51,12 +52,19 @@ AreLeft (Coordinator times past) os disks = AreCoordinatorDisks past os 0 disks
 AreLeft (Resource setup past) os disks = AreResourceDisks setup past os 0 disks
 AreLeft (Manager settings) os disks = Unit {0}
 
--- the history of the whole schedule was made, these are its entries, and the disks of each node show it
+-- the two disks of a node have so many bytes each
+abbrev pub AreSized : Role → ℕ → Pair → Type 0
+AreSized (Coordinator times past) bytes disks = HaveSize bytes disks
+AreSized (Resource setup past) bytes disks = HaveSize bytes disks
+AreSized (Manager settings) bytes disks = Unit {0}
+
+-- the history of the whole schedule was made, these are its entries, and the disks of each node, of the scenario's size, show it
 pub record Done (s : Scenario) (disks : List Pair) (es : List Entry) : Type 0 where
   pub history : List Moment
   pub is_run : IsRun s history
   pub printed : es ≡ entries history
   pub device : (p : Place) (role : Role) → role_at (world_of s) no_past p ≡ Some role → AreLeft role (own p history) (disks_in disks p)
+  pub sized : (p : Place) (role : Role) → role_at (world_of s) no_past p ≡ Some role → AreSized role s.disk (disks_in disks p)
 
 -- the replay ended by a fault: the history that it made up to there is legal and follows the schedule, and the disks of each node show its
 -- records and counted faults

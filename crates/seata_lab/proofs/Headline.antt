@@ -46,6 +46,7 @@ module _ {D : Type 0} (state : D → DiskState) (tells : Bool) (given_back : Lis
         is_safe = run_is_safe s d.history runs d.is_run.legal;
         is_report = report d.history d.is_run.legal (sym d.printed) (omega (arith, size, few));
         device = d.device;
+        sized = d.sized;
       }
 
   of_end : (ended : Result (List Entry) RunFault) → Replayed state tells given_back rose s ended → IsEndText s ended text 0 → Done state tells given_back s text

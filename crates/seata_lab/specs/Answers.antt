@@ -13,7 +13,7 @@ use Rattle.seata_types.specs.declared.ids.Place.{Place}
 use Rattle.node_seat.specs.declared.faults.RunFault.{RunFault}
 use Rattle.node_seat.specs.declared.faults.RunFault.TheVariants as run_fault
 use Rattle.scenario_nodes.specs.Shelves.{AllTell, pair_of}
-use Rattle.replay_runner.specs.Leaving.{AreLeft, FirstGivenBack, disks_in}
+use Rattle.replay_runner.specs.Leaving.{AreLeft, AreSized, FirstGivenBack, disks_in}
 use Rattle.report_text.specs.Following.{Reports}
 use Rattle.history_rules.specs.Nodes.{Role, no_past, role_at}
 use Rattle.history_rules.specs.Histories.{Moment, own}
@@ -141,13 +141,14 @@ abbrev pub replay_statuses : List ℕ
 replay_statuses = 0 ∷ 3 ∷ 7 ∷ 8 ∷ 9 ∷ []
 
 -- where the shelf's disks tell their bytes: a legal and safe history of the whole schedule has this report, and the disks of each node
--- that were given back show it
+-- that were given back, of the scenario's size, show it
 pub record Reported {D : Type 0} (state : D → DiskState) (s : Scenario) (disks : List (D × D)) (text : List ℕ) : Type 0 where
   pub history : List Moment
   pub is_run : IsRun s history
   pub is_safe : IsSafeHistory (world_of s) no_past history
   pub is_report : text ≡ report s history
   pub device : (p : Place) (role : Role) → role_at (world_of s) no_past p ≡ Some role → AreLeft role (own p history) (disks_in (map (pair_of state) disks) p)
+  pub sized : (p : Place) (role : Role) → role_at (world_of s) no_past p ≡ Some role → AreSized role s.disk (disks_in (map (pair_of state) disks) p)
 
 -- what a replay tells: its input was read to its end and is a scenario; its disks were given back, and the sink got the text of how
 -- it ended
