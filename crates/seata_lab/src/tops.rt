@@ -123,8 +123,8 @@ pub fn frames_once<S: Source, K: Sink>(alloc: Global, source: &mut S, sink: &mut
 const USAGE: &str = "usage: seata_lab replay | run | make | stress | frames | audit | show\n";
 
 /// Does what the words ask for: `replay` replays the scenario of the source and writes the report, `frames` writes a line
-/// for each frame of the source. Other words are answered with the usage line and status 2. The disks that were taken are given
-/// back, whatever the words and the status.
+/// for each frame of the source. Other words are answered with the usage line and status 2. What `replay_once` says
+/// of the disks that were taken holds whatever the words and the status.
 pub fn top<S: Source, K: Sink, H: Shelf>(
     alloc: Global,
     words: &[Text],
