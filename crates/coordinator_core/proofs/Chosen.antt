@@ -6,7 +6,7 @@ use Rattle.std.proofs.lemmas.Bool.Decides.{nat_tests}
 use Rattle.seata_types.specs.declared.acts.Act.TheVariants as act
 use Rattle.seata_types.specs.declared.ids.Place.TheVariants as place
 use Rattle.seata_types.specs.declared.ids.Xid.{Xid}
-use Rattle.seata_types.specs.declared.limits.TheConstants.{MANAGERS, CALLS}
+use Rattle.seata_types.specs.declared.limits.TheConstants.{MANAGERS, CALLS, LATEST_MOMENT}
 use Rattle.seata_types.specs.declared.messages.Message.TheVariants as message
 use Rattle.durable_records.specs.declared.coordinators.SessionRecord.{SessionRecord}
 use Rattle.durable_records.specs.declared.coordinators.SessionRecord.TheVariants as log
@@ -132,7 +132,7 @@ module _ (rs : List SessionRecord) (a : Allowed rs) (l : AnswersAlike rs) where
 
   -- ---- what is due
 
-  module _ (turns : Plans) (due_at : ℕ → ℕ) (now : ℕ) (in_time : now ≤ 2 ^ 63) (planned : (x : ℕ) → moment_of turns x ≡ (if goes rs x then Some (kept_moment (due_at x)) else None)) where
+  module _ (turns : Plans) (due_at : ℕ → ℕ) (now : ℕ) (in_time : now ≤ LATEST_MOMENT) (planned : (x : ℕ) → moment_of turns x ≡ (if goes rs x then Some (kept_moment (due_at x)) else None)) where
     abbrev pub moment : ℕ → Option ℕ
     moment x = if goes rs x && nat_le (due_at x) now then Some (due_at x) else None
 

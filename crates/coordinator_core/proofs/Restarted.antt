@@ -9,6 +9,7 @@ use Rattle.disk_model.specs.declared.stoppable.Stoppable.{Stoppable}
 use Rattle.journal_checkpoint.specs.Images.{Pair, FailsItself}
 use Rattle.journal_checkpoint.specs.Keeping.{active_disk, other_disk, first_disk, second_disk, is_second}
 use Rattle.memory_store.specs.Keeping.{ComesUp, IsDamage, IsNotFull, IsTold, StaysWhereShort}
+use Rattle.seata_types.specs.declared.limits.TheConstants.{LATEST_MOMENT}
 use Rattle.seata_types.specs.declared.acts.Act.{Act}
 use Rattle.seata_types.specs.declared.acts.Act.TheVariants as act
 use Rattle.seata_types.specs.declared.acts.Durable.{Durable}
@@ -401,7 +402,7 @@ module _ {D : Type 0} (state : D → DiskState) (law : (d : Stoppable D) → IsL
         free (Manager settings) owns s = absurd s
 
     -- it came back, and is armed where calls are given
-    module _ (back : IsTold (disks_of state c).first → IsTold (disks_of state c).second → BringsBack (state_of state) pick (sessions_of c) s1) (in_time : now ≤ 2 ^ 63) where
+    module _ (back : IsTold (disks_of state c).first → IsTold (disks_of state c).second → BringsBack (state_of state) pick (sessions_of c) s1) (in_time : now ≤ LATEST_MOMENT) where
       pub is_back : (c1 c2 c' : Coordinator D) → sessions_of c1 ≡ s1 → SameRest c c1 → StartsAgain now c1 c2 → ArmsWith state calls c2 c' → (kept : Option Durable) → kept ≡ kept_of c'
           → RestartsBy state c c' pick calls now (Ok (act.Restarted kept))
       is_back c1 c2 c' is rest starts_again arms kept kept_is = subst (λ k. RestartsBy state c c' pick calls now (Ok (act.Restarted k))) (sym kept_is) (record {

@@ -2,6 +2,7 @@
 use Rattle.std.proofs.Common.{◌≡◌, ◌&&◌, ◌<◌, ◌≤◌, ◌+◌, ◌^◌, ℕ, Bool, true, false, if◌then◌else◌, List, length, Option, Some, None, option_map, is_some, refl, sym, ap, subst, ◌∙◌}
 use Rattle.std.specs.Prelude.{find, nat_le, nat_lt}
 use Rattle.std.specs.Option.{option_and_then}
+use Rattle.seata_types.specs.declared.limits.TheConstants.{LATEST_MOMENT}
 use Rattle.seata_types.specs.declared.acts.Act.TheVariants as act
 use Rattle.seata_types.specs.declared.acts.Durable.TheVariants as durable
 use Rattle.seata_types.specs.declared.ids.Xid.{Xid}
@@ -104,7 +105,7 @@ module _ (t : Knowledge) (now : ℕ) (owns : Course) (s : Follows t owns) where
   pub late_none : option_map xid_of (find (is_late_entry now) t.memory.sessions) ≡ None → late_at (times_in t) now owns ≡ None
   late_none is = no_number _ _ late_is is
 
-  module _ (in_time : now ≤ 2 ^ 63) where
+  module _ (in_time : now ≤ LATEST_MOMENT) where
     pub due_found : (x : Xid) → TellsDue t.moments.turns now (Some x) → late_at (times_in t) now owns ≡ None → IsDue (times_in t) now x.0 owns
     due_found x f none =
         (none, (f.moment, due_first stood s.tracks.allowed (alike t owns s) t.moments.turns (due_on t.retry owns) now in_time s.tracks.planned x.0 f))

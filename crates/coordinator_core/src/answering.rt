@@ -9,6 +9,7 @@ use std::alloc::Global;
 
 impl<D: Disk> Table<D> {
     ghost use Rattle.std.specs.Prelude.{◌≡◌, ◌≤◌, ◌^◌, ◌&&◌, not, true, false, IfOk};
+    ghost use Rattle.seata_types.specs.declared.limits.TheConstants.{LATEST_MOMENT};
     ghost use Rattle.seata_types.specs.declared.acts.Act.TheVariants as act;
     ghost use Rattle.seata_types.specs.declared.acts.Durable.TheVariants as durable;
     ghost use Rattle.seata_types.specs.declared.messages.Input.TheVariants as input;
@@ -35,7 +36,7 @@ impl<D: Disk> Table<D> {
         now: u64,
     ) -> Result<Step, NodeError>
         requires up { is_down self.old.sessions ≡ false }
-        requires moment { now ≤ 2 ^ 63 }
+        requires moment { now ≤ LATEST_MOMENT }
         ensures answers { Answers D.state self.old self.new (input.Message from (message.BranchCommitted leg.xid leg.branch status stmt)) now result }
         ensures framable { Frames (input.Message from (message.BranchCommitted leg.xid leg.branch status stmt)) result }
     {
@@ -56,7 +57,7 @@ impl<D: Disk> Table<D> {
         now: u64,
     ) -> Result<Step, NodeError>
         requires up { is_down self.old.sessions ≡ false }
-        requires moment { now ≤ 2 ^ 63 }
+        requires moment { now ≤ LATEST_MOMENT }
         ensures answers { Answers D.state self.old self.new (input.Message from (message.BranchRollbacked leg.xid leg.branch status stmt)) now result }
         ensures framable { Frames (input.Message from (message.BranchRollbacked leg.xid leg.branch status stmt)) result }
     {
@@ -101,7 +102,7 @@ impl<D: Disk> Table<D> {
         now: u64,
     ) -> Result<Step, NodeError>
         requires up { is_down self.old.sessions ≡ false }
-        requires moment { now ≤ 2 ^ 63 }
+        requires moment { now ≤ LATEST_MOMENT }
         requires open { is_open (memory self.old) leg.xid.0 leg.branch.0 ≡ true }
         ensures answers { AnswersAs D.state (λ rs. end_answer rs leg.xid leg.branch status stmt) self.old self.new now result }
         ensures framable { IfOk result SendsFramable }
@@ -120,7 +121,7 @@ impl<D: Disk> Table<D> {
     // The branch is done.
     fn ended(&mut self, alloc: Global, leg: Leg, now: u64) -> Result<Step, NodeError>
         requires up { is_down self.old.sessions ≡ false }
-        requires moment { now ≤ 2 ^ 63 }
+        requires moment { now ≤ LATEST_MOMENT }
         requires open { is_open (memory self.old) leg.xid.0 leg.branch.0 ≡ true }
         ensures answers { AnswersAs D.state (λ rs. own.still (act.Durable (durable.Ended leg.xid leg.branch))) self.old self.new now result }
         ensures framable { IfOk result SendsFramable }
@@ -141,7 +142,7 @@ impl<D: Disk> Table<D> {
     // The branch failed for good, and with it the second phase of its transaction.
     fn failed(&mut self, alloc: Global, leg: Leg, stmt: u16, now: u64) -> Result<Step, NodeError>
         requires up { is_down self.old.sessions ≡ false }
-        requires moment { now ≤ 2 ^ 63 }
+        requires moment { now ≤ LATEST_MOMENT }
         requires open { is_open (memory self.old) leg.xid.0 leg.branch.0 ≡ true }
         ensures answers { AnswersAs D.state (λ rs. own.still (act.Durable (durable.Failed leg.xid leg.branch stmt))) self.old self.new now result }
         ensures framable { IfOk result SendsFramable }
@@ -162,7 +163,7 @@ impl<D: Disk> Table<D> {
     // The branch is to be asked again, which may change the status of its transaction.
     fn retry_later(&mut self, alloc: Global, leg: Leg, now: u64) -> Result<Step, NodeError>
         requires up { is_down self.old.sessions ≡ false }
-        requires moment { now ≤ 2 ^ 63 }
+        requires moment { now ≤ LATEST_MOMENT }
         requires open { is_open (memory self.old) leg.xid.0 leg.branch.0 ≡ true }
         ensures answers { AnswersAs D.state (λ rs. retry_answer rs leg.xid leg.branch (may_retry rs leg.xid.0)) self.old self.new now result }
         ensures framable { IfOk result SendsFramable }

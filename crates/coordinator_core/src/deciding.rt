@@ -19,6 +19,7 @@ use std::alloc::Global;
 
 impl<D: Disk> Table<D> {
     ghost use Rattle.std.specs.Prelude.{◌≡◌, ◌≤◌, ◌^◌, true, false, Ok};
+    ghost use Rattle.seata_types.specs.declared.limits.TheConstants.{LATEST_MOMENT};
     ghost use Rattle.seata_types.specs.declared.messages.Input.TheVariants as input;
     ghost use Rattle.seata_types.specs.declared.messages.Message.TheVariants as message;
     ghost use Rattle.durable_records.specs.SessionOrder.{is_counted};
@@ -35,7 +36,7 @@ impl<D: Disk> Table<D> {
         now: u64,
     ) -> Result<Step, NodeError>
         requires up { is_down self.old.sessions ≡ false }
-        requires moment { now ≤ 2 ^ 63 }
+        requires moment { now ≤ LATEST_MOMENT }
         requires manager { is_counted (managers_of self.old.sessions) manager ≡ true }
         ensures answers { Answers D.state self.old self.new (input.Message from (message.Begin manager timeout)) now result }
         ensures framable { Frames (input.Message from (message.Begin manager timeout)) result }
@@ -71,7 +72,7 @@ impl<D: Disk> Table<D> {
         now: u64,
     ) -> Result<Step, NodeError>
         requires up { is_down self.old.sessions ≡ false }
-        requires moment { now ≤ 2 ^ 63 }
+        requires moment { now ≤ LATEST_MOMENT }
         ensures answers { Answers D.state self.old self.new (input.Message from (message.GlobalCommit xid)) now result }
         ensures framable { Frames (input.Message from (message.GlobalCommit xid)) result }
     {
@@ -95,7 +96,7 @@ impl<D: Disk> Table<D> {
         now: u64,
     ) -> Result<Step, NodeError>
         requires up { is_down self.old.sessions ≡ false }
-        requires moment { now ≤ 2 ^ 63 }
+        requires moment { now ≤ LATEST_MOMENT }
         ensures answers { Answers D.state self.old self.new (input.Message from (message.GlobalRollback xid)) now result }
         ensures framable { Frames (input.Message from (message.GlobalRollback xid)) result }
     {

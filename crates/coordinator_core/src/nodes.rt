@@ -45,7 +45,7 @@ impl<D: Disk> Coordinator<D> {
     ghost use Rattle.session_log.specs.SnapshotOf.{snapshot_of};
     ghost use Rattle.journal_checkpoint.specs.Keeping.{active_disk, first_disk, second_disk};
     ghost use Rattle.disk_model.specs.Stop.{below};
-    ghost use Rattle.seata_types.specs.declared.limits.TheConstants.{MANAGERS};
+    ghost use Rattle.seata_types.specs.declared.limits.TheConstants.{MANAGERS, LATEST_MOMENT};
     ghost use Rattle.coordinator_core.specs.Opening.{IsOpened, HandsBack};
     ghost use Rattle.coordinator_core.specs.Standing.{StandsOver, start_of, times_of, steps_left, serves, is_down, sessions_of, course, unended_sessions};
     ghost use Rattle.coordinator_core.specs.Costs.{InputCosts};
@@ -171,7 +171,7 @@ impl<D: Disk> Coordinator<D> {
     ) -> Result<Step, NodeError>
         requires up { is_down self.old ≡ false }
         requires able { 0 < steps_left self.old }
-        requires moment { now ≤ 2 ^ 63 }
+        requires moment { now ≤ LATEST_MOMENT }
         requires served { serves self.old input }
         ensures steps { StepsBy D.state self.old self.new input now result }
         ensures start { start_of self.new ≡ start_of self.old }
@@ -218,7 +218,7 @@ impl<D: Disk> Coordinator<D> {
         requires some { 0 < blank.parts }
         requires up { is_down self.old ≡ false }
         requires able { 0 < steps_left self.old }
-        requires moment { now ≤ 2 ^ 63 }
+        requires moment { now ≤ LATEST_MOMENT }
         requires served { serves self.old input }
         ensures { StepsBy D.state self.old self.new input now result }
     {
@@ -229,7 +229,7 @@ impl<D: Disk> Coordinator<D> {
     fn step_uncounted(&mut self, alloc: Global, input: Input, now: u64) -> Result<Step, NodeError>
         requires up { is_down self.old ≡ false }
         requires able { 0 < steps_left self.old }
-        requires moment { now ≤ 2 ^ 63 }
+        requires moment { now ≤ LATEST_MOMENT }
         requires served { serves self.old input }
         ensures { StepsBy D.state self.old self.new input now result }
     {
@@ -277,7 +277,7 @@ impl<D: Disk> Coordinator<D> {
         calls: Option<u32>,
     ) -> Result<Act, OpenError>
         requires down { is_down self.old ≡ true }
-        requires moment { now ≤ 2 ^ 63 }
+        requires moment { now ≤ LATEST_MOMENT }
         requires pick { pick ≤ LAST_PICK }
         ensures { RestartsBy D.state self.old self.new pick calls now result }
     {
@@ -306,6 +306,7 @@ impl<D: Disk> Coordinator<D> {
 
 impl<D: Disk> Node for Coordinator<D> {
     ghost use Rattle.std.specs.Prelude.{◌≡◌, ◌≤◌, ◌^◌, true};
+    ghost use Rattle.seata_types.specs.declared.limits.TheConstants.{LATEST_MOMENT};
     ghost use Rattle.disk_model.specs.declared.disk.TheConstants.{LAST_PICK};
     ghost use Rattle.coordinator_core.specs.Standing.{StandsAs, serves, steps_left, is_down, disks_of, size_of};
     ghost use Rattle.coordinator_core.specs.Stepping.{stands_at, RestartsBy};
@@ -362,7 +363,7 @@ impl<D: Disk> Node for Coordinator<D> {
         calls: Option<u32>,
     ) -> Result<Act, OpenError>
         requires down { is_down self.old ≡ true }
-        requires moment { now ≤ 2 ^ 63 }
+        requires moment { now ≤ LATEST_MOMENT }
         requires pick { pick ≤ LAST_PICK }
         ensures { RestartsBy D.state self.old self.new pick calls now result }
     {

@@ -20,6 +20,7 @@ use std::sync::ledger::Ledger;
 
 impl<D: Disk> Table<D> {
     ghost use Rattle.std.specs.Prelude.{◌≡◌, ◌≤◌, ◌+◌, ◌*◌, ◌^◌, None, true, false, length, IfOk, IfSome};
+    ghost use Rattle.seata_types.specs.declared.limits.TheConstants.{LATEST_MOMENT};
     ghost use Rattle.seata_types.specs.declared.messages.Input.TheVariants as input;
     ghost use Rattle.seata_types.specs.declared.messages.Message.TheVariants as message;
     ghost use Rattle.lock_table.specs.Locks.{TakesAtMost, first_held};
@@ -50,7 +51,7 @@ impl<D: Disk> Table<D> {
         steps: &mut Steps<L>,
     ) -> Result<Step, NodeError>
         requires up { is_down self.old.sessions ≡ false }
-        requires moment { now ≤ 2 ^ 63 }
+        requires moment { now ≤ LATEST_MOMENT }
         requires served { ServesMessage (managers_of self.old.sessions) (resources_of self.old.sessions) (message.Register xid place.resource place.call place.ticket place.kind hold.now check.now) }
         ensures answers { Answers D.state self.old self.new (input.Message from (message.Register xid place.resource place.call place.ticket place.kind hold.now check.now)) now result }
         ensures framable { Frames (input.Message from (message.Register xid place.resource place.call place.ticket place.kind hold.now check.now)) result }
@@ -96,7 +97,7 @@ impl<D: Disk> Table<D> {
         now: u64,
     ) -> Result<Step, NodeError>
         requires up { is_down self.old.sessions ≡ false }
-        requires moment { now ≤ 2 ^ 63 }
+        requires moment { now ≤ LATEST_MOMENT }
         requires new { leg_in (memory self.old) xid place ≡ None }
         requires begin { is_begin (status_in (memory self.old) xid.0) ≡ true }
         requires past { has_passed_in (session_in (memory self.old) xid.0) now ≡ true }
@@ -128,7 +129,7 @@ impl<D: Disk> Table<D> {
         steps: &mut Steps<L>,
     ) -> Result<Step, NodeError>
         requires up { is_down self.old.sessions ≡ false }
-        requires moment { now ≤ 2 ^ 63 }
+        requires moment { now ≤ LATEST_MOMENT }
         requires new { leg_in (memory self.old) xid place ≡ None }
         requires begin { is_begin (status_in (memory self.old) xid.0) ≡ true }
         requires served { ServesMessage (managers_of self.old.sessions) (resources_of self.old.sessions) (message.Register xid place.resource place.call place.ticket place.kind hold.now check.now) }

@@ -34,6 +34,7 @@ pub struct Table<D> {
 
 impl<D: Disk> Table<D> {
     ghost use Rattle.std.specs.Prelude.{◌≡◌, ◌<◌, ◌≤◌, ◌+◌, ◌^◌, [], true, false, IfOk, OnOk, OnErr};
+    ghost use Rattle.seata_types.specs.declared.limits.TheConstants.{LATEST_MOMENT};
     ghost use Rattle.seata_types.specs.declared.messages.Input.TheVariants as input;
     ghost use Rattle.durable_records.specs.SessionOrder.{is_within};
     ghost use Rattle.session_memory.specs.Changes.{is_begin, may_come};
@@ -159,7 +160,7 @@ impl<D: Disk> Table<D> {
         steps: &mut Steps<L>,
     ) -> Result<Step, NodeError>
         requires up { is_down self.old.sessions ≡ false }
-        requires moment { now ≤ 2 ^ 63 }
+        requires moment { now ≤ LATEST_MOMENT }
         requires served { ServesInput (managers_of self.old.sessions) (resources_of self.old.sessions) input.now }
         ensures answers { Answers D.state self.old self.new input.now now result }
         ensures framable { Frames input.now result }
@@ -182,7 +183,7 @@ impl<D: Disk> Table<D> {
         steps: &mut Steps<L>,
     ) -> Result<Step, NodeError>
         requires up { is_down self.old.sessions ≡ false }
-        requires moment { now ≤ 2 ^ 63 }
+        requires moment { now ≤ LATEST_MOMENT }
         requires served { ServesMessage (managers_of self.old.sessions) (resources_of self.old.sessions) message.now }
         ensures answers { Answers D.state self.old self.new (input.Message from message.now) now result }
         ensures framable { Frames (input.Message from message.now) result }

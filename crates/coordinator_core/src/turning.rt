@@ -20,6 +20,7 @@ use std::alloc::Global;
 
 impl<D: Disk> Table<D> {
     ghost use Rattle.std.specs.Prelude.{◌≡◌, ◌≤◌, ◌^◌, false};
+    ghost use Rattle.seata_types.specs.declared.limits.TheConstants.{LATEST_MOMENT};
     ghost use Rattle.seata_types.specs.declared.messages.Input.TheVariants as input;
     ghost use Rattle.durable_records.specs.declared.coordinators.SessionRecord.TheVariants as log;
     ghost use Rattle.session_memory.specs.Changes.{may_come};
@@ -32,7 +33,7 @@ impl<D: Disk> Table<D> {
     /// Takes a turn: a transaction past its timeout is rolled back, one that is due goes on, one that is old is forgotten.
     pub(crate) fn turn(&mut self, alloc: Global, now: u64) -> Result<Step, NodeError>
         requires up { is_down self.old.sessions ≡ false }
-        requires moment { now ≤ 2 ^ 63 }
+        requires moment { now ≤ LATEST_MOMENT }
         ensures answers { Answers D.state self.old self.new input.Turn now result }
         ensures framable { Frames input.Turn result }
     {
@@ -53,7 +54,7 @@ impl<D: Disk> Table<D> {
     // The timeout of a transaction is decided.
     fn time_out(&mut self, alloc: Global, xid: Xid, now: u64) -> Result<Step, NodeError>
         requires up { is_down self.old.sessions ≡ false }
-        requires moment { now ≤ 2 ^ 63 }
+        requires moment { now ≤ LATEST_MOMENT }
         ensures answers { AnswersWhere D.state (IsLate (times_of self.old) now xid.0) self.old self.new input.Turn now result }
         ensures framable { Frames input.Turn result }
     {
@@ -73,7 +74,7 @@ impl<D: Disk> Table<D> {
     // A due transaction is finished where all its branches are ended, and else the next branch is asked.
     fn go_on(&mut self, alloc: Global, xid: Xid, now: u64) -> Result<Step, NodeError>
         requires up { is_down self.old.sessions ≡ false }
-        requires moment { now ≤ 2 ^ 63 }
+        requires moment { now ≤ LATEST_MOMENT }
         ensures answers { AnswersWhere D.state (IsDue (times_of self.old) now xid.0) self.old self.new input.Turn now result }
         ensures framable { Frames input.Turn result }
     {
@@ -94,7 +95,7 @@ impl<D: Disk> Table<D> {
 
     // The next branch of a transaction that goes on is asked.
     fn ask(&mut self, xid: Xid, now: u64) -> Result<Step, NodeError>
-        requires moment { now ≤ 2 ^ 63 }
+        requires moment { now ≤ LATEST_MOMENT }
         requires open { may_come (memory self.old) (log.Finished xid) ≡ false }
         ensures answers { AnswersWhere D.state (IsDue (times_of self.old) now xid.0) self.old self.new input.Turn now result }
         ensures framable { Frames input.Turn result }
@@ -121,7 +122,7 @@ impl<D: Disk> Table<D> {
     // A transaction that rested long enough is forgotten.
     fn forget_old(&mut self, alloc: Global, xid: Xid, now: u64) -> Result<Step, NodeError>
         requires up { is_down self.old.sessions ≡ false }
-        requires moment { now ≤ 2 ^ 63 }
+        requires moment { now ≤ LATEST_MOMENT }
         ensures answers { AnswersWhere D.state (IsOld (times_of self.old) now xid.0) self.old self.new input.Turn now result }
         ensures framable { Frames input.Turn result }
     {

@@ -7,6 +7,7 @@ use std::alloc::Global;
 /// disk and is never down; what `arm`, `crash` and `restart` promise is said of a node with disks.
 pub trait Node {
     ghost use Rattle.std.specs.Prelude.{◌≡◌, ◌+◌, ◌^◌, ◌<◌, ◌≤◌, ℕ, Bool, true, false, List, ◌∷◌, Option, Some, None, IfOk, IfErr, OnOk, OnErr, Err};
+    ghost use Rattle.seata_types.specs.declared.limits.TheConstants.{LATEST_MOMENT};
     ghost use Rattle.disk_model.specs.declared.disk.TheConstants.{LAST_PICK};
     ghost use Rattle.journal_checkpoint.specs.Images.{Pair};
     ghost use Rattle.seata_types.specs.declared.acts.Act.TheVariants as act;
@@ -51,7 +52,7 @@ pub trait Node {
     fn step(&mut self, alloc: Global, input: Input, now: u64) -> Result<Step, NodeError>
         requires up { down self.old ≡ false }
         requires able { 0 < left self.old }
-        requires moment { now ≤ 2 ^ 63 }
+        requires moment { now ≤ LATEST_MOMENT }
         requires served { serves self.old input }
         ensures answers { IfOk result (TakesStep stands_for self.old self.new input now) }
         ensures framable { ComesFramable input → IfOk result SendsFramable }
@@ -99,7 +100,7 @@ pub trait Node {
         calls: Option<u32>,
     ) -> Result<Act, OpenError>
         requires down { stops self.old ≡ true → down self.old ≡ true }
-        requires moment { now ≤ 2 ^ 63 }
+        requires moment { now ≤ LATEST_MOMENT }
         requires pick { pick ≤ LAST_PICK }
         ensures restarts { AreTold (disks self.old) → IfOk result (Restarts stands_for (DisksFail (disks self.old) (disks self.new)) self.old self.new pick calls now) }
         ensures after { AreTold (disks self.old) → OnErr result (StandsAsBefore stands_for self.old self.new) }

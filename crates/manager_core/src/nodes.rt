@@ -65,6 +65,7 @@ impl Manager {
 
 impl Node for Manager {
     ghost use Rattle.std.specs.Prelude.{◌≡◌, ◌+◌, ◌<◌, ◌≤◌, ◌^◌, false, IfOk, IfErr};
+    ghost use Rattle.seata_types.specs.declared.limits.TheConstants.{LATEST_MOMENT};
     ghost use Rattle.seata_types.specs.declared.ids.Place.TheVariants as places;
     ghost use Rattle.history_text.specs.Durable.{SamePicks};
     ghost use Rattle.history_text.specs.Framing.{ComesFramable, SendsFramable};
@@ -97,7 +98,7 @@ impl Node for Manager {
     fn step(&mut self, alloc: Global, input: Input, _now: u64) -> Result<Step, NodeError>
         requires up { false ≡ false }
         requires able { 0 < steps_of self.old }
-        requires moment { _now ≤ 2 ^ 63 }
+        requires moment { _now ≤ LATEST_MOMENT }
         requires served { Unit {0} }
         ensures answers { IfOk result (TakesStep StandsAs self.old self.new input _now) }
         ensures framable { ComesFramable input → IfOk result SendsFramable }

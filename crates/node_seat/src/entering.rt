@@ -1,5 +1,6 @@
 //! One entry of a node.
 ghost use Rattle.std.specs.Prelude.{◌≡◌, ◌<◌, ◌≤◌, ◌+◌, ◌++◌, ◌∷◌, [], ◌^◌, ℕ, Some, IfOk, IfErr, IfSome, option_map, vec_len, vec_capacity};
+ghost use Rattle.seata_types.specs.declared.limits.TheConstants.{LATEST_MOMENT};
 ghost use Rattle.history_rules.specs.Own.{Event};
 ghost use Rattle.history_text.specs.Notes as notes;
 ghost use Rattle.history_text.specs.Framing.{ComesFramable, SendsFramable, IsFramableTo};
@@ -89,7 +90,7 @@ pub(crate) fn enter<N: Node>(
     input: Option<Input>,
 ) -> Result<Option<Packet>, RunFault>
     requires can { CanReact N.stops N.left N.serves node.old cause input }
-    requires moment { now ≤ 2 ^ 63 }
+    requires moment { now ≤ LATEST_MOMENT }
     requires framable { IfSome input ComesFramable }
     ensures entered { (event : Event) → event_by cause input ≡ Some event
         → IsEntered N.stands_for N.stands_at N.disks N.size node.old node.new trace.old.items trace.new.items stamp now cause event result }

@@ -1,5 +1,6 @@
 //! What a node does at an event.
 ghost use Rattle.std.specs.Prelude.{◌≡◌, ◌<◌, ◌≤◌, ◌+◌, ◌^◌, ℕ, true, false, Some, IfOk, IfErr, IfSome};
+ghost use Rattle.seata_types.specs.declared.limits.TheConstants.{LATEST_MOMENT};
 ghost use Rattle.history_rules.specs.Own.{Event, Given, Stopped, Crashed, Restarted};
 ghost use Rattle.history_text.specs.Framing.{ComesFramable, SendsFramable};
 ghost use Rattle.history_text.specs.Promises.{StaysItself};
@@ -30,7 +31,7 @@ fn step_of(place: Place, error: NodeError) -> Result<Step, RunFault>
 fn step<N: Node>(node: &mut N, alloc: Global, now: u64, input: Input) -> Result<Step, RunFault>
     requires up { N.down node.old ≡ false }
     requires able { 0 < N.left node.old }
-    requires moment { now ≤ 2 ^ 63 }
+    requires moment { now ≤ LATEST_MOMENT }
     requires served { N.serves node.old input }
     ensures does { IfOk result (Does N.stands_for N.disks node.old node.new (Given input) now) }
     ensures missed { IfErr result (Misses N.stands_for N.stands_at N.disks N.size node.old node.new (Given input) now) }
@@ -48,7 +49,7 @@ fn step<N: Node>(node: &mut N, alloc: Global, now: u64, input: Input) -> Result<
 /// Gives a node an input, which is lost while it is down.
 fn give<N: Node>(node: &mut N, alloc: Global, now: u64, input: Input) -> Result<Step, RunFault>
     requires able { 0 < N.left node.old }
-    requires moment { now ≤ 2 ^ 63 }
+    requires moment { now ≤ LATEST_MOMENT }
     requires served { N.serves node.old input }
     ensures does { IfOk result (Does N.stands_for N.disks node.old node.new (Given input) now) }
     ensures missed { IfErr result (Misses N.stands_for N.stands_at N.disks N.size node.old node.new (Given input) now) }
@@ -105,7 +106,7 @@ fn restart<N: Node>(
     calls: Option<u32>,
 ) -> Result<Step, RunFault>
     requires disks { N.stops node.old ≡ true }
-    requires moment { now ≤ 2 ^ 63 }
+    requires moment { now ≤ LATEST_MOMENT }
     requires pick { pick ≤ LAST_PICK }
     ensures does { IfOk result (Does N.stands_for N.disks node.old node.new (Restarted pick calls) now) }
     ensures missed { IfErr result (Misses N.stands_for N.stands_at N.disks N.size node.old node.new (Restarted pick calls) now) }
@@ -131,7 +132,7 @@ fn fall_or_rise<N: Node>(
     cause: Cause,
 ) -> Result<Step, RunFault>
     requires disks { N.stops node.old ≡ true }
-    requires moment { now ≤ 2 ^ 63 }
+    requires moment { now ≤ LATEST_MOMENT }
     requires cause { IsOfDisks cause }
     ensures does { (event : Event) → event_by cause None ≡ Some event → IfOk result (Does N.stands_for N.disks node.old node.new event now) }
     ensures missed { (event : Event) → event_by cause None ≡ Some event → IfErr result (Misses N.stands_for N.stands_at N.disks N.size node.old node.new event now) }
@@ -156,7 +157,7 @@ pub(crate) fn react<N: Node>(
     input: Option<Input>,
 ) -> Result<Step, RunFault>
     requires can { CanReact N.stops N.left N.serves node.old cause input }
-    requires moment { now ≤ 2 ^ 63 }
+    requires moment { now ≤ LATEST_MOMENT }
     requires framable { IfSome input ComesFramable }
     ensures does { (event : Event) → event_by cause input ≡ Some event → IfOk result (Does N.stands_for N.disks node.old node.new event now) }
     ensures missed { (event : Event) → event_by cause input ≡ Some event → IfErr result (Misses N.stands_for N.stands_at N.disks N.size node.old node.new event now) }

@@ -31,6 +31,7 @@ impl<N: Node, K: RunName> Model for Seat<N, K> {
 
 impl<N: Node, K: RunName> Seat<N, K> {
     ghost use Rattle.std.specs.Prelude.{◌≡◌, ◌≤◌, ◌+◌, ◌^◌, [], Some, IfSome};
+    ghost use Rattle.seata_types.specs.declared.limits.TheConstants.{LATEST_MOMENT};
     ghost use Rattle.history_rules.specs.Own.{Event};
     ghost use Rattle.history_rules.specs.Nodes.{Role, role_at};
     ghost use Rattle.history_text.specs.Framing.{ComesFramable};
@@ -66,7 +67,7 @@ impl<N: Node, K: RunName> Seat<N, K> {
     ) -> Result<Option<Packet>, RunFault>
         requires next { IsNext self.old.trace stamp now cause input }
         requires can { CanReact N.stops N.left N.serves self.old.node cause input }
-        requires moment { now ≤ 2 ^ 63 }
+        requires moment { now ≤ LATEST_MOMENT }
         requires framable { IfSome input ComesFramable }
         ensures entered { (event : Event) → event_by cause input ≡ Some event
             → IsEntered N.stands_for N.stands_at N.disks N.size self.old.node self.new.node self.old.trace self.new.trace stamp now cause event result }

@@ -15,6 +15,7 @@ pub struct Station<N> {
 
 impl<N: Node> Station<N> {
     ghost use Rattle.std.specs.Prelude.{◌≡◌, ◌≤◌, ◌+◌, ◌^◌, Some, IfSome};
+    ghost use Rattle.seata_types.specs.declared.limits.TheConstants.{LATEST_MOMENT};
     ghost use Rattle.history_rules.specs.Own.{Event};
     ghost use Rattle.history_rules.specs.Nodes.{World, Past};
     ghost use Rattle.history_text.specs.Framing.{ComesFramable};
@@ -33,7 +34,7 @@ impl<N: Node> Station<N> {
     ) -> Result<Option<Packet>, RunFault>
         requires next { IsNext self.old.trace.items stamp now cause input }
         requires can { CanReact N.stops N.left N.serves self.old.node cause input }
-        requires moment { now ≤ 2 ^ 63 }
+        requires moment { now ≤ LATEST_MOMENT }
         requires framable { IfSome input ComesFramable }
         ensures entered { (event : Event) → event_by cause input ≡ Some event
             → IsEntered N.stands_for N.stands_at N.disks N.size self.old.node self.new.node self.old.trace.items self.new.trace.items stamp now cause event result }

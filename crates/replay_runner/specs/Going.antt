@@ -9,6 +9,7 @@ use Rattle.seata_types.specs.declared.messages.Message.{Message}
 use Rattle.seata_types.specs.declared.messages.Message.TheVariants as message
 use Rattle.seata_types.specs.declared.rows.RowKey.{RowKey}
 use Rattle.seata_types.specs.declared.statements.Stmt.{Stmt}
+use Rattle.seata_types.specs.declared.limits.TheConstants.{LATEST_MOMENT}
 use Rattle.scenario_reader.specs.Contents.{IsBetween}
 use Rattle.scenario_reader.specs.Runnable.{IsPlaceAmong, IsServerAmong}
 use Rattle.durable_records.specs.SessionOrder.{has_resource, is_counted}
@@ -74,7 +75,7 @@ pub record CanEnter {D K : Type 0} (n : Nodes D K) (stamp now : ℕ) (at : Place
   pub goes : NodesGo (length n.managers.items) (length n.resources.items) stamp now n
   pub counted : 1 ≤ stamp
   pub short : stamp ≤ STEPS
-  pub slow : now ≤ 2 ^ 63
+  pub slow : now ≤ LATEST_MOMENT
   pub there : IsPlaceAmong (length n.resources.items) (length n.managers.items) at
   pub comes : IsInputOf stamp why given
   pub takes : CanTake (length n.managers.items) (length n.resources.items) at why given

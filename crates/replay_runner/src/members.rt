@@ -17,6 +17,7 @@ pub struct Member<N: Node, K: RunName> {
 
 impl<N: Node, K: RunName> Member<N, K> {
     ghost use Rattle.std.specs.Prelude.{◌≡◌, ◌≤◌, ◌+◌, ◌^◌, [], Some, IfSome};
+    ghost use Rattle.seata_types.specs.declared.limits.TheConstants.{LATEST_MOMENT};
     ghost use Rattle.history_rules.specs.Own.{Event};
     ghost use Rattle.history_text.specs.Framing.{ComesFramable};
     ghost use Rattle.history_text.specs.Promises.{StaysItself};
@@ -48,7 +49,7 @@ impl<N: Node, K: RunName> Member<N, K> {
     ) -> Result<Option<Letter>, RunFault>
         requires next { IsNext self.old.seat.trace stamp now cause input }
         requires can { CanReact N.stops N.left N.serves self.old.seat.node cause input }
-        requires moment { now ≤ 2 ^ 63 }
+        requires moment { now ≤ LATEST_MOMENT }
         requires framable { IfSome input ComesFramable }
         ensures made { (event : Event) → event_by cause input ≡ Some event
             → IsMade N.stands_for N.stands_at N.disks N.size self.old self.new stamp now cause event result }

@@ -64,6 +64,8 @@ pub const ACTS: u32 = 2_147_483_648;
 pub const NODE_STEPS: u32 = 4_294_967_294;
 /// The latest tick at which a coordinator's clock starts.
 pub const LATEST_START: u64 = 4_611_686_018_427_387_904;
+/// The latest tick at which a node takes a step.
+pub const LATEST_MOMENT: u64 = 9_223_372_036_854_775_808;
 /// Bytes that a reader asks for at once where it reads an input piece by piece.
 pub const PIECE_BYTES: usize = 65_536;
 
