@@ -1,10 +1,11 @@
 //! The answers of branches in their second phase.
 use crate::kinds;
-use crate::table::{Table, may_come, node_error};
+use crate::table::{Table, node_error};
 use disk_model::Disk;
 use durable_records::SessionRecord;
 use history_text::still;
 use seata_types::{Act, BranchStatus, Durable, Leg, NoMemory, NodeError, Place, Step};
+use session_memory::uncounted::allows;
 use std::alloc::Global;
 
 impl<D: Disk> Table<D> {
@@ -87,7 +88,7 @@ impl<D: Disk> Table<D> {
     {
         let Leg { xid, branch } = leg;
         let item = SessionRecord::Ended { xid, branch };
-        let open = may_come(self.memory(), &item);
+        let open = allows(self.memory(), &item);
         drop(item);
         open
     }

@@ -17,10 +17,10 @@ use seata_types::{
 };
 use session_log::{RegisterPlace, SessionEntry};
 use session_memory::Memory;
+use session_memory::uncounted::allows;
 use session_store::Sessions;
 use std::alloc::Global;
-use std::marker::Brand;
-use std::sync::ledger::{Blank, Ledger};
+use std::sync::ledger::Ledger;
 
 /// What is known of all transactions, on two disks, and the moments that it goes by. A branch is asked again after `retry`
 /// ticks; a finished transaction is forgotten after `forget`, or never where that is 0.
@@ -100,7 +100,7 @@ impl<D: Disk> Table<D> {
         requires within { is_within (managers_of self.old.sessions) (resources_of self.old.sessions) item.now ≡ true }
         ensures { MakesOn D.state self.old self.new item.now now result }
     {
-        if !may_come(self.sessions.memory(), item) {
+        if !allows(self.sessions.memory(), item) {
             return Ok(false);
         }
         match self.add(alloc, item, now) {
@@ -321,21 +321,4 @@ pub(crate) fn node_error(error: StoreError, at: Durable) -> NodeError
         StoreError::Full(full) => NodeError::Full(full),
         StoreError::NoMemory => NodeError::NoMemory,
     }
-}
-
-// Whether a record may come.
-pub(crate) fn may_come(memory: &Memory, item: &SessionRecord) -> bool
-    ensures { result ≡ may_come memory.now item.now }
-{
-    allows_counted::<Brand>(memory, item, Blank::new(1))
-}
-
-fn allows_counted<L: Ledger>(memory: &Memory, item: &SessionRecord, blank: Blank) -> bool
-    requires name { blank.name ≡ L.name }
-    requires parts { blank.parts ≡ L.parts }
-    requires some { 0 < blank.parts }
-    ensures { result ≡ may_come memory.now item.now }
-{
-    let mut steps = Steps::<L>::new(blank);
-    memory.allows(item, &mut steps)
 }

@@ -2,7 +2,6 @@
 ghost use Rattle.std.specs.Prelude.{◌≡◌, true};
 ghost use Rattle.std.specs.Option.{option_copied};
 ghost use Rattle.seata_types.specs.declared.limits.TheConstants.{MANAGERS, CALLS};
-ghost use Rattle.durable_records.specs.SessionOrder.{is_counted};
 ghost use Rattle.history_text.specs.Framing.{SendsFramable};
 ghost use Rattle.coordinator_core.specs.Choices.{next_open, is_sendable, question_of, question_to};
 ghost use Rattle.coordinator_core.specs.Steps.{asked_step};
@@ -11,7 +10,7 @@ use crate::questions::Question;
 use crate::table::{Table, node_error};
 use crate::{choosing, kinds};
 use disk_model::Disk;
-use durable_records::SessionRecord;
+use durable_records::{SessionRecord, is_counted};
 use history_text::{sends, still};
 use seata_types::limits::{CALLS, MANAGERS};
 use seata_types::{Act, Decision, Durable, Message, NoMemory, NodeError, Place, Step, Xid};
@@ -155,12 +154,6 @@ fn is_sendable(question: Question) -> bool
     ensures { result ≡ is_sendable question }
 {
     is_counted(MANAGERS, question.manager) && is_counted(CALLS, question.call)
-}
-
-fn is_counted(count: usize, number: u16) -> bool
-    ensures { result ≡ is_counted count number }
-{
-    number >= 1 && number as usize <= count
 }
 
 fn question_to(session: &Session, branch: &Branch) -> Question

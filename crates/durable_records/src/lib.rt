@@ -4,7 +4,9 @@
 #![tactic(auto)]
 
 pub mod coordinators;
+pub mod numbers;
 pub mod resources;
 
 pub use coordinators::SessionRecord;
+pub use numbers::is_counted;
 pub use resources::ResourceRecord;

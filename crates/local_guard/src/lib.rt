@@ -7,7 +7,6 @@ mod asked;
 mod guarded;
 pub mod laws;
 mod outside_writes;
-mod rows;
 
 pub use answers::OutsideError;
 pub use asked::rows_asked;

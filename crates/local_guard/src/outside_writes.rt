@@ -8,7 +8,6 @@ ghost use Rattle.resource_store.specs.Answers.{HasPlaces, Leaves};
 ghost use Rattle.local_guard.specs.Outside.{WritesOutside, TellsBusy, refusal, failure, made_by};
 
 use crate::answers::OutsideError;
-use crate::rows::busy;
 use disk_model::Disk;
 use local_tables::{Effect, EffectError};
 use local_txn::LocalTxns;
@@ -50,7 +49,7 @@ fn write<D: Disk>(
     ensures writes { WritesOutside D.state number txns.now.opens (Ok effect) result store.old store.new }
     ensures leaves { Leaves D.state (made_by result) store.old store.new }
 {
-    if let Some(found) = busy(txns, &effect) {
+    if let Some(found) = txns.busy(&effect) {
         return Err(told_busy(alloc, found.0, found.1));
     }
     let Effect { images, .. } = effect;

@@ -6,7 +6,7 @@ ghost use Rattle.seata_types.specs.declared.rows.RowKey.{RowKey as Key};
 
 use crate::transactions::{ExecError, OpenTxn};
 use crate::{opening, order, rows};
-use local_tables::Tables;
+use local_tables::{Effect, Tables};
 use seata_types::{Action, NoMemory, RowKey, Stmt, Ticket, Xid};
 use std::alloc::Global;
 use std::collections::{BTreeMap, VecDeque};
@@ -45,7 +45,7 @@ impl LocalTxns {
     ghost use Rattle.seata_types.specs.declared.limits.TheConstants.{FIELD_ITEMS};
     ghost use Rattle.seata_types.specs.declared.statements.Work.TheVariants as work;
     ghost use Rattle.local_tables.specs.Calls.{effect};
-    ghost use Rattle.local_txn.specs.OpenTickets.{AreDistinct, Open, open_at, without, sent_again, last_of, has_row, ticket_with};
+    ghost use Rattle.local_txn.specs.OpenTickets.{AreDistinct, Open, open_at, without, sent_again, last_of, has_row, ticket_with, busy_row};
     ghost use Rattle.local_txn.specs.Answers.{open_of, owner_by, is_for, ticket_of, no_tickets, new_ticket, last_ticket, with_open, with_opens, taken_back, raised, counted, Executes, Prepares, TakesBack};
     ghost use Rattle.seata_types.specs.declared.rows.RowKey.{RowKey as Key};
 
@@ -81,8 +81,7 @@ impl LocalTxns {
             Ok(effect) => effect,
             Err(error) => return Err(opening::refused(error)),
         };
-        let images = effect.images.as_slice();
-        if let Some((key, by)) = rows::busy(&self.rows, images, effect.reads.as_slice()) {
+        if let Some((key, by)) = self.busy(&effect) {
             return Err(opening::busy(alloc, key, by));
         }
         let ticket = self.next();
@@ -143,6 +142,15 @@ impl LocalTxns {
         ensures { result ≡ option_map ticket_of (ticket_with self.now.opens key.now) }
     {
         self.rows.get(key).copied()
+    }
+
+    /// The least row of an effect that an open ticket has, and that ticket; none exactly where each is free. Images and reads
+    /// stand in rising order. Takes no memory.
+    pub fn busy<'a>(&self, effect: &'a Effect) -> Option<(&'a RowKey, Ticket)>
+        ensures { option_map (λ p. (p.0.now, p.1)) result ≡ busy_row self.now.opens effect.now }
+    {
+        let images = effect.images.as_slice();
+        rows::busy(&self.rows, images, effect.reads.as_slice())
     }
 
     /// The open ticket that was sent longest ago; none exactly where none is open. Each ticket is open once. Takes no memory.

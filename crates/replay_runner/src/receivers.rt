@@ -1,17 +1,10 @@
 //! Which deliveries fit the nodes of a replay. All do that are by the rules.
 ghost use Rattle.std.specs.Prelude.{◌≡◌};
-ghost use Rattle.durable_records.specs.SessionOrder as numbers;
 ghost use Rattle.replay_runner.specs.Going as going;
 
 use crate::messages::Delivery;
+use durable_records::is_counted;
 use seata_types::{Message, Place, RowKey};
-
-/// Whether a number is one of so many, counted from 1.
-fn is_counted(count: usize, number: u16) -> bool
-    ensures { result ≡ numbers.is_counted count number }
-{
-    1 <= number && number as usize <= count
-}
 
 /// Whether each row is of one of so many resources.
 fn have_resources(resources: usize, rows: &[RowKey]) -> bool

@@ -1,20 +1,17 @@
 //! One more entry of the coordinator.
 ghost use Rattle.std.specs.Prelude.{◌≡◌, ◌<◌, ◌+◌, ◌^◌, true, IfOk, OnOk, OnErr};
 ghost use Rattle.std.specs.Option.{option_copied, option_and_then};
-ghost use Rattle.session_memory.specs.Changes.{may_come, after};
 ghost use Rattle.report_text.specs.Made.{sending_resource, begun_from, granted_from, session_made};
 
 use crate::left::CoordinatorLeft;
 use crate::scenarios::counted;
 use durable_records::SessionRecord;
 use history_text::{Cause, Entry, Note};
-use lock_table::Steps;
 use seata_types::{Act, BranchId, Decision, Duplicate, Durable, NoMemory, Place, Xid};
 use session_memory::Memory;
+use session_memory::uncounted::{allows, apply};
 use std::alloc::Global;
-use std::marker::Brand;
 use std::mem;
-use std::sync::ledger::{Blank, Ledger};
 
 impl CoordinatorLeft {
     ghost use Rattle.std.specs.Prelude.{◌≡◌, OnOk, IfOk};
@@ -115,7 +112,7 @@ impl CoordinatorLeft {
     fn add(&mut self, alloc: Global, item: &SessionRecord) -> Result<(), NoMemory>
         ensures { OnOk result (self.new ≡ with_session item.now self.old) }
     {
-        if self.memory.snapshot().acts == u32::MAX || !may_come(&self.memory, item) {
+        if self.memory.snapshot().acts == u32::MAX || !allows(&self.memory, item) {
             return Ok(());
         }
         apply(alloc, &mut self.memory, item)?;
@@ -141,49 +138,6 @@ impl CoordinatorLeft {
             _ => Ok(()),
         }
     }
-}
-
-// Whether a record may come.
-fn may_come(memory: &Memory, item: &SessionRecord) -> bool
-    ensures { result ≡ may_come memory.now item.now }
-{
-    allows_counted::<Brand>(memory, item, Blank::new(1))
-}
-
-fn allows_counted<L: Ledger>(memory: &Memory, item: &SessionRecord, blank: Blank) -> bool
-    requires name { blank.name ≡ L.name }
-    requires parts { blank.parts ≡ L.parts }
-    requires some { 0 < blank.parts }
-    ensures { result ≡ may_come memory.now item.now }
-{
-    let mut steps = Steps::<L>::new(blank);
-    memory.allows(item, &mut steps)
-}
-
-// Takes in a record that may come.
-fn apply(alloc: Global, memory: &mut Memory, item: &SessionRecord) -> Result<(), NoMemory>
-    requires allowed { may_come memory.old item.now ≡ true }
-    requires room { memory.old.acts + 1 < 2 ^ 32 }
-    ensures { OnOk result (memory.new ≡ after item.now memory.old) }
-{
-    apply_counted::<Brand>(alloc, memory, item, Blank::new(1))
-}
-
-fn apply_counted<L: Ledger>(
-    alloc: Global,
-    memory: &mut Memory,
-    item: &SessionRecord,
-    blank: Blank,
-) -> Result<(), NoMemory>
-    requires name { blank.name ≡ L.name }
-    requires parts { blank.parts ≡ L.parts }
-    requires some { 0 < blank.parts }
-    requires allowed { may_come memory.old item.now ≡ true }
-    requires room { memory.old.acts + 1 < 2 ^ 32 }
-    ensures { OnOk result (memory.new ≡ after item.now memory.old) }
-{
-    let mut steps = Steps::<L>::new(blank);
-    memory.apply(alloc, item, &mut steps)
 }
 
 // The resource that sent the message that a cause delivers.

@@ -38,8 +38,9 @@ fn row_keys(
     Ok(Some(List::of(keys)))
 }
 
+/// Whether a key stands behind the last one of a list, if there is one; takes no memory.
 #[tactic(auto, unfolding(byte_fields::specs::KeyOrder::is_below))]
-fn may_come(last: Option<&RowKey>, key: &RowKey) -> bool
+pub fn may_come(last: Option<&RowKey>, key: &RowKey) -> bool
     ensures { result ≡ may_come is_below (option_copied last.entry) key.now }
 {
     match last {

@@ -10,6 +10,7 @@ mod states;
 mod tags;
 mod writing;
 
+pub use checks::may_come;
 pub use errors::{RecordError, SnapshotError};
 pub use records::read_record;
 pub use snapshots::read_snapshot;

@@ -1,28 +1,16 @@
 //! Whether images and reads fit the tables.
 ghost use Rattle.std.specs.Prelude.{◌≡◌, ◌≤◌, ◌+◌, nat_le, length, not, None};
 ghost use Rattle.std.specs.List.{list_all};
-ghost use Rattle.std.specs.Option.{option_copied};
 ghost use Rattle.seata_types.specs.declared.limits.TheConstants.{CALL_ROWS};
-ghost use Rattle.byte_fields.specs.KeyOrder.{is_below};
-ghost use Rattle.byte_fields.specs.Layout.{may_come};
 ghost use Rattle.local_tables.specs.Fitting.{is_image, is_read};
 ghost use Rattle.durable_records.specs.Locks.{has_key};
 ghost use Rattle.durable_records.specs.ResourceOrder.{image_keys, read_keys, only_read};
 ghost use Rattle.resource_memory.specs.Changes.{rise, are_few, fit};
 
 use local_tables::{Schema, Tables, is_image, is_read};
+use resource_log::may_come;
 use seata_types::limits::CALL_ROWS;
 use seata_types::{Image, ReadRow, RowKey};
-
-#[tactic(auto, unfolding(byte_fields::specs::KeyOrder::is_below))]
-fn may_come(last: Option<&RowKey>, key: &RowKey) -> bool
-    ensures { result ≡ may_come is_below (option_copied last.entry) key.now }
-{
-    match last {
-        None => true,
-        Some(last) => last.cmp(key).is_lt(),
-    }
-}
 
 fn images_rise(images: &[Image]) -> bool
     ensures { result ≡ rise (image_keys images.now) }

@@ -1,11 +1,12 @@
 //! Which snapshots are sound.
 ghost use Rattle.std.specs.Prelude.{◌≡◌, ◌++◌, ◌==◌, ◌&&◌, Bool, nat_eq, not, map, ℕ, IfOk, OnOk};
 ghost use Rattle.std.specs.List.{list_all, list_any, flat_map};
-ghost use Rattle.durable_records.specs.SessionOrder.{is_counted, has_resource};
+ghost use Rattle.durable_records.specs.SessionOrder.{has_resource};
 ghost use Rattle.session_log.specs.Soundness.{has_counts, is_numbered_branch, is_open_branch, is_ended_branch, is_at_branch, is_tcc_branch, is_open_with, status_fits, is_failed_status, failure_fits, is_entry, is_forgotten_entry, has_sound_parts, all_differ, entry_xid, entry_manager, forgotten_xid, forgotten_manager, branch_ticket, entry_tickets, branch_call, entry_calls, xids, managers_of, tickets, calls, same_ticket_key, same_call_key, is_sound};
 
 use crate::keys::{CallKey, TicketKey};
 use crate::sessions::{Branch, Forgotten, RegisterPlace, SessionEntry, Snapshot};
+use durable_records::is_counted;
 use seata_types::limits::{ACTS, CALLS};
 use seata_types::{BranchId, BranchKind, GlobalStatus, NoMemory, RowKey, Xid};
 use std::alloc::Global;
@@ -18,24 +19,19 @@ fn has_counts(snapshot: &Snapshot) -> bool
     snapshot.acts < ACTS && snapshot.begun <= acts && snapshot.granted <= acts
 }
 
-fn is_counted(count: u16, number: u16) -> bool
-    ensures { result ≡ is_counted count number }
-{
-    1 <= number && number <= count
-}
-
 fn have_resources(resources: u16, keys: &[RowKey]) -> bool
     ensures { result ≡ list_all (has_resource resources) keys.now }
 {
-    keys.iter().all(|key| is_counted(resources, key.resource))
+    keys.iter()
+        .all(|key| is_counted(usize::from(resources), key.resource))
 }
 
 fn is_numbered(resources: u16, granted: u64, branch: &Branch) -> bool
     ensures { result ≡ is_numbered_branch resources granted branch.now }
 {
     branch.id.0 <= granted
-        && is_counted(resources, branch.place.resource)
-        && is_counted(CALLS as u16, branch.place.call)
+        && is_counted(usize::from(resources), branch.place.resource)
+        && is_counted(CALLS, branch.place.call)
         && have_resources(resources, branch.hold.as_slice())
 }
 
@@ -134,7 +130,7 @@ fn is_entry(managers: u16, resources: u16, begun: u64, granted: u64, entry: &Ses
     let session = &entry.session;
     let branches = session.branches.as_slice();
     entry.xid.0 <= begun
-        && is_counted(managers, session.manager)
+        && is_counted(usize::from(managers), session.manager)
         && status_fits(session.status, branches)
         && failure_fits(session.status, session.failed, branches)
         && are_numbered(resources, granted, branches)
@@ -155,7 +151,8 @@ fn are_entries(
 fn are_forgotten(managers: u16, begun: u64, forgotten: &[Forgotten]) -> bool
     ensures { result ≡ list_all (is_forgotten_entry managers begun) forgotten.now }
 {
-    forgotten.iter().all(|entry| entry.xid.0 <= begun && is_counted(managers, entry.manager))
+    forgotten.iter().all(|entry| entry.xid.0 <= begun
+        && is_counted(usize::from(managers), entry.manager))
 }
 
 // Whether no two of these are equal.

@@ -12,6 +12,7 @@ mod owners;
 mod sessions;
 mod snapshots;
 pub mod statuses;
+pub mod uncounted;
 
 pub use errors::LoadError;
 pub use memory::Memory;

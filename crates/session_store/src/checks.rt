@@ -1,30 +1,18 @@
 //! Which records and snapshots a coordinator of a scenario reads and writes.
 ghost use Rattle.std.specs.Prelude.{◌≡◌, ◌&&◌, nat_le, length};
 ghost use Rattle.std.specs.List.{list_all};
-ghost use Rattle.durable_records.specs.SessionOrder.{is_counted, has_resource, is_within};
+ghost use Rattle.durable_records.specs.SessionOrder.{has_resource, is_within};
 ghost use Rattle.session_memory.specs.Writing.{has_few_branches, can_write};
 
-use durable_records::SessionRecord;
+use durable_records::{SessionRecord, is_counted};
 use seata_types::RowKey;
 use seata_types::limits::{CALL_ROWS, CALLS, FIELD_ITEMS};
 use session_log::{SessionEntry, Snapshot};
 
-fn is_counted(count: u16, number: u16) -> bool
-    ensures { result ≡ is_counted count number }
-{
-    1 <= number && number <= count
-}
-
-fn is_call(call: u16) -> bool
-    ensures { result ≡ is_counted CALLS call }
-{
-    1 <= call && usize::from(call) <= CALLS
-}
-
 fn has_resource(resources: u16, key: &RowKey) -> bool
     ensures { result ≡ has_resource resources key.now }
 {
-    is_counted(resources, key.resource)
+    is_counted(usize::from(resources), key.resource)
 }
 
 // Whether these rows are of such resources.
@@ -46,15 +34,15 @@ pub(crate) fn is_within(managers: u16, resources: u16, item: &SessionRecord) -> 
     ensures { result ≡ is_within managers resources item.now }
 {
     match item {
-        SessionRecord::Begun { manager, .. } => is_counted(managers, *manager),
+        SessionRecord::Begun { manager, .. } => is_counted(usize::from(managers), *manager),
         SessionRecord::Granted {
             resource,
             call,
             hold,
             ..
         } => {
-            is_counted(resources, *resource)
-                && is_call(*call)
+            is_counted(usize::from(resources), *resource)
+                && is_counted(CALLS, *call)
                 && may_hold(resources, hold.as_slice())
         }
         _ => true,

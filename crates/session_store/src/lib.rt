@@ -9,7 +9,6 @@ mod lookups;
 mod machine;
 mod registering;
 mod sessions;
-mod uncounted;
 
 pub use errors::RegisterError;
 pub use machine::SessionMachine;

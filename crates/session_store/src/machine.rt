@@ -7,12 +7,12 @@ ghost use Rattle.session_log.specs.Records.{record_of};
 ghost use Rattle.session_log.specs.Snapshots.{snapshot_in_bytes};
 ghost use Rattle.session_log.specs.Soundness.{if_sound};
 
-use crate::{checks, uncounted};
+use crate::checks;
 use durable_records::SessionRecord;
 use memory_store::{ReadError, StateMachine};
 use seata_types::NoMemory;
 use session_log::{RecordError, SnapshotError};
-use session_memory::{LoadError, Memory};
+use session_memory::{LoadError, Memory, uncounted};
 use std::alloc::Global;
 
 /// The coordinator of a scenario with so many managers and resources.

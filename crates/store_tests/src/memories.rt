@@ -99,10 +99,7 @@ fn add_ref<L: Ledger>(
     if memory.snapshot().acts > 100 {
         return false;
     }
-    if !memory.allows(item, steps) {
-        return false;
-    }
-    memory.apply(alloc, item, steps).is_ok()
+    memory.allows(item, steps) && memory.apply(alloc, item, steps).is_ok()
 }
 
 /// Takes a record in, where it may come.

@@ -10,24 +10,18 @@ use Rattle.local_txn.proofs.local_txns.LocalTxns.execute.Goals as goal
 
 pub returns-in-Some : goal.returns-in-Some
 returns-in-Some c =
-    let opens : List Open = map open_of c.self.inside.txns.items in
-    let is = busy_is c.self.inside.boot c.self.inside.opened opens c.self.inside.rows.entries c.in-Ok.effect c.as_slice-images.result.now c.as_slice.result.now c.args.self.now c.self.view_is c.self.invariant c.as_slice-images.ensures c.as_slice.ensures in
-    told_busy c.args.self.now (owner_by c.args.xid.0 c.args.manager c.args.call (work.At c.args.stmts.now)) (effect c.args.tables.now c.args.stmts.now) c.in-Ok.effect c.in-Ok.ensures.means c.in-Some.key.now c.in-Some.by c.busy-in-Some.result (sym (c.in-Some.ensures ∙ is)) c.busy-in-Some.ensures
+    told_busy c.args.self.now (owner_by c.args.xid.0 c.args.manager c.args.call (work.At c.args.stmts.now)) (effect c.args.tables.now c.args.stmts.now) c.in-Ok.effect c.in-Ok.ensures.means c.in-Some.key.now c.in-Some.by c.busy-in-Some.result (sym c.in-Some.ensures) c.busy-in-Some.ensures
 
 pub admit-requires-clause-free : goal.admit-requires-clause-free
 admit-requires-clause-free c = λ q h.
-    let opens : List Open = map open_of c.self.inside.txns.items in
-    let is = busy_is c.self.inside.boot c.self.inside.opened opens c.self.inside.rows.entries c.in-Ok.effect c.as_slice-images.result.now c.as_slice.result.now c.args.self.now c.self.view_is c.self.invariant c.as_slice-images.ensures c.as_slice.ensures in
     let none : c.busy.result ≡ None = grind (arith, common_steps) in
-    let free : busy_row c.args.self.now.opens c.in-Ok.effect ≡ None = sym is ∙ none_told _ c.busy.result _ c.busy.ensures none in
+    let free : busy_row c.args.self.now.opens c.in-Ok.effect ≡ None = none_told _ c.busy.result _ c.busy.ensures none in
     free_rows c.args.self.now.opens c.in-Ok.effect q free (ap (has_row q) (sym c.in-Ok-at_call.ensures) ∙ h)
 
 pub returns-in-Ok-admit : goal.returns-in-Ok-admit
 returns-in-Ok-admit c =
-    let opens : List Open = map open_of c.self.inside.txns.items in
-    let is = busy_is c.self.inside.boot c.self.inside.opened opens c.self.inside.rows.entries c.in-Ok.effect c.as_slice-images.result.now c.as_slice.result.now c.args.self.now c.self.view_is c.self.invariant c.as_slice-images.ensures c.as_slice.ensures in
     let none : c.busy.result ≡ None = grind (arith, common_steps) in
-    let free : busy_row c.args.self.now.opens c.in-Ok.effect ≡ None = sym is ∙ none_told _ c.busy.result _ c.busy.ensures none in
+    let free : busy_row c.args.self.now.opens c.in-Ok.effect ≡ None = none_told _ c.busy.result _ c.busy.ensures none in
     let owner = owner_by c.args.xid.0 c.args.manager c.args.call (work.At c.args.stmts.now) in
     let ticket : c.in-Ok-admit.ticket ≡ c.next-ticket.result = c.in-Ok-admit.ensures.ticket ∙ ap ticket_of c.in-Ok-at_call.ensures in
     executed c.args.self.now owner (effect c.args.tables.now c.args.stmts.now) c.in-Ok.effect c.in-Ok.ensures.means c.in-Ok-admit.ticket c.admit.new.self (open_of c.in-Ok-at_call.txn) free

@@ -1,4 +1,4 @@
-use Rattle.session_store.proofs.uncounted.apply.Given as goal
+use Rattle.session_memory.proofs.uncounted.apply.Given as goal
 
 -- the ledger is the one that the blank opens
 abbrev pub ghosts-apply_by : goal.ghosts-apply_by

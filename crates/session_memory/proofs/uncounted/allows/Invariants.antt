@@ -1,4 +1,4 @@
-use Rattle.session_store.proofs.uncounted.allows.Given as goal
+use Rattle.session_memory.proofs.uncounted.allows.Given as goal
 
 -- the ledger is the one that the blank opens
 abbrev pub ghosts-allows_by : goal.ghosts-allows_by

@@ -1,15 +1,16 @@
-//! Calls of a memory whose comparisons nobody counts.
+//! Calls of a memory whose comparisons nobody counts. The others are methods of `Memory`.
 ghost use Rattle.std.specs.Prelude.{◌≡◌, ◌<◌, ◌+◌, ◌^◌, true, OnOk, OnErr};
 ghost use Rattle.session_log.specs.Soundness.{all_differ, same_ticket_key, tickets};
 ghost use Rattle.session_memory.specs.Changes.{after, may_come};
 ghost use Rattle.session_memory.specs.Loading.{LoadsSnapshot};
 ghost use Rattle.session_memory.specs.Order.{IsCounted};
 
+use crate::errors::LoadError;
+use crate::memory::Memory;
 use durable_records::SessionRecord;
 use lock_table::Steps;
 use seata_types::NoMemory;
 use session_log::Snapshot;
-use session_memory::{LoadError, Memory};
 use std::alloc::Global;
 use std::marker::Brand;
 use std::sync::ledger::{Blank, Ledger};
@@ -25,7 +26,7 @@ fn allows_by<L: Ledger>(memory: &Memory, item: &SessionRecord, blank: Blank) -> 
 }
 
 /// Whether a record may come.
-pub(crate) fn allows(memory: &Memory, item: &SessionRecord) -> bool
+pub fn allows(memory: &Memory, item: &SessionRecord) -> bool
     ensures { result ≡ may_come memory.now item.now }
 {
     allows_by::<Brand>(memory, item, Blank::new(1))
@@ -50,11 +51,7 @@ fn apply_by<L: Ledger>(
 }
 
 /// Takes in one more record that may come. After an error all is as before.
-pub(crate) fn apply(
-    alloc: Global,
-    memory: &mut Memory,
-    item: &SessionRecord,
-) -> Result<(), NoMemory>
+pub fn apply(alloc: Global, memory: &mut Memory, item: &SessionRecord) -> Result<(), NoMemory>
     requires allowed { may_come memory.old item.now ≡ true }
     requires room { memory.old.acts + 1 < 2 ^ 32 }
     ensures ok { OnOk result (memory.new ≡ after item.now memory.old) }
@@ -76,7 +73,7 @@ fn load_by<L: Ledger>(alloc: Global, snapshot: Snapshot, blank: Blank) -> Result
 }
 
 /// A memory of a snapshot in which no two AT branches of a resource have one ticket, unless a row has two holders in it.
-pub(crate) fn load(alloc: Global, snapshot: Snapshot) -> Result<Memory, LoadError>
+pub fn load(alloc: Global, snapshot: Snapshot) -> Result<Memory, LoadError>
     requires counted { IsCounted snapshot }
     requires tickets { all_differ same_ticket_key (tickets snapshot) ≡ true }
     ensures { LoadsSnapshot snapshot result }

@@ -1,4 +1,4 @@
-use Rattle.session_store.proofs.uncounted.load.Given as goal
+use Rattle.session_memory.proofs.uncounted.load.Given as goal
 
 -- the ledger is the one that the blank opens
 abbrev pub ghosts-load_by : goal.ghosts-load_by

@@ -1,4 +1,0 @@
-use Rattle.coordinator_core.proofs.table.may_come.Given as goal
-
-abbrev pub ghosts-allows_counted : goal.ghosts-allows_counted
-ghosts-allows_counted a = record { name = a.blank.name; parts = a.blank.parts }
