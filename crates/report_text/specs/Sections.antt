@@ -1,13 +1,17 @@
 -- The sections of a report, by what was kept: their lines are those of the report's definitions.
-use Rattle.std.specs.Prelude.{ℕ, List, [], ◌∷◌, ◌++◌, codes, filter, map, Option, option_map}
+use Rattle.std.specs.Prelude.{◌≡◌, ℕ, List, [], ◌∷◌, ◌++◌, codes, filter, map, Option, option_map}
 use Rattle.seata_types.specs.declared.ids.BranchId.{BranchId}
 use Rattle.seata_types.specs.declared.ids.Xid.{Xid}
 use Rattle.seata_types.specs.declared.rows.RowKey.{RowKey}
 use Rattle.local_tables.specs.Rows.{Rows, is_in}
 use Rattle.local_tables.specs.declared.schemas.TableDef.{TableDef}
+use Rattle.durable_records.specs.declared.coordinators.SessionRecord.{SessionRecord}
 use Rattle.durable_records.specs.declared.resources.ResourceRecord.{ResourceRecord}
 use Rattle.durable_records.specs.Fences.{Fence}
+use Rattle.durable_records.specs.Locks.{locks as records_held}
+use Rattle.durable_records.specs.SessionOrder.{Allowed}
 use Rattle.lock_table.specs.Locks.{locks}
+use Rattle.session_log.specs.SnapshotOf.{snapshot_of}
 use Rattle.session_log.specs.declared.sessions.SessionEntry.{SessionEntry}
 use Rattle.session_memory.specs.Holding.{held_in}
 use Rattle.history_rules.specs.Reports.{SessionLine, each, reads_in}
@@ -32,6 +36,10 @@ holder_in held = (held.0, held.1.0)
 -- the rows that are held, each with its holder
 abbrev pub locks_in : CoordinatorKept → List (RowKey × ℕ)
 locks_in k = map holder_in (locks (held_in k.known))
+
+-- the rows that a table of locks lists over the snapshot of records that may come after one another are those that the records hold
+abbrev pub ListsLocks : Type 0
+ListsLocks = (rs : List SessionRecord) → Allowed rs → map holder_in (locks (held_in (snapshot_of rs))) ≡ records_held rs
 
 -- ---- tables and fences
 

@@ -5,6 +5,7 @@
 mod coordinator;
 mod folding;
 mod kept;
+pub mod laws;
 mod left;
 mod open_works;
 mod records;

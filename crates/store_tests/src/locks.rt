@@ -35,7 +35,16 @@ fn scanned(plain: &[(i64, Xid)], number: i64) -> Option<Xid> {
     None
 }
 
-/// Whether the table answers as the plain list for the rows 0 to 5, and lists as many.
+/// Whether these are the rows of the plain list, each with its holder, in its order.
+fn lists(alloc: Global, listed: &[(RowKey, Xid)], plain: &[(i64, Xid)]) -> Result<bool, Fail> {
+    let mut good = listed.len() == plain.len();
+    for ((key, by), (number, xid)) in listed.iter().zip(plain) {
+        good &= *key == row(alloc, "acc", *number)? && by == xid;
+    }
+    Ok(good)
+}
+
+/// Whether the table answers as the plain list for the rows 0 to 5, and lists its rows; these stand in rising order.
 fn agrees<L: Ledger>(
     alloc: Global,
     table: &LockTable,
@@ -51,7 +60,7 @@ fn agrees<L: Ledger>(
     let Ok(listed) = table.list(alloc) else {
         return Err(Fail::from("no memory"));
     };
-    Ok(listed.as_slice().len() == plain.len())
+    lists(alloc, listed.as_slice(), plain)
 }
 
 fn take_and_give<L: Ledger>(alloc: Global, blank: Blank) -> Result<bool, Fail>
