@@ -1,9 +1,10 @@
 -- How many rows there are under changes.
-use Rattle.std.proofs.Common.{◌≡◌, ℕ, ◌+◌, Bool, true, false, cond, List, [], ◌∷◌, length, count_by, Option, Some, None, is_some, Ordering, Less, Equal, Greater, sym, refl, ap, ◌∙◌, arith}
+use Rattle.std.proofs.Common.{◌≡◌, ℕ, ◌+◌, ◌≤◌, nat_le, Bool, true, false, cond, List, [], ◌∷◌, length, count_by, Option, Some, None, is_some, Ordering, Less, Equal, Greater, sym, refl, ap, ◌∙◌, arith}
 use Rattle.std.specs.BTreeMap.{insert_entry}
 use Rattle.std.specs.List.{AllByRecursion, IsDistinct}
 use Rattle.std.specs.Map.{remove_entry, keys_of, values_of}
 use Rattle.std.specs.Ordering.{match_ordering, is_eq}
+use Rattle.std.proofs.lemmas.Bool.Decides.{nat_tests}
 use Rattle.std.proofs.lemmas.List.Sums.{sum_by-cons}
 use Rattle.std.proofs.lemmas.Map.Keys.{IsDistinct-head, IsDistinct-tail}
 use Rattle.seata_types.specs.Orders.{key_cmp}
@@ -73,3 +74,6 @@ length_put_all rows (c ∷ cs) s d =
     let stood = count_by_cons (stands rows) c.0 (keys_of cs) in
     let puts = count_by_cons is_some c.1 (values_of cs) in
     omega arith
+
+pub fits_under : (n limit : ℕ) → n ≤ limit → true ≡ nat_le n limit
+fits_under n limit le = grind (arith, nat_tests)

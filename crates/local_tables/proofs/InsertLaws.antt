@@ -15,7 +15,7 @@ use Rattle.local_tables.specs.Lookups.{IsRising}
 use Rattle.local_tables.proofs.KeyLaws.{is_key_laws}
 use Rattle.local_tables.proofs.MapLaws.{at, rising_insert, at_insert, same_entries}
 
-rising_nil : (X : Type 0) → IsRising {X = X} []
+pub rising_nil : (X : Type 0) → IsRising {X = X} []
 unfolding IsStrictlySortedBy
 rising_nil X = tt
 

@@ -15,10 +15,12 @@ pub mod MapLaws
 mod MatchLaws
 pub mod MeaningLaws
 mod PassLaws
+mod PlaceLaws
 pub mod PutLaws
 pub mod RowFitLaws
 pub mod RowsKept
 pub mod SideLaws
 pub mod SoundLaws
+mod Searching
 mod StepLaws
 mod TakeLaws

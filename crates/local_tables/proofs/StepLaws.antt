@@ -54,7 +54,7 @@ counted true true after = refl
 counted true false after = refl
 counted false count after = refl
 
-tested_by : (seen count : ℕ) (overflow taken : Option RowKey) (after : Call) → tested (nat_le seen CALL_ROWS) overflow taken (nat_le count RESOURCE_ROWS) after ≡ answer_of (fault seen overflow taken count) after
+tested_by : (seen count : ℕ) (overflow taken : Option RowKey) (after : Call) → tested (nat_le seen CALL_ROWS) overflow taken (nat_le count RESOURCE_ROWS) after ≡ answer_of (fault seen overflow taken (nat_le count RESOURCE_ROWS)) after
 tested_by seen count (Some key) taken after = overflowed (nat_le seen CALL_ROWS) (nat_le count RESOURCE_ROWS) key taken after
 tested_by seen count None (Some key) after = repeated (nat_le seen CALL_ROWS) (nat_le count RESOURCE_ROWS) key after
 tested_by seen count None None after = counted (nat_le seen CALL_ROWS) (nat_le count RESOURCE_ROWS) after
@@ -98,7 +98,7 @@ step_refused db call s def why e f = rw e (refused_by (knows_columns def s) (fil
 
 pub step_taken : (db : Database) (call after : Call) (s : Stmt) (def : TableDef) (made : List Change) (read : Rows) (overflow taken : Option RowKey) (why : Option StmtError) → table_named db.schema (table_of s) ≡ Some def → refusal def s ≡ None
     → made ≡ touches db.resource def s (put_all db.rows call.changes) → read ≡ readings db.resource def s (put_all db.rows call.changes) → after ≡ going_on call made read → overflow ≡ overflow_in s made
-    → taken ≡ duplicate_in s (put_all db.rows call.changes) made → why ≡ fault (rows_seen after) overflow taken (length (put_all db.rows after.changes)) → step db call s ≡ answer_of why after
+    → taken ≡ duplicate_in s (put_all db.rows call.changes) made → why ≡ fault (rows_seen after) overflow taken (nat_le (length (put_all db.rows after.changes)) RESOURCE_ROWS) → step db call s ≡ answer_of why after
 unfolding step
 step_taken db call after s def made read overflow taken why e f is_made is_read is_after is_overflow is_taken is_why =
     let now : Rows = put_all db.rows call.changes in

@@ -1,9 +1,10 @@
 -- One more statement on the tables and the call as they are inside.
-use Rattle.std.proofs.Common.{◌≡◌, ℕ, Bool, true, false, cond, List, length, Option, Some, None, Err, IfNone, sym, refl, ap, ap₂, ◌∙◌, subst₂}
+use Rattle.std.proofs.Common.{◌≡◌, ℕ, nat_le, Bool, true, false, cond, List, length, Option, Some, None, Err, IfNone, sym, refl, ap, ap₂, ◌∙◌, subst₂}
 use Rattle.seata_types.specs.declared.errors.StmtError.{StmtError}
 use Rattle.seata_types.specs.declared.errors.StmtError.TheVariants as errors
 use Rattle.seata_types.specs.declared.rows.RowKey.{RowKey}
 use Rattle.seata_types.specs.declared.statements.Stmt.{Stmt}
+use Rattle.seata_types.specs.declared.limits.TheConstants.{RESOURCE_ROWS}
 use Rattle.local_tables.specs.Calls.{Call, going_on, rows_seen, step}
 use Rattle.local_tables.specs.Checks.{table_of, knows_columns, fills_columns, leaves_key, has_types}
 use Rattle.local_tables.specs.Lookups.{IsRising, AreRowsOf, HasKeysOf}
@@ -30,15 +31,15 @@ pub keys_inside : (v db : Database) (w call : Call) (name : List ℕ) (def : Tab
 keys_inside v db w call name def e f sound rising changes named =
     keys_of_rows def (put_all v.rows w.changes) (rows_inside v db w call name def e f sound rising changes named)
 
-pub step_inside : (v db : Database) (w call u after : Call) (s : Stmt) (def : TableDef) (made : List Change) (read : Rows) (overflow taken : Option RowKey) (seen count : ℕ) (why : Option StmtError) → v ≡ db → w ≡ call → u ≡ after
+pub step_inside : (v db : Database) (w call u after : Call) (s : Stmt) (def : TableDef) (made : List Change) (read : Rows) (overflow taken : Option RowKey) (seen : ℕ) (fits : Bool) (why : Option StmtError) → v ≡ db → w ≡ call → u ≡ after
     → table_named db.schema (table_of s) ≡ Some def → refusal def s ≡ None → made ≡ touches v.resource def s (put_all v.rows w.changes) → read ≡ readings v.resource def s (put_all v.rows w.changes)
-    → after ≡ going_on call made read → overflow ≡ overflow_in s made → taken ≡ duplicate_in s (put_all v.rows w.changes) made → seen ≡ rows_seen after → count ≡ length (put_all v.rows u.changes)
-    → why ≡ fault seen overflow taken count → step db call s ≡ answer_of why after
-step_inside v db w call u after s def made read overflow taken seen count why e f g named accepted is_made is_read is_after is_overflow is_taken is_seen is_count is_why =
+    → after ≡ going_on call made read → overflow ≡ overflow_in s made → taken ≡ duplicate_in s (put_all v.rows w.changes) made → seen ≡ rows_seen after → fits ≡ nat_le (length (put_all v.rows u.changes)) RESOURCE_ROWS
+    → why ≡ fault seen overflow taken fits → step db call s ≡ answer_of why after
+step_inside v db w call u after s def made read overflow taken seen fits why e f g named accepted is_made is_read is_after is_overflow is_taken is_seen is_fits is_why =
     let named' : table_named v.schema (table_of s) ≡ Some def = ap (λ (d : Database). table_named d.schema (table_of s)) e ∙ named in
     let after' : after ≡ going_on w made read = is_after ∙ ap (λ (k : Call). going_on k made read) (sym f) in
-    let count' : count ≡ length (put_all v.rows after.changes) = is_count ∙ ap (λ (k : Call). length (put_all v.rows k.changes)) g in
-    let why' : why ≡ fault (rows_seen after) overflow taken (length (put_all v.rows after.changes)) = is_why ∙ ap₂ (λ m n. fault m overflow taken n) is_seen count' in
+    let fits' : fits ≡ nat_le (length (put_all v.rows after.changes)) RESOURCE_ROWS = is_fits ∙ ap (λ (k : Call). nat_le (length (put_all v.rows k.changes)) RESOURCE_ROWS) g in
+    let why' : why ≡ fault (rows_seen after) overflow taken (nat_le (length (put_all v.rows after.changes)) RESOURCE_ROWS) = is_why ∙ ap₂ (λ m t. fault m overflow taken t) is_seen fits' in
     ap₂ (λ (d : Database) (k : Call). step d k s) (sym e) (sym f) ∙ step_taken v w after s def made read overflow taken why named' accepted is_made is_read after' is_overflow is_taken why'
 
 tests_pass : (a b c d : Bool) → ◌≡◌ {A = Option StmtError} (cond a (cond b (cond c (cond d None (Some errors.TypeMismatch)) (Some errors.KeyChanged)) (Some errors.Columns)) (Some errors.NoColumn)) None

@@ -11,3 +11,4 @@ pub mod Sound
 pub mod Refusals
 pub mod Fitting
 pub mod FittingRows
+pub mod Places

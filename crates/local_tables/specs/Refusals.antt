@@ -3,7 +3,7 @@ use Rattle.std.specs.Prelude.{ℕ, nat_le, Bool, if◌then◌else◌, List, find
 use Rattle.std.specs.Map.{keys_of}
 use Rattle.seata_types.specs.declared.errors.StmtError.{StmtError}
 use Rattle.seata_types.specs.declared.errors.StmtError.TheVariants as errors
-use Rattle.seata_types.specs.declared.limits.TheConstants.{CALL_ROWS, RESOURCE_ROWS}
+use Rattle.seata_types.specs.declared.limits.TheConstants.{CALL_ROWS}
 use Rattle.seata_types.specs.declared.rows.RowKey.{RowKey}
 use Rattle.seata_types.specs.declared.statements.Stmt.{Stmt}
 use Rattle.seata_types.specs.declared.statements.Stmt.TheVariants as stmt
@@ -39,12 +39,12 @@ duplicate_in _ rows changes = None
 
 -- ---- after the statement
 
--- the first of the errors that the rows show: rows seen, rows that can't be computed, keys taken, rows there
-abbrev pub fault : ℕ → Option RowKey → Option RowKey → ℕ → Option StmtError
-fault seen (Some key) taken count = if nat_le seen CALL_ROWS then Some (errors.Overflow key) else Some errors.TooManyRows
-fault seen None (Some key) count = if nat_le seen CALL_ROWS then Some (errors.Duplicate key) else Some errors.TooManyRows
-fault seen None None count =
-    if nat_le seen CALL_ROWS then (if nat_le count RESOURCE_ROWS then None else Some errors.TableFull) else Some errors.TooManyRows
+-- the first of the errors that the rows show: rows seen, rows that can't be computed, keys taken, whether the rows fit
+abbrev pub fault : ℕ → Option RowKey → Option RowKey → Bool → Option StmtError
+fault seen (Some key) taken fits = if nat_le seen CALL_ROWS then Some (errors.Overflow key) else Some errors.TooManyRows
+fault seen None (Some key) fits = if nat_le seen CALL_ROWS then Some (errors.Duplicate key) else Some errors.TooManyRows
+fault seen None None fits =
+    if nat_le seen CALL_ROWS then (if fits then None else Some errors.TableFull) else Some errors.TooManyRows
 
 -- the call as it is after a statement, where nothing refuses it
 abbrev pub answer_of : Option StmtError → Call → Meaning Call

@@ -4,6 +4,7 @@ ghost use Rattle.local_tables.specs.Calls.{image_of, read_of};
 ghost use Rattle.local_tables.specs.Lookups.{IsRising};
 
 use crate::maps::copied;
+use crate::row_map::RowMap;
 use crate::schemas::{Effect, EffectError};
 use crate::state::CallState;
 use crate::tables::Tables;
@@ -98,12 +99,12 @@ fn image_of(
 fn images(
     alloc: Global,
     rows: &BTreeMap<RowKey, Row>,
-    changes: BTreeMap<RowKey, Option<Row>>,
+    changes: RowMap<Option<Row>>,
 ) -> Result<List<Image>, NoMemory>
-    ensures { IfOk result (λ images. images ≡ map (image_of rows.now.entries) changes.entries) }
+    ensures { IfOk result (λ images. images ≡ map (image_of rows.now.entries) changes) }
 {
     let mut images = Vec::new(alloc);
-    for (key, after) in changes {
+    for (key, after) in changes.into_entries() {
         let image = image_of(alloc, rows, key, after)?;
         images.push(image).map_err(|_| NoMemory)?;
     }
@@ -111,11 +112,11 @@ fn images(
 }
 
 /// A read for each row that is read.
-fn reads_of(alloc: Global, rows: BTreeMap<RowKey, Row>) -> Result<List<ReadRow>, NoMemory>
-    ensures { IfOk result (λ reads. reads ≡ map read_of rows.entries) }
+fn reads_of(alloc: Global, rows: RowMap<Row>) -> Result<List<ReadRow>, NoMemory>
+    ensures { IfOk result (λ reads. reads ≡ map read_of rows) }
 {
     let mut reads = Vec::new(alloc);
-    for (key, row) in rows {
+    for (key, row) in rows.into_entries() {
         reads.push(ReadRow { key, row }).map_err(|_| NoMemory)?;
     }
     Ok(List::of(reads))

@@ -12,6 +12,7 @@ pub mod laws;
 mod maps;
 mod matching;
 mod refusing;
+mod row_map;
 pub mod schemas;
 mod state;
 mod steps;

@@ -6,6 +6,7 @@ ghost use Rattle.seata_types.specs.Orders.{key_cmp};
 ghost use Rattle.local_tables.specs.Lookups.{IsRising, change_at, over};
 ghost use Rattle.local_tables.specs.Rows.{key_in, row_at};
 
+use crate::row_map::RowMap;
 use crate::schemas::TableDef;
 use seata_types::{Duplicate, List, NoMemory, Row, RowKey, Value};
 use std::alloc::Global;
@@ -50,10 +51,10 @@ pub fn insert<V: Drop>(map: &mut BTreeMap<RowKey, V>, key: RowKey, value: V) -> 
 /// What stands at a key under the changes.
 pub fn present<'a>(
     rows: &'a BTreeMap<RowKey, Row>,
-    changes: &'a BTreeMap<RowKey, Option<Row>>,
+    changes: &'a RowMap<Option<Row>>,
     key: &RowKey,
 ) -> Option<&'a Row>
-    ensures { option_copied result ≡ over (row_at rows.now.entries key.now) (change_at changes.now.entries key.now) }
+    ensures { option_copied result ≡ over (row_at rows.now.entries key.now) (change_at changes.now key.now) }
 {
     match changes.get(key) {
         Some(Some(row)) => Some(row),

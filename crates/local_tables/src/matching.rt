@@ -11,6 +11,7 @@ ghost use Rattle.local_tables.specs.Lookups.{IsRising, HasKeysOf, over, change_a
 
 use crate::conditions::{place_of, selects};
 use crate::maps::{insert, key_in, present};
+use crate::row_map::RowMap;
 use crate::schemas::TableDef;
 use seata_types::{Cond, CondNode, Duplicate, List, NoMemory, Op, Row, RowKey, Text, Value};
 use std::alloc::Global;
@@ -105,14 +106,15 @@ fn passed(
     def: &TableDef,
     cond: &Option<Cond>,
     rows: &BTreeMap<RowKey, Row>,
-    changes: &BTreeMap<RowKey, Option<Row>>,
+    changes: &RowMap<Option<Row>>,
 ) -> Result<BTreeMap<RowKey, Row>, NoMemory>
     requires { IsMap rows.now.entries }
-    ensures { IfOk result (λ found. found.entries ≡ matched resource def.now cond.now (put_all rows.now.entries changes.now.entries)) }
+    ensures { IfOk result (λ found. found.entries ≡ matched resource def.now cond.now (put_all rows.now.entries changes.now)) }
 {
     let mut found = filtered(alloc, resource, def, cond, rows)?;
-    for (key, change) in changes {
-        follow(alloc, resource, def, cond, &mut found, key, change)?;
+    let entries = changes.entries();
+    for change in entries {
+        follow(alloc, resource, def, cond, &mut found, &change.0, &change.1)?;
     }
     Ok(found)
 }
@@ -182,6 +184,17 @@ fn asked_key(
     }
 }
 
+/// The rows of a map, in its order.
+fn listed(alloc: Global, rows: BTreeMap<RowKey, Row>) -> Result<Vec<(RowKey, Row)>, NoMemory>
+    ensures { IfOk result (λ list. list.items ≡ rows.entries) }
+{
+    let mut list = Vec::new(alloc);
+    for (key, row) in rows {
+        list.push((key, row)).map_err(|_| NoMemory)?;
+    }
+    Ok(list)
+}
+
 /// The one row of which a condition may hold that asks for the key of these values.
 fn looked_up(
     alloc: Global,
@@ -190,18 +203,18 @@ fn looked_up(
     cond: &Option<Cond>,
     values: List<Value>,
     rows: &BTreeMap<RowKey, Row>,
-    changes: &BTreeMap<RowKey, Option<Row>>,
-) -> Result<BTreeMap<RowKey, Row>, NoMemory>
+    changes: &RowMap<Option<Row>>,
+) -> Result<Vec<(RowKey, Row)>, NoMemory>
     ensures { let key = key_in resource def.now values in
-        IfOk result (λ found. found.entries ≡ only key
-        (kept (is_matched resource def.now cond.now) (key, over (row_at rows.now.entries key) (change_at changes.now.entries key))).1) }
+        IfOk result (λ found. found.items ≡ only key
+        (kept (is_matched resource def.now cond.now) (key, over (row_at rows.now.entries key) (change_at changes.now key))).1) }
 {
     let key = key_in(alloc, resource, def, values)?;
-    let mut found = BTreeMap::new(alloc);
+    let mut found = Vec::new(alloc);
     if let Some(row) = present(rows, changes, &key)
         && is_matched(resource, def, cond, &key, row)
     {
-        insert(&mut found, key, row.copy(alloc)?)?;
+        found.push((key, row.copy(alloc)?)).map_err(|_| NoMemory)?;
     }
     Ok(found)
 }
@@ -214,12 +227,12 @@ pub fn matched(
     def: &TableDef,
     cond: &Option<Cond>,
     rows: &BTreeMap<RowKey, Row>,
-    changes: &BTreeMap<RowKey, Option<Row>>,
-) -> Result<BTreeMap<RowKey, Row>, NoMemory>
+    changes: &RowMap<Option<Row>>,
+) -> Result<Vec<(RowKey, Row)>, NoMemory>
     requires in_order { IsMap rows.now.entries }
-    requires rising { IsRising changes.now.entries }
-    requires keyed { HasKeysOf def.now (put_all rows.now.entries changes.now.entries) }
-    ensures { IfOk result (λ found. found.entries ≡ matched resource def.now cond.now (put_all rows.now.entries changes.now.entries)) }
+    requires rising { IsRising changes.now }
+    requires keyed { HasKeysOf def.now (put_all rows.now.entries changes.now) }
+    ensures { IfOk result (λ found. found.items ≡ matched resource def.now cond.now (put_all rows.now.entries changes.now)) }
 {
     let asked = asked_key(alloc, def, cond)?;
     match asked {
@@ -227,6 +240,9 @@ pub fn matched(
             let found = looked_up(alloc, resource, def, cond, values, rows, changes)?;
             Ok(found)
         }
-        None => passed(alloc, resource, def, cond, rows, changes),
+        None => {
+            let found = passed(alloc, resource, def, cond, rows, changes)?;
+            listed(alloc, found)
+        }
     }
 }

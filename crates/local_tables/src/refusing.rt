@@ -9,9 +9,10 @@ ghost use Rattle.local_tables.specs.Lookups.{IsRising};
 
 use crate::checking::{fills_columns, knows_columns, leaves_key};
 use crate::maps::present;
+use crate::row_map::RowMap;
 use crate::schemas::TableDef;
 use crate::typing::has_types;
-use seata_types::limits::{CALL_ROWS, RESOURCE_ROWS};
+use seata_types::limits::CALL_ROWS;
 use seata_types::{Row, RowKey, Stmt, StmtError};
 use std::collections::BTreeMap;
 
@@ -69,14 +70,10 @@ fn times(made: &[(RowKey, Option<Row>)], key: &RowKey) -> usize
 }
 
 /// Whether there is a row at a key under the changes.
-fn is_there(
-    rows: &BTreeMap<RowKey, Row>,
-    changes: &BTreeMap<RowKey, Option<Row>>,
-    key: &RowKey,
-) -> bool
+fn is_there(rows: &BTreeMap<RowKey, Row>, changes: &RowMap<Option<Row>>, key: &RowKey) -> bool
     requires in_order { IsMap rows.now.entries }
-    requires rising { IsRising changes.now.entries }
-    ensures { result ≡ is_some (row_at (put_all rows.now.entries changes.now.entries) key.now) }
+    requires rising { IsRising changes.now }
+    ensures { result ≡ is_some (row_at (put_all rows.now.entries changes.now) key.now) }
 {
     present(rows, changes, key).is_some()
 }
@@ -84,13 +81,13 @@ fn is_there(
 /// Whether a key is there already, or stands twice among the changes.
 fn is_taken(
     rows: &BTreeMap<RowKey, Row>,
-    changes: &BTreeMap<RowKey, Option<Row>>,
+    changes: &RowMap<Option<Row>>,
     made: &[(RowKey, Option<Row>)],
     key: &RowKey,
 ) -> bool
     requires in_order { IsMap rows.now.entries }
-    requires rising { IsRising changes.now.entries }
-    ensures { result ≡ is_taken (put_all rows.now.entries changes.now.entries) (keys_of made.now) key.now }
+    requires rising { IsRising changes.now }
+    ensures { result ≡ is_taken (put_all rows.now.entries changes.now) (keys_of made.now) key.now }
 {
     is_there(rows, changes, key) || times(made, key) > 1
 }
@@ -98,12 +95,12 @@ fn is_taken(
 /// The first key of changes that is there already, or that stands twice.
 fn first_taken<'a>(
     rows: &BTreeMap<RowKey, Row>,
-    changes: &BTreeMap<RowKey, Option<Row>>,
+    changes: &RowMap<Option<Row>>,
     made: &'a [(RowKey, Option<Row>)],
 ) -> Option<&'a RowKey>
     requires in_order { IsMap rows.now.entries }
-    requires rising { IsRising changes.now.entries }
-    ensures { option_copied result ≡ first_taken (put_all rows.now.entries changes.now.entries) (keys_of made.now) }
+    requires rising { IsRising changes.now }
+    ensures { option_copied result ≡ first_taken (put_all rows.now.entries changes.now) (keys_of made.now) }
 {
     for change in made {
         if is_taken(rows, changes, made, &change.0) {
@@ -117,12 +114,12 @@ fn first_taken<'a>(
 pub fn duplicate_in<'a>(
     stmt: &Stmt,
     rows: &BTreeMap<RowKey, Row>,
-    changes: &BTreeMap<RowKey, Option<Row>>,
+    changes: &RowMap<Option<Row>>,
     made: &'a [(RowKey, Option<Row>)],
 ) -> Option<&'a RowKey>
     requires in_order { IsMap rows.now.entries }
-    requires rising { IsRising changes.now.entries }
-    ensures { option_copied result ≡ duplicate_in stmt.now (put_all rows.now.entries changes.now.entries) made.now }
+    requires rising { IsRising changes.now }
+    ensures { option_copied result ≡ duplicate_in stmt.now (put_all rows.now.entries changes.now) made.now }
 {
     match stmt {
         Stmt::Insert { .. } => first_taken(rows, changes, made),
@@ -132,14 +129,14 @@ pub fn duplicate_in<'a>(
     }
 }
 
-/// The first of the errors that the rows show: rows seen, a row that can't be computed, a key taken, rows there.
+/// The first of the errors that the rows show: rows seen, a row that can't be computed, a key taken, rows that fit.
 pub fn fault(
     seen: usize,
     overflow: Option<RowKey>,
     taken: Option<RowKey>,
-    count: usize,
+    fits: bool,
 ) -> Option<StmtError>
-    ensures { result ≡ fault seen overflow taken count }
+    ensures { result ≡ fault seen overflow taken fits }
 {
     if seen > CALL_ROWS {
         return Some(StmtError::TooManyRows);
@@ -150,7 +147,7 @@ pub fn fault(
     if let Some(key) = taken {
         return Some(StmtError::Duplicate { key });
     }
-    if count > RESOURCE_ROWS {
+    if !fits {
         return Some(StmtError::TableFull);
     }
     None

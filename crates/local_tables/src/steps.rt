@@ -4,7 +4,7 @@ use crate::conditions::table_named;
 use crate::maps::copied;
 use crate::refusing::{duplicate_in, fault, overflow_in, refusal};
 use crate::schemas::TableDef;
-use crate::state::{CallState, rows_under};
+use crate::state::{CallState, rows_fit};
 use crate::tables::Tables;
 use crate::touching::{readings, touches};
 use seata_types::{NoMemory, Stmt, StmtError};
@@ -59,7 +59,7 @@ impl Tables {
         let overflow = copied(alloc, overflow_in(stmt, &made))?;
         let taken = copied(alloc, duplicate_in(stmt, rows, &call.changes, &made))?;
         call.go_on(made, read)?;
-        let count = rows_under(rows, &call.changes);
-        Ok(fault(call.rows_seen(), overflow, taken, count))
+        let fits = rows_fit(rows, &call.changes);
+        Ok(fault(call.rows_seen(), overflow, taken, fits))
     }
 }

@@ -9,6 +9,7 @@ ghost use Rattle.local_tables.specs.Lookups.{IsRising, HasKeysOf};
 use crate::expressions::updated;
 use crate::maps::key_in;
 use crate::matching::matched;
+use crate::row_map::RowMap;
 use crate::schemas::{ColType, TableDef};
 use seata_types::{Duplicate, Expr, List, NoMemory, Row, RowKey, Stmt, Text, Value};
 use std::alloc::Global;
@@ -115,9 +116,9 @@ fn updates(
     alloc: Global,
     def: &TableDef,
     sets: &[(Text, Expr)],
-    found: BTreeMap<RowKey, Row>,
+    found: Vec<(RowKey, Row)>,
 ) -> Result<Vec<(RowKey, Option<Row>)>, NoMemory>
-    ensures { IfOk result (λ changes. changes.items ≡ map (becomes def.now sets.now) found.entries) }
+    ensures { IfOk result (λ changes. changes.items ≡ map (becomes def.now sets.now) found.items) }
 {
     let mut changes = Vec::new(alloc);
     for (key, row) in found {
@@ -130,9 +131,9 @@ fn updates(
 /// The matched rows as a DELETE leaves them.
 fn removals(
     alloc: Global,
-    found: BTreeMap<RowKey, Row>,
+    found: Vec<(RowKey, Row)>,
 ) -> Result<Vec<(RowKey, Option<Row>)>, NoMemory>
-    ensures { IfOk result (λ changes. changes.items ≡ map goes found.entries) }
+    ensures { IfOk result (λ changes. changes.items ≡ map goes found.items) }
 {
     let mut changes = Vec::new(alloc);
     for (key, _row) in found {
@@ -148,12 +149,12 @@ pub fn touches(
     def: &TableDef,
     stmt: &Stmt,
     rows: &BTreeMap<RowKey, Row>,
-    changes: &BTreeMap<RowKey, Option<Row>>,
+    changes: &RowMap<Option<Row>>,
 ) -> Result<Vec<(RowKey, Option<Row>)>, NoMemory>
     requires in_order { IsMap rows.now.entries }
-    requires rising { IsRising changes.now.entries }
-    requires keyed { HasKeysOf def.now (put_all rows.now.entries changes.now.entries) }
-    ensures { IfOk result (λ made. made.items ≡ touches resource def.now stmt.now (put_all rows.now.entries changes.now.entries)) }
+    requires rising { IsRising changes.now }
+    requires keyed { HasKeysOf def.now (put_all rows.now.entries changes.now) }
+    ensures { IfOk result (λ made. made.items ≡ touches resource def.now stmt.now (put_all rows.now.entries changes.now)) }
 {
     match stmt {
         Stmt::Insert {
@@ -185,20 +186,20 @@ pub fn readings(
     def: &TableDef,
     stmt: &Stmt,
     rows: &BTreeMap<RowKey, Row>,
-    changes: &BTreeMap<RowKey, Option<Row>>,
-) -> Result<BTreeMap<RowKey, Row>, NoMemory>
+    changes: &RowMap<Option<Row>>,
+) -> Result<Vec<(RowKey, Row)>, NoMemory>
     requires in_order { IsMap rows.now.entries }
-    requires rising { IsRising changes.now.entries }
-    requires keyed { HasKeysOf def.now (put_all rows.now.entries changes.now.entries) }
-    ensures { IfOk result (λ found. found.entries ≡ readings resource def.now stmt.now (put_all rows.now.entries changes.now.entries)) }
+    requires rising { IsRising changes.now }
+    requires keyed { HasKeysOf def.now (put_all rows.now.entries changes.now) }
+    ensures { IfOk result (λ found. found.items ≡ readings resource def.now stmt.now (put_all rows.now.entries changes.now)) }
 {
     match stmt {
         Stmt::Select { cond, .. } => {
             let found = matched(alloc, resource, def, cond, rows, changes)?;
             Ok(found)
         }
-        Stmt::Insert { .. } => Ok(BTreeMap::new(alloc)),
-        Stmt::Update { .. } => Ok(BTreeMap::new(alloc)),
-        Stmt::Delete { .. } => Ok(BTreeMap::new(alloc)),
+        Stmt::Insert { .. } => Ok(Vec::new(alloc)),
+        Stmt::Update { .. } => Ok(Vec::new(alloc)),
+        Stmt::Delete { .. } => Ok(Vec::new(alloc)),
     }
 }

@@ -16,11 +16,11 @@ readings-requires-clause-keyed c =
 pub returns-clause-meaning : goal.returns-clause-meaning
 returns-clause-meaning c =
     let overflow = c.in_ok-overflow.ensures ∙ c.overflow_in.ensures ∙ ap (overflow_in c.args.stmt.now) c.deref.ensures.value in
-    let taken = c.in_ok-taken.ensures ∙ c.duplicate_in.ensures ∙ ap (duplicate_in c.args.stmt.now (put_all c.self.inside.rows.entries c.call.inside.changes.entries)) c.deref-2.ensures.value in
-    step_inside _ c.args.self.now _ c.args.call.now _ c.go_on.new.self c.args.stmt.now c.args.def.now c.in_ok-made.made.items c.in_ok-read.read.entries _ _ _ _ c.fault.result c.self.view_is c.call.view_is c.call-2.view_is c.requires.named
-    c.requires.accepted c.in_ok-made.ensures c.in_ok-read.ensures c.in_ok-go_on.ensures overflow taken c.rows_seen.ensures c.rows_under-count.ensures c.fault.ensures
+    let taken = c.in_ok-taken.ensures ∙ c.duplicate_in.ensures ∙ ap (duplicate_in c.args.stmt.now (put_all c.self.inside.rows.entries c.call.inside.changes)) c.deref-2.ensures.value in
+    step_inside _ c.args.self.now _ c.args.call.now _ c.go_on.new.self c.args.stmt.now c.args.def.now c.in_ok-made.made.items c.in_ok-read.read.items _ _ _ _ c.fault.result c.self.view_is c.call.view_is c.call-2.view_is c.requires.named
+    c.requires.accepted c.in_ok-made.ensures c.in_ok-read.ensures c.in_ok-go_on.ensures overflow taken c.rows_seen.ensures c.rows_fit-fits.ensures c.fault.ensures
 
 pub returns-clause-changes : goal.returns-clause-changes
 returns-clause-changes c =
-    changes_after _ c.args.self.now _ c.args.call.now c.go_on.new.self c.args.stmt.now c.args.def.now c.in_ok-made.made.items c.in_ok-read.read.entries c.fault.result c.self.view_is c.call.view_is c.requires.named c.requires.accepted
+    changes_after _ c.args.self.now _ c.args.call.now c.go_on.new.self c.args.stmt.now c.args.def.now c.in_ok-made.made.items c.in_ok-read.read.items c.fault.result c.self.view_is c.call.view_is c.requires.named c.requires.accepted
     c.in_ok-made.ensures c.in_ok-go_on.ensures c.self.invariant c.call.invariant.0 c.requires.changes
