@@ -11,18 +11,22 @@ use local_tables::{Schema, TableDef};
 use seata_types::limits::{STATEMENT_BYTES, STATEMENTS};
 use seata_types::{BranchKind, List, Stmt};
 use serde_json::Value;
-use sql_reader::{SqlError, read_stmt};
+use sql_reader::{SqlError, StmtReader};
 use std::alloc::Global;
 
 /// A statement of the grammar.
 #[tactic(auto, unfolding(crate::specs::Calls::parsed))]
-fn parsed(alloc: Global, text: &str) -> Result<Stmt, ScenarioError>
+fn parsed<'a>(
+    alloc: Global,
+    reader: &mut StmtReader<'a>,
+    text: &'a str,
+) -> Result<Stmt, ScenarioError>
     ensures { Answers (form.parsed text.now) result }
 {
     if text.len() > STATEMENT_BYTES {
         return Err(ScenarioError::beyond(alloc, STATEMENT_BYTES as u64));
     }
-    match read_stmt(alloc, text) {
+    match reader.read(alloc, text) {
         Ok(found) => Ok(found),
         Err(SqlError::Refused { at, .. }) => Err(ScenarioError::sql(alloc, at)),
         Err(SqlError::NoMemory) => Err(ScenarioError::NoMemory),
@@ -81,16 +85,17 @@ fn stands(
 }
 
 #[tactic(auto, unfolding(crate::specs::Calls::statement))]
-fn statement(
+fn statement<'a>(
     alloc: Global,
+    reader: &mut StmtReader<'a>,
     schema: &Schema,
     wanted: BranchKind,
-    value: &Value,
+    value: &'a Value,
 ) -> Result<Stmt, ScenarioError>
     ensures { Answers (form.statement schema.now wanted (view value.now)) result }
 {
     let text = text_in(alloc, value)?;
-    let found = parsed(alloc, text)?;
+    let found = parsed(alloc, reader, text)?;
     match stands(alloc, schema, wanted, &found) {
         Ok(()) => Ok(found),
         Err(fault) => {
@@ -108,12 +113,12 @@ fn each_statement(
 ) -> Result<Vec<Stmt>, ScenarioError>
     ensures { AnswersAs vec_of (each (form.next_statement schema.now wanted) [] (items_view values.now)) result }
 {
+    let mut reader = StmtReader::new(alloc);
     let mut statements = Vec::with_capacity(alloc, values.len())?;
     for value in values {
-        let found = statement(alloc, schema, wanted, value).map_err(|fault| fault.in_item(
-            alloc,
-            statements.len(),
-        ))?;
+        let found = statement(alloc, &mut reader, schema, wanted, value).map_err(
+            |fault| fault.in_item(alloc, statements.len()),
+        )?;
         statements.push(found)?;
     }
     Ok(statements)

@@ -26,6 +26,11 @@ text_at_plain z at v inside plain =
     let other : (get_or z at 0 == quote) ≡ false = grind (arith, nat_tests) in
     rw (first, text_at-cons (get_or z at 0) (drop (at + 1) z), other) (sym (behind-behind v (get_or z at 0 ∷ []) at 1 (text_at (drop (at + 1) z))))
 
+-- the same at a place under another name
+pub text_at_plain_at : (z : List ℕ) (at next : ℕ) (v : List ℕ) → next ≡ at → at < length z → get_or z at 0 ≢ quote
+    → behind (v ++ (get_or z next 0 ∷ [])) (next + 1) (text_at (drop (next + 1) z)) ≡ behind v at (text_at (drop at z))
+text_at_plain_at z at next v same inside plain = rw same (text_at_plain z at v inside plain)
+
 -- two quotes
 pub text_at_double : (z : List ℕ) (at next : ℕ) (v : List ℕ) → next ≡ at + 1 → at < length z → get_or z at 0 ≡ quote → get_or z next 0 ≡ quote
     → behind (v ++ (get_or z next 0 ∷ [])) (next + 1) (text_at (drop (next + 1) z)) ≡ behind v at (text_at (drop at z))
@@ -51,7 +56,7 @@ text_at_closed z at v inside first second =
 
 -- ---- UTF-8
 
-nil-behind : (more : Option (List ℕ × ℕ)) → more ≡ behind [] 0 more
+pub nil-behind : (more : Option (List ℕ × ℕ)) → more ≡ behind [] 0 more
 nil-behind None = refl
 nil-behind (Some f) = ap (λ n. Some (f.0, n)) (sym (zero-add f.1))
 

@@ -1,8 +1,9 @@
 -- How a text is cut into tokens.
-use Rattle.std.specs.Prelude.{ℕ, zero, suc, ◌+◌, ◌-◌, ◌*◌, ◌^◌, min, Bool, true, false, ◌&&◌, ◌||◌, if◌then◌else◌, ◌==◌, nat_le, List, [], ◌∷◌, ◌++◌, length, map, drop, slice_index, Option, Some, None, option_map, codes, not}
+use Rattle.std.specs.Prelude.{ℕ, zero, suc, ◌+◌, ◌-◌, ◌*◌, ◌^◌, min, Bool, true, false, ◌&&◌, ◌||◌, if◌then◌else◌, ◌==◌, nat_le, List, [], ◌∷◌, length, map, drop, slice_index, Option, Some, None, codes, not}
 use Rattle.std.specs.List.{take_while, prefix_len, list_all}
 pub use Rattle.std.specs.Char.{is_ascii_alphabetic, is_ascii_alphanumeric, is_ascii_digit, is_ascii_lowercase}
 use Rattle.std.specs.Str.{str_eq_ignore_ascii_case, byte}
+pub use Rattle.sql_reader.specs.Texts.{quote, behind, text_at}
 use Rattle.seata_types.specs.declared.limits.TheConstants.{NAME_BYTES, TEXT_BYTES}
 use Rattle.sql_reader.specs.declared.symbols.Symbol.{Symbol}
 use Rattle.sql_reader.specs.declared.symbols.Symbol.TheVariants as symbol
@@ -56,20 +57,6 @@ number_after n [] = n
 number_after n (c ∷ cs) = number_after (n * 10 + (c - 48)) cs
 
 -- ---- texts
-
-abbrev pub quote : ℕ
-quote = byte "'"
-
-abbrev pub behind : List ℕ → ℕ → Option (List ℕ × ℕ) → Option (List ℕ × ℕ)
-behind value bytes more = option_map (λ m. (value ++ m.0, bytes + m.1)) more
-
--- The value of a text, by what follows its opening quote, and the bytes from there up to and with its closing
--- quote. Two quotes in a row stand for one.
-abbrev pub text_at : List ℕ → Option (List ℕ × ℕ)
-text_at [] = None
-text_at (b ∷ []) = if b == quote then Some ([], 1) else None
-text_at (b ∷ c ∷ z) =
-    if b == quote then (if c == quote then behind (quote ∷ []) 2 (text_at z) else Some ([], 1)) else behind (b ∷ []) 1 (text_at (c ∷ z))
 
 -- no control character: neither below a space nor 127
 abbrev pub is_printable : ℕ → Bool

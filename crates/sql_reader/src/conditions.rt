@@ -66,7 +66,9 @@ fn innermost(alloc: Global, tokens: &mut Cursor<'_>) -> Result<Cond, Stop>
 }
 
 /// A fact where `room` further NOT and parentheses may be open.
+// Inlined as far as conditions aren't nested, so that a condition is made where it will stand.
 #[cycle(condition)]
+#[inline(always)]
 #[tactic(auto, unfolding(crate::specs::Grammar::fact))]
 fn fact(alloc: Global, tokens: &mut Cursor<'_>, room: usize) -> Result<Cond, Stop>
     ensures { Reads (spec.fact room tokens.old) result tokens.new }
@@ -88,6 +90,7 @@ fn fact(alloc: Global, tokens: &mut Cursor<'_>, room: usize) -> Result<Cond, Sto
 
 /// Facts joined by AND, from the left.
 #[cycle(condition)]
+#[inline(always)]
 #[tactic(auto, unfolding(crate::specs::Grammar::conjunction, crate::specs::Parsing::more))]
 fn conjunction(alloc: Global, tokens: &mut Cursor<'_>, room: usize) -> Result<Cond, Stop>
     ensures { Reads (spec.conjunction (spec.fact room) tokens.old) result tokens.new }

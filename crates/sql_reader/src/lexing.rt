@@ -1,14 +1,16 @@
 //! Cuts a text into tokens.
-ghost use Rattle.std.specs.Prelude.{◌≡◌, ◌<◌, ◌≤◌, ◌+◌, ◌^◌, ◌-◌, map, length, min, slice_index, IfOk, Some, None, option_map, IfSome, drop, true};
-ghost use Rattle.std.specs.Str.{IsUtf8, str_eq_ignore_ascii_case};
+ghost use Rattle.std.specs.Prelude.{◌≡◌, ◌&&◌, ◌<◌, ◌≤◌, ◌+◌, ◌^◌, ◌-◌, map, length, min, slice_index, IfOk, Some, None, option_map, IfSome, OnOk, drop, true};
+ghost use Rattle.std.specs.Str.{str_eq_ignore_ascii_case};
 ghost use Rattle.std.specs.List.{prefix_len, take_while, list_all};
 ghost use Rattle.sql_reader.specs.Lexing as spec;
 
+use crate::bytes::byte;
+use crate::quote::Quote;
 use crate::symbols::{OF_FIVE, OF_FOUR, OF_SIX, OF_THREE, OF_TWO, Symbol};
 use crate::tokens::Token;
 use crate::word::Word;
+use seata_types::NoMemory;
 use seata_types::limits::{NAME_BYTES, TEXT_BYTES};
-use seata_types::{NoMemory, Text};
 use std::alloc::Global;
 
 fn is_blank(b: u8) -> bool
@@ -33,13 +35,6 @@ fn is_printable(b: u8) -> bool
     ensures { result ≡ spec.is_printable b }
 {
     b >= 32 && b != 127
-}
-
-/// The byte at a place, and 0 past the end.
-fn byte(z: &[u8], at: usize) -> u8
-    ensures { result ≡ slice_index z.now at }
-{
-    if at < z.len() { z[at] } else { 0 }
 }
 
 fn word_len(z: &[u8]) -> usize
@@ -113,19 +108,6 @@ fn has_name_form(word: &[u8]) -> bool
     byte(word, 0).is_ascii_lowercase() && word.len() <= NAME_BYTES && has_name_bytes(word)
 }
 
-fn has_no_control(value: &[u8]) -> bool
-    ensures { result ≡ list_all spec.is_printable value.now }
-{
-    value.iter().all(|b| is_printable(*b))
-}
-
-#[tactic(auto, unfolding(crate::specs::Lexing::has_text_form))]
-fn has_text_form(value: &[u8]) -> bool
-    ensures { result ≡ spec.has_text_form value.now }
-{
-    value.len() <= TEXT_BYTES && has_no_control(value)
-}
-
 fn number(digits: &[u8]) -> u64
     ensures { result ≡ min (spec.number_after 0 digits.now) (2 ^ 64 - 1) }
 {
@@ -162,14 +144,6 @@ fn mark(b: u8, next: u8) -> Option<(Symbol, usize)>
     }
 }
 
-/// The text that UTF-8 bytes spell.
-fn utf8_text(bytes: Vec<u8>) -> Text
-    requires { IsUtf8 bytes.items }
-    ensures { result ≡ bytes.items }
-{
-    Text::of(String::from_utf8(bytes).unwrap())
-}
-
 #[tactic(auto, unfolding(crate::specs::Lexing::word_token))]
 fn word_token(word: &str) -> Token<'_>
     ensures { result ≡ spec.word_token word.now }
@@ -195,91 +169,101 @@ fn word_at(text: &str, at: usize) -> &str
     &text[at..at + len]
 }
 
-/// The value of a text, by what follows its opening quote, and how many bytes it takes from there
-/// on; none where it isn't closed.
-fn text_value(alloc: Global, z: &[u8]) -> Result<Option<(Vec<u8>, usize)>, NoMemory>
-    ensures value { IfOk result (λ found. option_map (λ f. (f.0.items, f.1)) found ≡ spec.text_at z.now) }
-    ensures within { IfOk result (λ found. IfSome found (λ f. f.1 ≤ length z.now)) }
+/// Whether bytes have no control character, with this one behind them.
+fn still_plain(is_plain: bool, b: u8) -> bool
+    ensures { result ≡ (is_plain && spec.is_printable b) }
 {
-    let mut value = Vec::new(alloc);
+    is_plain && is_printable(b)
+}
+
+/// What a text is, by what follows its opening quote: how many bytes it takes from there on, and whether
+/// its value has the form of a text; none where it isn't closed.
+#[tactic(auto, unfolding(crate::specs::Lexing::has_text_form))]
+fn text_form(z: &[u8]) -> Option<(usize, bool)>
+    ensures value { result ≡ option_map (λ f. (f.1, spec.has_text_form f.0)) (spec.text_at z.now) }
+    ensures within { IfSome result (λ f. f.0 ≤ length z.now) }
+{
+    let mut len = 0;
+    let mut is_plain = true;
     let mut at = 0;
     while at < z.len() {
         if z[at] == b'\'' {
             at += 1;
             if byte(z, at) != b'\'' {
-                return Ok(Some((value, at)));
+                return Some((at, len <= TEXT_BYTES && is_plain));
             }
         }
-        value.push(z[at]).map_err(|_| NoMemory)?;
+        is_plain = still_plain(is_plain, z[at]);
+        len += 1;
         at += 1;
     }
-    Ok(None)
+    None
 }
 
 /// The token of a text, by what follows its opening quote, and how many bytes it has.
-fn text_token<'a>(alloc: Global, rest: &'a str) -> Result<(Token<'a>, usize), NoMemory>
-    ensures value { IfOk result (λ t. t ≡ spec.text_by rest.now (spec.text_at rest.now)) }
-    ensures within { IfOk result (λ t. (1 ≤ t.1) × (t.1 ≤ length rest.now + 1)) }
+fn text_token(rest: &str) -> (Token<'_>, usize)
+    ensures value { result ≡ spec.text_by rest.now (spec.text_at rest.now) }
+    ensures within { (1 ≤ result.1) × (result.1 ≤ length rest.now + 1) }
 {
-    let Some((value, len)) = text_value(alloc, rest.as_bytes())? else {
-        return Ok((Token::BadText, rest.len() + 1));
-    };
-    if !has_text_form(&value) {
-        return Ok((Token::BadText, len + 1));
+    match text_form(rest.as_bytes()) {
+        Some((len, true)) => (Token::Quoted(Quote::before(rest)), len + 1),
+        Some((len, false)) => (Token::BadText, len + 1),
+        None => (Token::BadText, rest.len() + 1),
     }
-    Ok((Token::Quoted(utf8_text(value)), len + 1))
 }
 
 // Inlined, so that a token stays in registers up to its place in the list.
 #[inline(always)]
 #[tactic(auto, unfolding(crate::specs::Lexing::token_at))]
-fn token_at<'a>(alloc: Global, text: &'a str, at: usize) -> Result<(Token<'a>, usize), NoMemory>
+fn token_at(text: &str, at: usize) -> (Token<'_>, usize)
     requires { at < length text.now }
-    ensures value { IfOk result (λ t. t ≡ spec.token_at (drop at text.now)) }
-    ensures within { IfOk result (λ t. (1 ≤ t.1) × (at + t.1 ≤ length text.now)) }
+    ensures value { result ≡ spec.token_at (drop at text.now) }
+    ensures within { (1 ≤ result.1) × (at + result.1 ≤ length text.now) }
 {
     let z = &text.as_bytes()[at..];
     let first = byte(z, 0);
     if first.is_ascii_alphabetic() {
         let word = word_at(text, at);
-        return Ok((word_token(word), word.len()));
+        return (word_token(word), word.len());
     }
     if first.is_ascii_digit() {
         let len = digits_len(z);
-        return Ok((Token::Number(number(&z[..len])), len));
+        return (Token::Number(number(&z[..len])), len);
     }
     if first == b'\'' {
-        let found = text_token(alloc, &text[at + 1..])?;
-        return Ok(found);
+        return text_token(&text[at + 1..]);
     }
     match mark(first, byte(z, 1)) {
-        Some((symbol, len)) => Ok((Token::Symbol(symbol), len)),
-        None => Ok((Token::Unknown, 1)),
+        Some((symbol, len)) => (Token::Symbol(symbol), len),
+        None => (Token::Unknown, 1),
     }
 }
 
-/// The tokens of a text.
-pub fn lex<'a>(alloc: Global, text: &'a str) -> Result<Vec<Token<'a>>, NoMemory>
-    ensures { IfOk result (λ found. found.items ≡ spec.tokens text.now) }
+/// Puts the tokens of a text into a list, in place of those that it has.
+pub fn lex<'a>(text: &'a str, tokens: &mut Vec<Token<'a>>) -> Result<(), NoMemory>
+    ensures { OnOk result (tokens.new.items ≡ spec.tokens text.now) }
 {
     let bytes = text.as_bytes();
+    tokens.clear();
     // Most texts have at most two tokens for each five bytes; in steps of 16, so that the next text finds
     // room of the same size.
     let room = bytes.len() / 40 * 16 + 16;
-    let mut tokens = Vec::with_capacity(alloc, room).map_err(|_| NoMemory)?;
+    if tokens.reserve(room).is_err() {
+        return Err(NoMemory);
+    }
     let mut at = 0;
     while at < bytes.len() {
         if is_blank(bytes[at]) {
             at += 1;
         } else {
-            let (token, len) = token_at(alloc, text, at)?;
+            let (token, len) = token_at(text, at);
             if tokens.push(token).is_err() {
                 return Err(NoMemory);
             }
             at += len;
         }
     }
-    Ok(tokens)
+    Ok(())
 }
 
 /// The bytes at which the tokens of a text begin.
@@ -293,7 +277,7 @@ pub fn places(alloc: Global, text: &str) -> Result<Vec<usize>, NoMemory>
         if is_blank(bytes[at]) {
             at += 1;
         } else {
-            let (_, len) = token_at(alloc, text, at)?;
+            let (_, len) = token_at(text, at);
             places.push(at).map_err(|_| NoMemory)?;
             at += len;
         }

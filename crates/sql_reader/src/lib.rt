@@ -3,6 +3,7 @@
 //! (tokens), `specs/Grammar` (productions), `specs/Answer` (the reading), `specs/Canonical` (the text).
 #![tactic(auto)]
 
+mod bytes;
 mod conditions;
 mod cursor;
 mod errors;
@@ -10,6 +11,7 @@ mod laws;
 mod lexing;
 mod lists;
 mod parts;
+mod quote;
 mod reading;
 mod statements;
 mod symbols;
@@ -24,5 +26,5 @@ pub use laws::{
     canonical_texts_read_back, conditions_are_spelled, keywords_read_alike,
     parentheses_change_nothing, what_is_read_can_be_written,
 };
-pub use reading::read_stmt;
+pub use reading::{StmtReader, read_stmt};
 pub use writing::write_stmt;

@@ -7,7 +7,7 @@ use crate::cursor::Cursor;
 use crate::errors::{SqlKind, Stop};
 use crate::symbols::Symbol;
 use crate::tokens::Token;
-use seata_types::{Duplicate, Expr, List, Sign, Term, Text, Value};
+use seata_types::{Expr, List, Sign, Term, Text, Value};
 use std::alloc::Global;
 
 #[inline(always)]
@@ -46,7 +46,7 @@ pub fn literal(alloc: Global, tokens: &mut Cursor<'_>) -> Result<Value, Stop>
         }
         Token::Symbol(Symbol::Minus) => negative(tokens, rest),
         Token::Quoted(found) => {
-            let text = found.copy(alloc)?;
+            let text = found.to_text(alloc)?;
             tokens.go_on(rest);
             Ok(Value::Text(text))
         }

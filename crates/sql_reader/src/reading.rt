@@ -9,6 +9,7 @@ use crate::cursor::Cursor;
 use crate::errors::{Refusal, SqlError, Stop};
 use crate::lexing::{lex, places};
 use crate::statements::statement;
+use crate::tokens::Token;
 use seata_types::{NoMemory, Stmt};
 use std::alloc::Global;
 
@@ -37,8 +38,42 @@ fn refused(alloc: Global, text: &str, refusal: Refusal) -> SqlError
     }
 }
 
+/// Reads statements, one after the other, with one list of tokens.
+#[derive(Drop)]
+pub struct StmtReader<'a> {
+    tokens: Vec<Token<'a>>,
+}
+
+impl<'a> StmtReader<'a> {
+    pub fn new(alloc: Global) -> StmtReader<'a> {
+        StmtReader {
+            tokens: Vec::new(alloc),
+        }
+    }
+
+    /// The statement that a text is. Its length has no limit here.
+    #[tactic(auto, unfolding(crate::specs::Answer::reading))]
+    pub fn read(&mut self, alloc: Global, text: &'a str) -> Result<Stmt, SqlError>
+        // A statement, exactly where the text is in the grammar.
+        ensures ok { IfOk result (λ s. reading text.now ≡ Ok s) }
+        // A refusal, exactly where the text is not in it, with the first token that can't stand there.
+        ensures refused { IfErr result (λ e. e ≢ SqlError.NoMemory → reading text.now ≡ Err e) }
+        // A statement that can be written again.
+        ensures readable { IfOk result IsReadable }
+    {
+        match lex(text, &mut self.tokens) {
+            Ok(()) => {}
+            Err(NoMemory) => return Err(SqlError::NoMemory),
+        }
+        match statement(alloc, &mut Cursor::new(&self.tokens)) {
+            Ok(statement) => Ok(statement),
+            Err(Stop::NoMemory) => Err(SqlError::NoMemory),
+            Err(Stop::Refused(refusal)) => Err(refused(alloc, text, refusal)),
+        }
+    }
+}
+
 /// The statement that a text is. Its length has no limit here.
-#[tactic(auto, unfolding(crate::specs::Answer::reading))]
 pub fn read_stmt(alloc: Global, text: &str) -> Result<Stmt, SqlError>
     // A statement, exactly where the text is in the grammar.
     ensures ok { IfOk result (λ s. reading text.now ≡ Ok s) }
@@ -47,13 +82,5 @@ pub fn read_stmt(alloc: Global, text: &str) -> Result<Stmt, SqlError>
     // A statement that can be written again.
     ensures readable { IfOk result IsReadable }
 {
-    let tokens = match lex(alloc, text) {
-        Ok(tokens) => tokens,
-        Err(NoMemory) => return Err(SqlError::NoMemory),
-    };
-    match statement(alloc, &mut Cursor::new(&tokens)) {
-        Ok(statement) => Ok(statement),
-        Err(Stop::NoMemory) => Err(SqlError::NoMemory),
-        Err(Stop::Refused(refusal)) => Err(refused(alloc, text, refusal)),
-    }
+    StmtReader::new(alloc).read(alloc, text)
 }

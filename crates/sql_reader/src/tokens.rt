@@ -1,7 +1,7 @@
 //! The tokens that a text is cut into.
+use crate::quote::Quote;
 use crate::symbols::Symbol;
 use crate::word::Word;
-use seata_types::Text;
 
 #[derive(Drop)]
 pub enum Token<'a> {
@@ -10,7 +10,7 @@ pub enum Token<'a> {
     /// Digits, by their number; where that is above `u64::MAX`, this number stands for it.
     Number(u64),
     /// A text in quotes, by its value.
-    Quoted(Text),
+    Quoted(Quote<'a>),
     /// A text that isn't closed, is too long, or has a control character.
     BadText,
     /// A word or a character that no statement has.

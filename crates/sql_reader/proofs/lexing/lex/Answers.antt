@@ -13,14 +13,14 @@ pub loop-at-preserved : goal.loop-at-preserved
 loop-at-preserved c =
     let text = c.args.text.now in
     let at = c.loop-at.at in
-    let found = c.in_ok-token.ensures.value in
-    let bytes : (token_at (drop at text)).1 ≡ c.in_ok-token.len = ap (λ p. p.1) (sym found) in
-    let pushed : c.push.new.self.items ≡ c.loop-at.tokens.items ++ c.in_ok-token.token ∷ [] = grind (arith, common_steps) in
+    let found = c.token_at-token.ensures.value in
+    let bytes : (token_at (drop at text)).1 ≡ c.token_at-token.result.1 = ap (λ p. p.1) (sym found) in
+    let pushed : c.push.new.self.items ≡ c.loop-at.tokens.items ++ c.token_at-token.result.0 ∷ [] = grind (arith, common_steps) in
     let plain : is_blank (get_or text at 0) ≡ false = grind (arith, common_steps) in
     record {
-      tokens = map_starts_token (λ z. (token_at z).0) text at c.in_ok-token.len c.loop-at.tokens.items c.push.new.self.items _ c.in_ok-token.token (omega arith) plain
-          bytes c.in_ok-token.ensures.within.0 (ap (λ p. p.0) found) pushed c.loop-at.invariant.tokens;
-      within = c.in_ok-token.ensures.within.1;
+      tokens = map_starts_token (λ z. (token_at z).0) text at c.token_at-token.result.1 c.loop-at.tokens.items c.push.new.self.items _ c.token_at-token.result.0 (omega arith) plain
+          bytes c.token_at-token.ensures.within.0 (ap (λ p. p.0) found) pushed c.loop-at.invariant.tokens;
+      within = c.token_at-token.ensures.within.1;
     }
 
 pub returns : goal.returns

@@ -13,15 +13,15 @@ pub loop-at-preserved : goal.loop-at-preserved
 loop-at-preserved c =
     let text = c.args.text.now in
     let at = c.loop-at.at in
-    let found = c.in_ok-len.ensures.value in
-    let bytes : (token_at (drop at text)).1 ≡ c.in_ok-len.len = ap (λ p. p.1) (sym found) in
+    let found = c.token_at-len.ensures.value in
+    let bytes : (token_at (drop at text)).1 ≡ c.token_at-len.result.1 = ap (λ p. p.1) (sym found) in
     let place : at ≡ length text - length (drop at text) = omega (arith, length-drop at text) in
     let pushed : c.push.new.self.items ≡ c.loop-at.places.items ++ at ∷ [] = grind (arith, common_steps) in
     let plain : is_blank (get_or text at 0) ≡ false = grind (arith, common_steps) in
     record {
-      places = map_starts_token (λ z. length text - length z) text at c.in_ok-len.len c.loop-at.places.items c.push.new.self.items _ at (omega arith) plain
-          bytes c.in_ok-len.ensures.within.0 place pushed c.loop-at.invariant.places;
-      within = c.in_ok-len.ensures.within.1;
+      places = map_starts_token (λ z. length text - length z) text at c.token_at-len.result.1 c.loop-at.places.items c.push.new.self.items _ at (omega arith) plain
+          bytes c.token_at-len.ensures.within.0 place pushed c.loop-at.invariant.places;
+      within = c.token_at-len.ensures.within.1;
     }
 
 pub returns : goal.returns

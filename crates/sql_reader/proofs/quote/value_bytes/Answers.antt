@@ -1,8 +1,8 @@
 use Rattle.std.proofs.Common.{◌∙◌, arith}
 use Rattle.std.proofs.lemmas.Grind.{common_steps}
 use Rattle.sql_reader.proofs.QuotedTexts.{text_at_plain, text_at_double, text_at_closed}
-use Rattle.sql_reader.proofs.lexing.text_value.Goals as goal
-use Rattle.sql_reader.proofs.lexing.text_value.Goals.{then-z-at-eq39+else-byte-ne39, else-z-at-eq39}
+use Rattle.sql_reader.proofs.quote.value_bytes.Goals as goal
+use Rattle.sql_reader.proofs.quote.value_bytes.Goals.{then-z-at-eq39+else-byte-ne39, else-z-at-eq39}
 
 pub returns-then-byte-ne39-clause-value : goal.returns-then-byte-ne39-clause-value
 returns-then-byte-ne39-clause-value c =

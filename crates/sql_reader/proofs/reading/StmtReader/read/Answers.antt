@@ -2,7 +2,7 @@ use Rattle.std.proofs.Common.{◌≡◌, Ok, arith}
 use Rattle.std.proofs.lemmas.Grind.{common_steps}
 use Rattle.sql_reader.specs.Answer.{reading}
 use Rattle.sql_reader.proofs.ReadBack.{reading_readable}
-use Rattle.sql_reader.proofs.reading.read_stmt.Goals as goal
+use Rattle.sql_reader.proofs.reading.StmtReader.read.Goals as goal
 
 pub returns-in-Ok-statement-clause-readable : goal.returns-in-Ok-statement-clause-readable
 unfolding reading
