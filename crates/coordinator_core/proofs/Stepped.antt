@@ -26,7 +26,8 @@ use Rattle.history_rules.specs.CoordinatorMemory.{Times, sessions_left, session_
 use Rattle.history_rules.specs.Nodes.{Role, Resource, Manager, answer, happens, left_at}
 use Rattle.history_rules.specs.Nodes.{Coordinator as CoordinatorRole}
 use Rattle.history_text.specs.Framing.{ComesFramable}
-use Rattle.history_text.specs.Promises.{TakesStep, FailsAt, StandsAsBefore, Overflows, own_step, DisksFail}
+use Rattle.history_text.specs.Promises.{TakesStep, FailsAt, StandsAsBefore, Overflows, Fits, own_step, DisksFail}
+use Rattle.history_text.proofs.Places.{has_place}
 use Rattle.coordinator_core.specs.declared.nodes.Coordinator.{Coordinator}
 use Rattle.coordinator_core.specs.Knowledge.{Knowledge, knowledge, times_in}
 use Rattle.coordinator_core.specs.Answers.{is_answer, Frames, IsUnanswered, IsCut, IsOver, Puts, AnswersWhere, SameTimes}
@@ -293,6 +294,14 @@ module _ {D : Type 0} (state : D → DiskState) (law : (d : Stoppable D) → IsL
   room_cut done i (Resource setup past) owns s bytes e = absurd s
   room_cut done i (Manager settings) owns s bytes e = absurd s
 
+  -- what fits has a place behind the records that the disks hold
+  pub placed : HasRoom state c given now → Fits (StandsAs state) (disks_of state c) (size_of state c) c given now
+  placed room (CoordinatorRole times past) owns (same, s) bytes e =
+      let kept = s.disks.keeps (upon past owns s) in
+      has_place (state_of state) law kept.found (twin (sessions_of c)) kept.store.pair (size_of state c) (length bytes) (room (CoordinatorRole times past) owns (same, s) bytes e)
+  placed room (Resource setup past) owns s bytes e = absurd s
+  placed room (Manager settings) owns s bytes e = absurd s
+
 -- ---- all that is promised of a step
 
 -- what is kept of a step without an answer
@@ -315,6 +324,7 @@ module _ {D : Type 0} (state : D → DiskState) (law : (d : Stoppable D) → IsL
         framable = f;
         after = tt;
         room = room_taken state law c c' given now up served clock step a;
+        placed = placed state law c c' given now up served clock (room_taken state law c c' given now up served clock step a);
         same = stays_itself state c c' remains;
         picks = same_picks state c c' remains;
         counted = counted;
@@ -330,6 +340,7 @@ module _ {D : Type 0} (state : D → DiskState) (law : (d : Stoppable D) → IsL
         framable = λ f. tt;
         after = fails_at state law c c' given now up served clock done i m.0 m.1;
         room = room_cut state law c c' given now up served clock done i;
+        placed = placed state law c c' given now up served clock (room_cut state law c c' given now up served clock done i);
         same = stays_itself state c c' remains;
         picks = same_picks state c c' remains;
         counted = m.2;
@@ -344,6 +355,7 @@ module _ {D : Type 0} (state : D → DiskState) (law : (d : Stoppable D) → IsL
           subst (λ s. Overflows (StandsAs state) (pair_of state s) (active_of state s).size c given now full) (sym i.sessions) (overflows state law c c' given now up served clock full i),
         );
         room = tt;
+        placed = tt;
         same = stays_itself state c c' remains;
         picks = same_picks state c c' remains;
         counted = omega (arith, m);
@@ -355,6 +367,7 @@ module _ {D : Type 0} (state : D → DiskState) (law : (d : Stoppable D) → IsL
         framable = λ f. tt;
         after = stands_before state law c c' given now up served clock i.0 i.1;
         room = tt;
+        placed = tt;
         same = stays_itself state c c' remains;
         picks = same_picks state c c' remains;
         counted = omega (arith, m);

@@ -17,7 +17,7 @@ use Rattle.history_rules.specs.Own.{Own}
 use Rattle.history_rules.specs.Nodes.{Role}
 use Rattle.history_text.specs.Durable.{SamePicks, HavePick}
 use Rattle.history_text.specs.Framing.{ComesFramable, SendsFramable}
-use Rattle.history_text.specs.Promises.{TakesStep, AfterError, DisksFail, StaysItself, goes_down, steps_of, AreTold, StandsAsBefore, asked_bytes, Restarts, IsRestartError, stays_down}
+use Rattle.history_text.specs.Promises.{TakesStep, AfterError, HadPlace, DisksFail, StaysItself, goes_down, steps_of, AreTold, StandsAsBefore, asked_bytes, Restarts, IsRestartError, stays_down}
 use Rattle.coordinator_core.specs.declared.nodes.Coordinator.{Coordinator}
 use Rattle.coordinator_core.specs.Standing.{StandsAs, serves, sessions_of, disks_of, needs, size_of, steps_left, is_down}
 
@@ -42,6 +42,7 @@ pub record StepsBy {D : Type 0} (state : D → DiskState) (old new : Coordinator
   pub framable : ComesFramable given → IfOk result SendsFramable
   pub after : IfErr result (AfterError (StandsAs state) (DisksFail (disks_of state old) (disks_of state new)) (disks_of state new) (size_of state new) old new given now)
   pub room : HadRoom state old given now result
+  pub placed : HadPlace (StandsAs state) (disks_of state old) (size_of state old) old given now result
   pub same : StaysItself stands_at serves (disks_of state) old new
   pub picks : SamePicks (disks_of state old) (disks_of state new)
   pub counted : steps_left new + steps_of result ≡ steps_left old

@@ -3,3 +3,4 @@ mod Texts
 pub mod Worlds
 mod DurableExamples
 pub mod DurableImages
+pub mod Places

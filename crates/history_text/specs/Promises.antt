@@ -1,8 +1,8 @@
 -- What the trait `Node` promises, in the words of the rules of all nodes.
-use Rattle.std.specs.Prelude.{◌≡◌, ◌⊎◌, ℕ, Bool, true, false, IsSome, List, ◌∷◌, length, Option, Some, None, option_map, Result, Ok, Err}
+use Rattle.std.specs.Prelude.{◌≡◌, ◌⊎◌, ◌+◌, ◌≤◌, ℕ, Bool, true, false, IsSome, List, ◌∷◌, length, Option, Some, None, option_map, Result, Ok, Err}
 use Rattle.disk_model.specs.Disk.{DiskState, SameKind, Rose}
 use Rattle.journal_checkpoint.specs.Images.{Pair}
-use Rattle.journal_checkpoint.specs.Ends.{HasNoPlace}
+use Rattle.journal_checkpoint.specs.Ends.{EndAt, HasNoPlace}
 use Rattle.seata_types.specs.declared.acts.Act.{Act}
 use Rattle.seata_types.specs.declared.acts.Act.TheVariants as act
 use Rattle.seata_types.specs.declared.acts.Durable.{Durable}
@@ -121,6 +121,28 @@ abbrev pub Overflows : {N : Type 0} → (N → Role → List Own → Type 0) →
 Overflows stands_for disks size old given now full =
     (role : Role) (owns : List Own) → stands_for old role owns →
     (bytes : List ℕ) × (asked_bytes role owns now given ≡ Some bytes) × HasNoPlace disks size (length bytes) full
+
+-- ---- records that fit
+
+-- A record with a body of so many bytes goes behind the records that two disks hold, up to the next gate: that is within a disk of this
+-- size.
+pub record HasPlace (disks : Pair) (size body : ℕ) : Type 0 where
+  pub end : ℕ
+  pub held : EndAt disks end
+  pub within : end + body + 6 ≤ size
+
+-- the record that the rule's answer asks for, if it asks for one, has a place
+abbrev pub Fits : {N : Type 0} → (N → Role → List Own → Type 0) → (disks : Pair) → (size : ℕ) → N → Input → ℕ → Type 0
+Fits stands_for disks size old given now =
+    (role : Role) (owns : List Own) → stands_for old role owns →
+    (bytes : List ℕ) → asked_bytes role owns now given ≡ Some bytes → HasPlace disks size (length bytes)
+
+-- it had one where the step was answered, and where the disks failed
+abbrev pub HadPlace : {N : Type 0} → (N → Role → List Own → Type 0) → (disks : Pair) → (size : ℕ) → N → Input → ℕ → Result Step NodeError → Type 0
+HadPlace stands_for disks size old given now (Ok step) = Fits stands_for disks size old given now
+HadPlace stands_for disks size old given now (Err (error.Failed flight)) = Fits stands_for disks size old given now
+HadPlace stands_for disks size old given now (Err (error.Full full)) = Unit {0}
+HadPlace stands_for disks size old given now (Err error.NoMemory) = Unit {0}
 
 -- ---- a step without an answer
 

@@ -18,7 +18,7 @@ pub trait Node {
     ghost use Rattle.history_rules.specs.Nodes.{Role};
     ghost use Rattle.history_text.specs.Durable.{AreNodeDisks, SamePicks, HavePick};
     ghost use Rattle.history_text.specs.Framing.{ComesFramable, SendsFramable};
-    ghost use Rattle.history_text.specs.Promises.{place_of, has_disks, own_entry, AreTold, DisksFail, StaysItself, StandsAsBefore, Does, TakesStep, AfterError, steps_of, goes_down, Restarts, stays_down, IsRestartError};
+    ghost use Rattle.history_text.specs.Promises.{place_of, has_disks, own_entry, AreTold, DisksFail, StaysItself, StandsAsBefore, Does, TakesStep, AfterError, HadPlace, steps_of, goes_down, Restarts, stays_down, IsRestartError};
 
     // the relation to a role and to own entries
     ghost stands_for: { Self → Role → List Own → Type 0 };
@@ -48,7 +48,8 @@ pub trait Node {
         ensures { result ≡ stands_at self.now };
 
     /// Takes a turn, a message or a local transaction, at this moment in ticks: what happens by the rules of all nodes. After
-    /// want of memory and `Full` the node is as before; after `Failed` it is down with the act in flight.
+    /// want of memory and `Full` the node is as before; after `Failed` it is down with the act in flight. A step that is
+    /// answered, and one at which the disks fail, asked for no record or for one that has a place behind those on them.
     fn step(&mut self, alloc: Global, input: Input, now: u64) -> Result<Step, NodeError>
         requires up { down self.old ≡ false }
         requires able { 0 < left self.old }
@@ -57,6 +58,7 @@ pub trait Node {
         ensures answers { IfOk result (TakesStep stands_for self.old self.new input now) }
         ensures framable { ComesFramable input → IfOk result SendsFramable }
         ensures after { IfErr result (AfterError stands_for (DisksFail (disks self.old) (disks self.new)) (disks self.new) (size self.new) self.old self.new input now) }
+        ensures room { HadPlace stands_for (disks self.old) (size self.old) self.old input now result }
         ensures same { StaysItself stands_at serves disks self.old self.new }
         ensures picks { SamePicks (disks self.old) (disks self.new) }
         ensures counted { left self.new + steps_of result ≡ left self.old }

@@ -69,7 +69,7 @@ impl Node for Manager {
     ghost use Rattle.seata_types.specs.declared.ids.Place.TheVariants as places;
     ghost use Rattle.history_text.specs.Durable.{SamePicks};
     ghost use Rattle.history_text.specs.Framing.{ComesFramable, SendsFramable};
-    ghost use Rattle.history_text.specs.Promises.{no_disks, TakesStep, AfterError, DisksFail, StaysItself, goes_down};
+    ghost use Rattle.history_text.specs.Promises.{no_disks, TakesStep, AfterError, HadPlace, DisksFail, StaysItself, goes_down};
     ghost use Rattle.history_text.specs.Promises.{steps_of as steps_taken};
     ghost use Rattle.manager_core.specs.Standing.{StandsAs, Takes, settings, steps_of};
     ghost use Rattle.manager_core.specs.Laws as laws;
@@ -103,6 +103,7 @@ impl Node for Manager {
         ensures answers { IfOk result (TakesStep StandsAs self.old self.new input _now) }
         ensures framable { ComesFramable input → IfOk result SendsFramable }
         ensures after { IfErr result (AfterError StandsAs (DisksFail no_disks no_disks) no_disks 0 self.old self.new input _now) }
+        ensures room { HadPlace StandsAs no_disks 0 self.old input _now result }
         ensures same { StaysItself (λ m. places.Man (settings m).number) (λ _ _. Unit {0}) (λ _. no_disks) self.old self.new }
         ensures picks { SamePicks no_disks no_disks }
         ensures counted { steps_of self.new + steps_taken result ≡ steps_of self.old }

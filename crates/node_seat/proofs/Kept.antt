@@ -144,7 +144,7 @@ module _ {N : Type 0} (stands_for : N → Role → List Own → Type 0) (place :
     abbrev moment : Step → Moment
     moment step = record { stamp = stamp; place = place_of role; now = now; cause = reason_of why; event = Some event; step = step }
 
-    entered : (step : Step) (r : Result (Option Sent) RunFault) → Enters stands_for place disks old new trace traced stamp now why event step r → Keeps stands_for new traced role (moment step ∷ ms)
+    entered : (step : Step) (r : Result (Option Sent) RunFault) → Enters stands_for place disks size old new trace traced stamp now why event step r → Keeps stands_for new traced role (moment step ∷ ms)
     entered step r e =
         let behind : All (IsBehind stamp now) (entries ms) = subst (All (IsBehind stamp now)) k.printed next.behind in
         let did = e.does.reacts told role (own (place_of role) ms) k.stands in

@@ -19,7 +19,7 @@ use Rattle.history_text.specs.declared.entries.Entry.{Entry}
 use Rattle.history_text.specs.Durable.{HavePick}
 use Rattle.history_text.specs.Notes.{sent_of}
 use Rattle.history_text.specs.Promises.{AreTold, StandsAsBefore, own_entry}
-use Rattle.node_seat.specs.Faults.{Blames}
+use Rattle.node_seat.specs.Faults.{Blames, Fits}
 use Rattle.node_seat.specs.declared.faults.RunFault.{RunFault}
 use Rattle.node_seat.specs.declared.faults.RunFault.TheVariants as fault
 
@@ -68,6 +68,10 @@ pub record Does {N : Type 0} (stands_for : N → Role → List Own → Type 0) (
   pub picked : IsTold (disks old) event → (role : Role) (owns : List Own) → stands_for old role owns →
       HaveLast (last_pick owns) (disks old) → HaveLast (last_pick (own_entry event now step ∷ owns)) (disks new)
 
+-- said of each role, and each list of own entries, that the node stood for: the record that an event asked for had a place on its disks
+abbrev pub HadPlace : {N : Type 0} → (N → Role → List Own → Type 0) → (N → Pair) → (N → ℕ) → N → Event → ℕ → Type 0
+HadPlace stands_for disks size old event now = (role : Role) (owns : List Own) → stands_for old role owns → Fits (disks old) (size old) role owns now event
+
 -- nothing happened to a node, by this fault
 pub record Misses {N : Type 0} (stands_for : N → Role → List Own → Type 0) (at : N → Place) (disks : N → Pair) (size : N → ℕ) (old new : N) (event : Event) (now : ℕ) (missed : RunFault) : Type 0 where
   pub stands : IsTold (disks old) event → StandsAsBefore stands_for old new
@@ -90,10 +94,12 @@ entry_at stamp at now why step = record { stamp = stamp; place = at; now = now; 
 abbrev pub packet_at : ℕ → Outgoing → Sent
 packet_at stamp out = record { message = out.message; stamp = stamp }
 
--- A node did a step, its entry was added, and this is the packet that goes out, unless memory for it was refused.
-pub record Enters {N : Type 0} (stands_for : N → Role → List Own → Type 0) (at : N → Place) (disks : N → Pair) (old new : N) (trace traced : List Entry)
+-- A node did a step, for whose record there was a place, its entry was added, and this is the packet that goes out, unless memory for it
+-- was refused.
+pub record Enters {N : Type 0} (stands_for : N → Role → List Own → Type 0) (at : N → Place) (disks : N → Pair) (size : N → ℕ) (old new : N) (trace traced : List Entry)
     (stamp now : ℕ) (why : Cause) (event : Event) (step : Step) (result : Result (Option Sent) RunFault) : Type 0 where
   pub does : Does stands_for disks old new event now step
+  pub room : HadPlace stands_for disks size old event now
   pub printed : traced ≡ trace ++ entry_at stamp (at old) now why step ∷ []
   pub packed : IfOk result (λ packet. packet ≡ option_map (packet_at stamp) step.sent)
 
@@ -107,7 +113,7 @@ pub record Stays {N : Type 0} (stands_for : N → Role → List Own → Type 0) 
 abbrev pub IsEntered : {N : Type 0} → (N → Role → List Own → Type 0) → (N → Place) → (N → Pair) → (N → ℕ) → N → N → List Entry → List Entry → ℕ → ℕ → Cause → Event
     → Result (Option Sent) RunFault → Type 0
 IsEntered stands_for at disks size old new trace traced stamp now why event (Ok packet) =
-    (step : Step) × Enters stands_for at disks old new trace traced stamp now why event step (Ok packet)
+    (step : Step) × Enters stands_for at disks size old new trace traced stamp now why event step (Ok packet)
 IsEntered stands_for at disks size old new trace traced stamp now why event (Err missed) =
     Stays stands_for at disks size old new trace traced now event missed
-    ⊎ ((missed ≡ fault.NoMemory) × (step : Step) × Enters stands_for at disks old new trace traced stamp now why event step (Err missed))
+    ⊎ ((missed ≡ fault.NoMemory) × (step : Step) × Enters stands_for at disks size old new trace traced stamp now why event step (Err missed))

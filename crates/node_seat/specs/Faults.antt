@@ -1,5 +1,5 @@
 -- Why an entry isn't made.
-use Rattle.std.specs.Prelude.{◌≡◌, ◌+◌, ◌-◌, ◌≤◌, ◌^◌, ℕ, min, true, List, length, Some}
+use Rattle.std.specs.Prelude.{◌≡◌, ◌+◌, ◌-◌, ◌≤◌, ◌^◌, ℕ, min, true, false, List, length, Some}
 use Rattle.journal_checkpoint.specs.Images.{Pair}
 use Rattle.journal_checkpoint.specs.Ends.{HasNoPlace}
 use Rattle.seata_types.specs.declared.errors.Full.{Full}
@@ -10,7 +10,7 @@ use Rattle.history_rules.specs.Own.{Event, Given, Restarted, Own}
 use Rattle.history_rules.specs.Devices.{is_down, fault_entries}
 use Rattle.history_rules.specs.Nodes.{Role, writes_boot}
 use Rattle.history_text.specs.Durable.{own_faults}
-use Rattle.history_text.specs.Promises.{asked_bytes, BootOverflows}
+use Rattle.history_text.specs.Promises.{asked_bytes, BootOverflows, HasPlace}
 use Rattle.node_seat.specs.declared.faults.RunFault.{RunFault}
 use Rattle.node_seat.specs.declared.faults.RunFault.TheVariants as fault
 
@@ -32,6 +32,13 @@ Overflows disks size role owns now (Given given) full =
     (bytes : List ℕ) × (asked_bytes role owns now given ≡ Some bytes) × HasNoPlace disks size (length bytes) full
 Overflows disks size role owns now (Restarted pick calls) full = BootOverflows role disks size full
 Overflows disks size role owns now _ full = ⊥
+
+-- The record that an input asks for, if it asks for one, has a place behind those that the disks hold. This is said of a node that is up:
+-- a node that is down loses its input. Of a boot nothing is said.
+abbrev pub Fits : (disks : Pair) → (size : ℕ) → Role → List Own → ℕ → Event → Type 0
+Fits disks size role owns now (Given given) =
+    is_down owns ≡ false → (bytes : List ℕ) → asked_bytes role owns now given ≡ Some bytes → HasPlace disks size (length bytes)
+Fits disks size role owns now _ = Unit {0}
 
 -- Why an entry of the node at a place wasn't made after these own entries, as its two disks of so many bytes show it now. They failed
 -- in a restart, while it was down: a fault more was counted than entries were taken down by faults, up to the end of the

@@ -13,8 +13,8 @@ use Rattle.history_text.specs.declared.entries.Entry.{Entry}
 use Rattle.coordinator_core.specs.declared.nodes.Coordinator.{Coordinator}
 use Rattle.resource_core.specs.declared.nodes.Resource.{Resource}
 use Rattle.scenario_nodes.specs.Nodes.{coordinator_disks, resource_disks}
-use Rattle.scenario_nodes.specs.Shelves.{AreGivenBack, HasBoth, IsGivenBack, KeepsOthers, ReturnsAll, Showing, coordinator_name, second_name}
-use Rattle.scenario_nodes.proofs.Returned.{all_after, all_same}
+use Rattle.scenario_nodes.specs.Shelves.{AreGivenBack, HasBoth, IsGivenBack, KeepsOthers, ReturnsAll, SamePlaces, Showing, coordinator_name, second_name}
+use Rattle.scenario_nodes.proofs.Returned.{all_after, all_same, places_here, places_then}
 use Rattle.replay_runner.specs.declared.members.Member.{Member}
 use Rattle.replay_runner.specs.Collecting.{AreTracesOf}
 use Rattle.replay_runner.specs.Leaving.{FirstGivenBack, server_names}
@@ -72,7 +72,7 @@ pub record FirstClosed {D K : Type 0} (old new : Showing D) (defs : List Resourc
   pub back : (k : ℕ) (def : ResourceDef) (m : Member (Resource D) K) → k < count → slice_get defs k ≡ Some def → slice_get resources k ≡ Some m
       → AreGivenBack old.tells new.given_back def.name (resource_disks m.seat.node)
   pub others : (n : List ℕ) → IsOfNone defs count n → SameUnder n old.given_back new.given_back
-  pub places : (n : List ℕ) → old.has_place n → new.has_place n
+  pub places : SamePlaces old.has_place new.has_place
   pub returned : ReturnsAll old.tells old.has_place new.has_place old.given_back new.given_back
   pub faults : old.faults ≤ new.faults
   pub tells : new.tells ≡ old.tells
@@ -81,7 +81,7 @@ pub none_closed : {D K : Type 0} (old : Showing D) (defs : List ResourceDef) (re
 none_closed old defs resources = record {
   back = λ k def m below. absurd (omega (arith, below));
   others = λ n none. same_here n old.given_back;
-  places = λ n here. here;
+  places = places_here old.has_place;
   returned = all_same old;
   faults = omega arith;
   tells = refl;
@@ -89,7 +89,7 @@ none_closed old defs resources = record {
 
 module _ {D K : Type 0} (old now new : Showing D) (defs : List ResourceDef) (resources : List (Member (Resource D) K)) (count : ℕ) (def : ResourceDef) (m : Member (Resource D) K)
     (apart : AreDefsApart defs) (here : slice_get defs count ≡ Some def) (there : slice_get resources count ≡ Some m) (c : FirstClosed old now defs resources count)
-    (given : AreGivenBack now.tells new.given_back def.name (resource_disks m.seat.node)) (keeps : KeepsOthers def.name now new)
+    (given : AreGivenBack now.tells new.given_back def.name (resource_disks m.seat.node)) (keeps : KeepsOthers def.name now new) (same : SamePlaces now.has_place new.has_place)
     (returned : ReturnsAll now.tells now.has_place new.has_place now.given_back new.given_back) where
   stays : (k : ℕ) (other : ResourceDef) (n : Member (Resource D) K) → slice_get defs k ≡ Some other → slice_get resources k ≡ Some n → (b : Bool) → nat_lt k count ≡ b → k < count + 1
       → AreGivenBack old.tells new.given_back other.name (resource_disks n.seat.node)
@@ -112,7 +112,7 @@ module _ {D K : Type 0} (old now new : Showing D) (defs : List ResourceDef) (res
     others = λ n none.
         let this = none count def (omega arith) here in
         same_then n old.given_back now.given_back new.given_back (c.others n (λ k other below at. none k other (omega (arith, below)) at)) (keeps.others n this.0 this.1);
-    places = λ n place. keeps.places n (c.places n place);
+    places = places_then old.has_place now.has_place new.has_place c.places same;
     returned = all_after old now new c.tells c.returned returned;
     faults = let one = c.faults in let two = keeps.faults in omega (arith, one, two);
     tells = keeps.tells ∙ c.tells;
@@ -226,15 +226,15 @@ module _ {D K : Type 0} (old now new : Showing D) (defs : List ResourceDef) (res
   -- the disks of the next one are there to be given back
   pub next_taken : {kept : Bool} {traces : List (Vec Entry Global)} → AreClosing old now defs resources left count kept traces → (def : ResourceDef) → slice_get defs count ≡ Some def
       → HaveBoth old.has_place defs (length resources) → HasBoth now.has_place def.name
-  next_taken c def here have = both_stay_taken old.has_place now.has_place def.name c.closed.places (have count def (drop_below resources count m rest (whole c)) here)
+  next_taken c def here have = both_stay_taken old.has_place now.has_place def.name (λ n had. (c.closed.places n).1 had) (have count def (drop_below resources count m rest (whole c)) here)
 
   pub one_closing : (kept after : Bool) (traces traced : List (Vec Entry Global)) (def : ResourceDef) → AreClosing old now defs resources left count kept traces → slice_get defs count ≡ Some def
-      → AreGivenBack now.tells new.given_back def.name (resource_disks m.seat.node) → KeepsOthers def.name now new
+      → AreGivenBack now.tells new.given_back def.name (resource_disks m.seat.node) → KeepsOthers def.name now new → SamePlaces now.has_place new.has_place
       → ReturnsAll now.tells now.has_place new.has_place now.given_back new.given_back
       → (after ≡ true → (kept ≡ true) × (trace : Vec Entry Global) × (trace.items ≡ m.seat.trace) × (traced ≡ traces ++ trace ∷ []))
       → AreClosing old new defs resources rest (count + 1) after traced
-  one_closing kept after traces traced def c here given keeps returned memory = record {
-    closed = one_closed old now new defs resources count def m apart here (next_there c) c.closed given keeps returned;
+  one_closing kept after traces traced def c here given keeps same returned memory = record {
+    closed = one_closed old now new defs resources count def m apart here (next_there c) c.closed given keeps same returned;
     left_are = drop_next resources count m rest (whole c);
     within = let below = drop_below resources count m rest (whole c) in omega (arith, below);
     taken = λ told.

@@ -34,7 +34,7 @@ use Rattle.replay_runner.specs.declared.members.Member.{Member}
 use Rattle.replay_runner.specs.declared.messages.Letter.{Letter}
 use Rattle.replay_runner.specs.declared.nodes.Nodes.{Nodes}
 use Rattle.replay_runner.specs.Members.{IsMember, Makes, turned_by}
-use Rattle.replay_runner.specs.Standing.{AllStand, AreNodes, HasNode, IsServer, StandsAt}
+use Rattle.replay_runner.specs.Standing.{AllStand, AreNodes, HasNode, IsServer, StandsAt, StandsOn}
 use Rattle.replay_runner.specs.Steps.{next}
 use Rattle.replay_runner.specs.Traces.{at}
 use Rattle.replay_runner.proofs.Counted.{counted_elsewhere, counted_low, counted_set}
@@ -79,21 +79,21 @@ module _ {N K : Type 0} (stands_for : N → Role → List Own → Type 0) (p : P
   }
 
   -- its own entry
-  module _ (place_at : N → Place) (disks : N → Pair) (old new : Member N K) (ms : List Moment) (now : ℕ) (why : Reason) (event : Event) (step : Step) (r : Result (Option Letter) RunFault)
+  module _ (place_at : N → Place) (disks : N → Pair) (size : N → ℕ) (old new : Member N K) (ms : List Moment) (now : ℕ) (why : Reason) (event : Event) (step : Step) (r : Result (Option Letter) RunFault)
       (stood : stands_for old.seat.node role (own p ms)) (told : IsTold (disks old.seat.node) event)
-      (e : Makes stands_for place_at disks old new (length ms + 1) now (cause_of why) event step r) where
+      (e : Makes stands_for place_at disks size old new (length ms + 1) now (cause_of why) event step r) where
     pub member_happens : Happens role (own p ms) now event step
     member_happens = (e.does.reacts told role (own p ms) stood).0
 
     pub member_stands : stands_for new.seat.node role (own p (next ms p now why (Some event) step ∷ ms))
     member_stands = subst (stands_for new.seat.node role) (sym (own_next p ms now why event step)) (e.does.reacts told role (own p ms) stood).1
 
-  module _ (place_at : N → Place) (disks : N → Pair) (old new : Member N K) (ms : List Moment) (now : ℕ) (why : Reason) (event : Event) (step : Step) (letter : Option Letter)
+  module _ (place_at : N → Place) (disks : N → Pair) (size : N → ℕ) (old new : Member N K) (ms : List Moment) (now : ℕ) (why : Reason) (event : Event) (step : Step) (letter : Option Letter)
       (k : IsMember stands_for p role old ms) (here : place_at old.seat.node ≡ p) (told : IsTold (disks old.seat.node) event)
-      (e : Makes stands_for place_at disks old new (length ms + 1) now (cause_of why) event step (Ok letter)) where
+      (e : Makes stands_for place_at disks size old new (length ms + 1) now (cause_of why) event step (Ok letter)) where
     pub member_enters : IsMember stands_for p role new (next ms p now why (Some event) step ∷ ms)
     member_enters = record {
-      stands = member_stands place_at disks old new ms now why event step (Ok letter) k.stands told e;
+      stands = member_stands place_at disks size old new ms now why event step (Ok letter) k.stands told e;
       traced = e.printed ∙ ap (λ t. t ++ entry_at (length ms + 1) (place_at old.seat.node) now (cause_of why) step ∷ []) k.traced
           ∙ ap (λ q. entries (at p ms) ++ entry_at (length ms + 1) q now (cause_of why) step ∷ []) here
           ∙ sym (printed_here p (next ms p now why (Some event) step) ms (same_place-refl p));
@@ -112,13 +112,13 @@ module _ {N K : Type 0} (stands_for : N → Role → List Own → Type 0) (disks
     sized = k.sized;
   }
 
-  pub server_enters : (place_at : N → Place) (serves : N → Input → Type 0) (old new : Member N K) (ms : List Moment) (now : ℕ) (why : Reason) (event : Event) (step : Step) (letter : Option Letter)
+  pub server_enters : (place_at : N → Place) (size : N → ℕ) (serves : N → Input → Type 0) (old new : Member N K) (ms : List Moment) (now : ℕ) (why : Reason) (event : Event) (step : Step) (letter : Option Letter)
       → IsServer stands_for disks p role bytes old ms → place_at old.seat.node ≡ p → StaysItself place_at serves disks old.seat.node new.seat.node
-      → Makes stands_for place_at disks old new (length ms + 1) now (cause_of why) event step (Ok letter) → IsServer stands_for disks p role bytes new (next ms p now why (Some event) step ∷ ms)
-  server_enters place_at serves old new ms now why event step letter k here same e =
+      → Makes stands_for place_at disks size old new (length ms + 1) now (cause_of why) event step (Ok letter) → IsServer stands_for disks p role bytes new (next ms p now why (Some event) step ∷ ms)
+  server_enters place_at size serves old new ms now why event step letter k here same e =
       let told = told_all (disks old.seat.node) event k.told in
       record {
-        member = member_enters stands_for p role place_at disks old new ms now why event step letter k.member here told e;
+        member = member_enters stands_for p role place_at disks size old new ms now why event step letter k.member here told e;
         told = record { first = same.first.tells_images ∙ k.told.first; second = same.second.tells_images ∙ k.told.second };
         picked = subst (λ os. HaveLast (last_pick os) (disks new.seat.node)) (sym (own_next p ms now why event step)) (e.does.picked told role (own p ms) k.member.stands k.picked);
         sized = record { first = same.first.size ∙ k.sized.first; second = same.second.size ∙ k.sized.second };
@@ -132,8 +132,8 @@ no_role role e = let no : None ≡ Some role = e in cc
 -- they stand for their own entries
 pub all_stand : {D K : Type 0} (state : D → DiskState) (s : Scenario) (n : Nodes D K) (ms : List Moment) → AreNodes state s n ms → AllStand state s n ms
 all_stand state s n ms t place.Net role e = absurd (no_role role e)
-all_stand state s n ms t place.Tc role e = (t.each place.Tc role e).member.stands
-all_stand state s n ms t (place.Res k) role e = let (m, there, is) = t.each (place.Res k) role e in (m, there, is.member.stands)
+all_stand state s n ms t place.Tc role e = let is = t.each place.Tc role e in record { stands = is.member.stands; sized = is.sized }
+all_stand state s n ms t (place.Res k) role e = let (m, there, is) = t.each (place.Res k) role e in (m, there, record { stands = is.member.stands; sized = is.sized })
 all_stand state s n ms t (place.Man k) role e = let (m, there, is) = t.each (place.Man k) role e in (m, there, is.stands)
 
 -- an entry elsewhere
@@ -171,12 +171,13 @@ module _ {D K : Type 0} (state : D → DiskState) (s : Scenario) (old : Nodes D 
           (x, placed, member_stays manager.StandsAs (place.Man k) other x ms m (ap (same_place (place.Man k)) here) is)
 
   pub stand_coordinator : (ms os : List Moment) → ((p : Place) → same_place p place.Tc ≡ false → own p os ≡ own p ms) → AreNodes state s old ms
-      → coordinator.StandsAs state new.seat.node role (own place.Tc os) → AllStand state s (with_coordinator old new) os
+      → StandsOn (coordinator.StandsAs state) (coordinator.disks_of state) s.disk new.seat.node role (own place.Tc os) → AllStand state s (with_coordinator old new) os
   stand_coordinator ms os elsewhere t made place.Net other e = absurd (no_role other e)
-  stand_coordinator ms os elsewhere t made place.Tc other e = subst (λ r. coordinator.StandsAs state new.seat.node r (own place.Tc os)) (same_Some role other (sym there ∙ e)) made
+  stand_coordinator ms os elsewhere t made place.Tc other e =
+      subst (λ r. StandsOn (coordinator.StandsAs state) (coordinator.disks_of state) s.disk new.seat.node r (own place.Tc os)) (same_Some role other (sym there ∙ e)) made
   stand_coordinator ms os elsewhere t made (place.Res k) other e =
       let (x, placed, is) = t.each (place.Res k) other e in
-      (x, placed, subst (resource.StandsAs state x.seat.node other) (sym (elsewhere (place.Res k) refl)) is.member.stands)
+      (x, placed, record { stands = subst (resource.StandsAs state x.seat.node other) (sym (elsewhere (place.Res k) refl)) is.member.stands; sized = is.sized })
   stand_coordinator ms os elsewhere t made (place.Man k) other e =
       let (x, placed, is) = t.each (place.Man k) other e in
       (x, placed, subst (manager.StandsAs x.seat.node other) (sym (elsewhere (place.Man k) refl)) is.stands)
@@ -221,24 +222,26 @@ module _ {D K : Type 0} (state : D → DiskState) (s : Scenario) (old : Nodes D 
           (x, found, member_stays manager.StandsAs (place.Man k) other x ms m (ap (same_place (place.Man k)) here) kept)
 
   pub stand_resource : (ms os : List Moment) → ((p : Place) → same_place p (place.Res n) ≡ false → own p os ≡ own p ms) → AreNodes state s old ms
-      → resource.StandsAs state new.seat.node role (own (place.Res n) os) → AllStand state s (with_resources old resources) os
+      → StandsOn (resource.StandsAs state) (shown.disks_of state) s.disk new.seat.node role (own (place.Res n) os) → AllStand state s (with_resources old resources) os
   stand_resource ms os elsewhere t made = by
     where
-      this : (other : Role) → role_at (world_of s) no_past (place.Res n) ≡ Some other → StandsAt state (with_resources old resources) (place.Res n) other (own (place.Res n) os)
-      this other e = (new, same_there, subst (λ r. resource.StandsAs state new.seat.node r (own (place.Res n) os)) (same_Some role other (sym there ∙ e)) made)
+      this : (other : Role) → role_at (world_of s) no_past (place.Res n) ≡ Some other → StandsAt state s.disk (with_resources old resources) (place.Res n) other (own (place.Res n) os)
+      this other e = (new, same_there, subst (λ r. StandsOn (resource.StandsAs state) (shown.disks_of state) s.disk new.seat.node r (own (place.Res n) os)) (same_Some role other (sym there ∙ e)) made)
 
-      at_number : (k : ℕ) (b : Bool) → nat_eq k n ≡ b → (other : Role) → role_at (world_of s) no_past (place.Res k) ≡ Some other → StandsAt state (with_resources old resources) (place.Res k) other (own (place.Res k) os)
+      at_number : (k : ℕ) (b : Bool) → nat_eq k n ≡ b → (other : Role) → role_at (world_of s) no_past (place.Res k) ≡ Some other → StandsAt state s.disk (with_resources old resources) (place.Res k) other (own (place.Res k) os)
       at_number k true is other e =
           let same : n ≡ k = grind (arith, nat_tests) in
-          subst (λ j. (o : Role) → role_at (world_of s) no_past (place.Res j) ≡ Some o → StandsAt state (with_resources old resources) (place.Res j) o (own (place.Res j) os)) same this other e
+          subst (λ j. (o : Role) → role_at (world_of s) no_past (place.Res j) ≡ Some o → StandsAt state s.disk (with_resources old resources) (place.Res j) o (own (place.Res j) os)) same this other e
       at_number k false is other e =
           let apart : k ≢ n = grind (arith, nat_tests) in
           let (x, found, kept) = t.each (place.Res k) other e in
-          (x, other_there k apart ∙ found, subst (resource.StandsAs state x.seat.node other) (sym (elsewhere (place.Res k) is)) kept.member.stands)
+          (x, other_there k apart ∙ found, record { stands = subst (resource.StandsAs state x.seat.node other) (sym (elsewhere (place.Res k) is)) kept.member.stands; sized = kept.sized })
 
-      by : (p : Place) (other : Role) → role_at (world_of s) no_past p ≡ Some other → StandsAt state (with_resources old resources) p other (own p os)
+      by : (p : Place) (other : Role) → role_at (world_of s) no_past p ≡ Some other → StandsAt state s.disk (with_resources old resources) p other (own p os)
       by place.Net other e = absurd (no_role other e)
-      by place.Tc other e = subst (coordinator.StandsAs state old.coordinator.seat.node other) (sym (elsewhere place.Tc refl)) (t.each place.Tc other e).member.stands
+      by place.Tc other e =
+          let is = t.each place.Tc other e in
+          record { stands = subst (coordinator.StandsAs state old.coordinator.seat.node other) (sym (elsewhere place.Tc refl)) is.member.stands; sized = is.sized }
       by (place.Res k) other e = at_number k (nat_eq k n) refl other e
       by (place.Man k) other e =
           let (x, found, kept) = t.each (place.Man k) other e in
@@ -287,22 +290,24 @@ module _ {D K : Type 0} (state : D → DiskState) (s : Scenario) (old : Nodes D 
       → manager.StandsAs new.seat.node role (own (place.Man n) os) → AllStand state s (with_managers old managers) os
   stand_manager ms os elsewhere t made = by
     where
-      this : (other : Role) → role_at (world_of s) no_past (place.Man n) ≡ Some other → StandsAt state (with_managers old managers) (place.Man n) other (own (place.Man n) os)
+      this : (other : Role) → role_at (world_of s) no_past (place.Man n) ≡ Some other → StandsAt state s.disk (with_managers old managers) (place.Man n) other (own (place.Man n) os)
       this other e = (new, same_man, subst (λ r. manager.StandsAs new.seat.node r (own (place.Man n) os)) (same_Some role other (sym there ∙ e)) made)
 
-      at_number : (k : ℕ) (b : Bool) → nat_eq k n ≡ b → (other : Role) → role_at (world_of s) no_past (place.Man k) ≡ Some other → StandsAt state (with_managers old managers) (place.Man k) other (own (place.Man k) os)
+      at_number : (k : ℕ) (b : Bool) → nat_eq k n ≡ b → (other : Role) → role_at (world_of s) no_past (place.Man k) ≡ Some other → StandsAt state s.disk (with_managers old managers) (place.Man k) other (own (place.Man k) os)
       at_number k true is other e =
           let same : n ≡ k = grind (arith, nat_tests) in
-          subst (λ j. (o : Role) → role_at (world_of s) no_past (place.Man j) ≡ Some o → StandsAt state (with_managers old managers) (place.Man j) o (own (place.Man j) os)) same this other e
+          subst (λ j. (o : Role) → role_at (world_of s) no_past (place.Man j) ≡ Some o → StandsAt state s.disk (with_managers old managers) (place.Man j) o (own (place.Man j) os)) same this other e
       at_number k false is other e =
           let apart : k ≢ n = grind (arith, nat_tests) in
           let (x, found, kept) = t.each (place.Man k) other e in
           (x, other_man k apart ∙ found, subst (manager.StandsAs x.seat.node other) (sym (elsewhere (place.Man k) is)) kept.stands)
 
-      by : (p : Place) (other : Role) → role_at (world_of s) no_past p ≡ Some other → StandsAt state (with_managers old managers) p other (own p os)
+      by : (p : Place) (other : Role) → role_at (world_of s) no_past p ≡ Some other → StandsAt state s.disk (with_managers old managers) p other (own p os)
       by place.Net other e = absurd (no_role other e)
-      by place.Tc other e = subst (coordinator.StandsAs state old.coordinator.seat.node other) (sym (elsewhere place.Tc refl)) (t.each place.Tc other e).member.stands
+      by place.Tc other e =
+          let is = t.each place.Tc other e in
+          record { stands = subst (coordinator.StandsAs state old.coordinator.seat.node other) (sym (elsewhere place.Tc refl)) is.member.stands; sized = is.sized }
       by (place.Res k) other e =
           let (x, found, kept) = t.each (place.Res k) other e in
-          (x, found, subst (resource.StandsAs state x.seat.node other) (sym (elsewhere (place.Res k) refl)) kept.member.stands)
+          (x, found, record { stands = subst (resource.StandsAs state x.seat.node other) (sym (elsewhere (place.Res k) refl)) kept.member.stands; sized = kept.sized })
       by (place.Man k) other e = at_number k (nat_eq k n) refl other e

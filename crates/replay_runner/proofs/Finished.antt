@@ -9,6 +9,7 @@ use Rattle.seata_types.specs.declared.ids.Place.{Place}
 use Rattle.seata_types.specs.declared.ids.Place.TheVariants as place
 use Rattle.scenario_reader.specs.declared.scenarios.ResourceDef.{ResourceDef}
 use Rattle.scenario_reader.specs.declared.scenarios.Scenario.{Scenario}
+use Rattle.scenario_reader.specs.Runnable.{IsRunnable}
 use Rattle.history_rules.specs.Nodes.{World, no_past}
 use Rattle.history_rules.specs.Histories.{Moment, own}
 use Rattle.history_rules.specs.Schedules.{Follows, IsStep, Item, singles}
@@ -20,14 +21,14 @@ use Rattle.resource_core.specs.declared.nodes.Resource.{Resource}
 use Rattle.node_seat.specs.declared.faults.RunFault.{RunFault}
 use Rattle.node_seat.specs.declared.faults.RunFault.TheVariants as fault
 use Rattle.scenario_nodes.specs.Nodes.{IsNewCoordinator, coordinator_role, resource_role}
-use Rattle.scenario_nodes.specs.Opening.{IsNotOpened, IsOpenFault, IsShelfFault}
-use Rattle.scenario_nodes.specs.Shelves.{AllTell, AreGivenBack, Showing, coordinator_name, pair_of, second_name}
+use Rattle.scenario_nodes.specs.Opening.{IsNotHad, IsNotOpened, IsOpenFault, IsShelfFault}
+use Rattle.scenario_nodes.specs.Shelves.{AllTell, AreGivenBack, IsDiskName, KeepsOthers, SamePlaces, Showing, coordinator_name, pair_of, second_name}
 use Rattle.replay_runner.specs.declared.members.Member.{Member}
 use Rattle.replay_runner.specs.declared.runs.Run.{Run}
 use Rattle.replay_runner.specs.Collecting.{AreTraces, trace_of}
 use Rattle.replay_runner.specs.Ends.{IsCause, StopsAt}
-use Rattle.replay_runner.specs.Leaving.{Broken, Done, FirstGivenBack, GivesBack, Leaves, Replays, disks_in}
-use Rattle.replay_runner.specs.Opened.{AreFirst, IsNewResourceOf, IsReturned, StopsOpening, server_disks}
+use Rattle.replay_runner.specs.Leaving.{AreTaken, Broken, Done, FirstGivenBack, GivesBack, Leaves, Replays, disks_in}
+use Rattle.replay_runner.specs.Opened.{AreFirst, HaveTaken, IsNewResourceOf, IsOfOne, IsReturned, StopsOpening, server_disks}
 use Rattle.replay_runner.specs.Plays.{Ends, HasPlayed, Plays}
 use Rattle.replay_runner.specs.Standing.{AllStand, disks_at}
 use Rattle.replay_runner.specs.Steps.{left_of}
@@ -36,7 +37,8 @@ use Rattle.replay_runner.proofs.Blamed.{blames_alike}
 use Rattle.replay_runner.proofs.Closed.{both_stay, coordinator_back, count_servers, none_back, one_back}
 use Rattle.replay_runner.proofs.Gathered.{gathered}
 use Rattle.replay_runner.proofs.Lists.{drop_all}
-use Rattle.replay_runner.proofs.Shown.{all_left, all_sized, all_show, all_stand, alike_in, count_disks, first_show, none_show, nth_end, one_shows, place_behind, role_behind, show_more}
+use Rattle.replay_runner.proofs.Shown.{all_left, all_sized, all_show, all_stand, alike_in, count_disks, first_show, first_sized, none_show, none_sized, nth_end, one_shows, one_sized, place_behind, role_behind, show_more, sized_more}
+use Rattle.replay_runner.proofs.Taken.{coordinators_alone, next_not_taken, next_taken_too, none_taken, not_coordinators, second_since, taken_on}
 
 -- ---- a whole schedule
 
@@ -85,6 +87,7 @@ module _ {D K : Type 0} (state : D → DiskState) (s : Scenario) (r : Run D K) w
       follows = e.follows;
       count = count_left;
       device = all_show state s r.nodes e.history e.stands;
+      sized = all_sized state s r.nodes count e.history e.stands;
       cause = cause_left e.history missed e.stands e.cause;
     }
 
@@ -98,7 +101,7 @@ module _ {D K : Type 0} (state : D → DiskState) (s : Scenario) (r : Run D K) w
       };
       printed = printed;
       device = all_left state s r.nodes ms t.nodes;
-      sized = all_sized state s r.nodes ms t.nodes;
+      sized = all_sized state s r.nodes count ms (all_stand state s r.nodes ms t.nodes);
     }
 
     -- memory was refused once all was played
@@ -109,31 +112,35 @@ module _ {D K : Type 0} (state : D → DiskState) (s : Scenario) (r : Run D K) w
       follows = t.follows;
       count = count_left;
       device = all_show state s r.nodes ms (all_stand state s r.nodes ms t.nodes);
+      sized = all_sized state s r.nodes count ms (all_stand state s r.nodes ms t.nodes);
       cause = tt;
     }
 
     -- ---- with the disks that were given back
 
-    module _ (tells : Bool) (given_back : List ℕ → D → Type 0) (back : FirstGivenBack tells given_back s (server_disks r.nodes.coordinator.seat.node r.nodes.resources.items)) where
+    module _ (had has : List ℕ → Type 0) (tells : Bool) (given_back : List ℕ → D → Type 0) (back : FirstGivenBack tells given_back s (server_disks r.nodes.coordinator.seat.node r.nodes.resources.items))
+        (taken : AreTaken had has s (length (server_disks r.nodes.coordinator.seat.node r.nodes.resources.items))) where
       count_all : length (server_disks r.nodes.coordinator.seat.node r.nodes.resources.items) ≡ length r.nodes.resources.items + 1
       count_all = count_servers s r.nodes.coordinator.seat.node r.nodes.resources.items (omega (arith, count)) tells given_back
 
-      pub ended : (played : Result (Unit {0}) RunFault) (missed : RunFault) → played ≡ Err missed → (AllTell state → HasPlayed state s r [] played) → GivesBack state tells given_back s (Err missed)
+      pub ended : (played : Result (Unit {0}) RunFault) (missed : RunFault) → played ≡ Err missed → (AllTell state → HasPlayed state s r [] played) → GivesBack state had has tells given_back s (Err missed)
       ended (Ok u) missed e has = absurd (let no : Ok u ≡ Err missed = e in cc)
       ended (Err why) missed e has =
           let same : why ≡ missed = let is : Err why ≡ Err missed = e in cc in
           record {
             disks = server_disks r.nodes.coordinator.seat.node r.nodes.resources.items;
+            taken = taken;
             back = back;
             count = let size = count_all in omega (arith, size);
             leaves = λ all. inl (subst (Broken s left_disks) same (broken why (has all)));
           }
 
       pub finished : (played : Result (Unit {0}) RunFault) (u : Unit {0}) → played ≡ Ok u → (AllTell state → HasPlayed state s r [] played) → (es : List Entry)
-          → ((ms : List Moment) → r.places.items ≡ places_of ms → AreTraces (trace_of r.network.items r.nodes) ms → es ≡ entries ms) → GivesBack state tells given_back s (Ok es)
+          → ((ms : List Moment) → r.places.items ≡ places_of ms → AreTraces (trace_of r.network.items r.nodes) ms → es ≡ entries ms) → GivesBack state had has tells given_back s (Ok es)
       finished (Err missed) u e has es collected = absurd (let no : Err missed ≡ Ok u = e in cc)
       finished (Ok v) u e has es collected = record {
         disks = server_disks r.nodes.coordinator.seat.node r.nodes.resources.items;
+        taken = taken;
         back = back;
         count = let size = count_all in omega (arith, size, count);
         leaves = λ all. whole (has all);
@@ -142,10 +149,11 @@ module _ {D K : Type 0} (state : D → DiskState) (s : Scenario) (r : Run D K) w
           whole : HasPlayed state s r [] (Ok v) → Done s left_disks es
           whole (ms, plays, left) = done ms plays left es (collected ms plays.standing (gathered state s r.network.items r.nodes ms plays.nodes plays.passed plays.legal))
 
-      pub unfinished : (played : Result (Unit {0}) RunFault) (u : Unit {0}) → played ≡ Ok u → (AllTell state → HasPlayed state s r [] played) → GivesBack state tells given_back s (Err fault.NoMemory)
+      pub unfinished : (played : Result (Unit {0}) RunFault) (u : Unit {0}) → played ≡ Ok u → (AllTell state → HasPlayed state s r [] played) → GivesBack state had has tells given_back s (Err fault.NoMemory)
       unfinished (Err missed) u e has = absurd (let no : Err missed ≡ Ok u = e in cc)
       unfinished (Ok v) u e has = record {
         disks = server_disks r.nodes.coordinator.seat.node r.nodes.resources.items;
+        taken = taken;
         back = back;
         count = let size = count_all in omega (arith, size);
         leaves = λ all. inl (whole (has all));
@@ -153,6 +161,11 @@ module _ {D K : Type 0} (state : D → DiskState) (s : Scenario) (r : Run D K) w
         where
           whole : HasPlayed state s r [] (Ok v) → Broken s left_disks fault.NoMemory
           whole (ms, plays, left) = uncollected ms plays
+
+-- the same on a shelf with whatever places
+pub gives_back_on : {D : Type 0} (state : D → DiskState) (had has : List ℕ → Type 0) (tells : Bool) (given_back : List ℕ → D → Type 0) (s : Scenario) (result : Result (List Entry) RunFault)
+    → GivesBack state (λ n. ⊥) has tells given_back s result → GivesBack state had has tells given_back s result
+gives_back_on state had has tells given_back s result g = record { disks = g.disks; taken = taken_on s had has (length g.disks) g.taken; back = g.back; count = g.count; leaves = g.leaves }
 
 -- ---- a node that wasn't opened
 
@@ -169,21 +182,37 @@ shelf_fault at rose more fault.Other grows f = absurd f
 
 module _ {D : Type 0} (state : D → DiskState) (s : Scenario) where
   -- no disk was taken
-  pub takes_none : (tells : Bool) (given_back : List ℕ → D → Type 0) (rose : Type 0) → Replays state tells given_back rose s (Err fault.NoMemory)
-  takes_none tells given_back rose = inr (record { disks = []; back = none_back s tells given_back; device = λ all. none_show s; cause = tt })
+  pub takes_none : (old : Showing D) → Replays state old old s (Err fault.NoMemory)
+  takes_none old = inr (record {
+    disks = [];
+    taken = none_taken s old.has_place old.has_place (λ n here. here);
+    back = none_back s old.tells old.given_back;
+    device = λ all. none_show s;
+    sized = none_sized s;
+    cause = tt;
+  })
 
   -- the coordinator wasn't opened
-  pub coordinator_refused : (old new : Showing D) (missed : RunFault) → new.tells ≡ old.tells → IsNotOpened state old new (coordinator_role s) coordinator_name s.disk missed
-      → Replays state old.tells new.given_back (Rose old.faults new.faults) s (Err missed)
-  coordinator_refused old new missed same (inl shelf) = inr (record { disks = []; back = none_back s old.tells new.given_back; device = λ all. none_show s; cause = shelf })
-  coordinator_refused old new missed same (inr g) = inl (record {
+  pub coordinator_refused : IsRunnable s → (old new : Showing D) (missed : RunFault) → KeepsOthers coordinator_name old new → IsNotOpened state old new (coordinator_role s) coordinator_name s.disk missed
+      → Replays state old new s (Err missed)
+  coordinator_refused runs old new missed keeps (inl n) = inr (record {
+    disks = [];
+    taken = not_coordinators s old.has_place new.has_place runs keeps.made n.not_made;
+    back = none_back s old.tells new.given_back;
+    device = λ all. none_show s;
+    sized = none_sized s;
+    cause = n.cause;
+  })
+  coordinator_refused runs old new missed keeps (inr g) = inl (record {
     disks = g.disks ∷ [];
-    back = coordinator_back s old.tells new.given_back g.disks (subst (λ (t : Bool). AreGivenBack t new.given_back coordinator_name g.disks) same g.back);
+    taken = coordinators_alone s old.has_place new.has_place runs keeps.made g.taken;
+    back = coordinator_back s old.tells new.given_back g.disks (subst (λ (t : Bool). AreGivenBack t new.given_back coordinator_name g.disks) keeps.tells g.back);
     count = omega arith;
     leaves = λ all. inr (record {
       opened = 0;
       count = refl;
       device = one_shows s (pair_of state g.disks) (g.unopened all).device;
+      sized = one_sized s (pair_of state g.disks) (g.unopened all).sized;
       role = coordinator_role s;
       there = refl;
       cause = (g.unopened all).cause;
@@ -192,55 +221,70 @@ module _ {D : Type 0} (state : D → DiskState) (s : Scenario) where
 
   -- a resource wasn't opened
   pub next_refused : (old new : Showing D) (count : ℕ) (def : ResourceDef) (missed : RunFault) → new.tells ≡ old.tells → slice_get s.resources count ≡ Some def
-      → IsNotOpened state old new (resource_role s (count + 1) def) def.name s.disk missed → StopsOpening state old.tells new.given_back (Rose old.faults new.faults) s count missed
-  next_refused old new count def missed same here (inl shelf) = record { def = def; there = here; refused = inl shelf }
+      → IsNotOpened state old new (resource_role s (count + 1) def) def.name s.disk missed
+      → StopsOpening state old.has_place new.has_place old.tells new.given_back (Rose old.faults new.faults) s count missed
+  next_refused old new count def missed same here (inl n) = record { def = def; there = here; refused = inl n }
   next_refused old new count def missed same here (inr g) = record {
     def = def;
     there = here;
     refused = inr (record {
       disks = g.disks;
+      taken = g.taken;
       back = subst (λ (t : Bool). AreGivenBack t new.given_back def.name g.disks) same g.back;
       unopened = g.unopened;
     });
   }
 
   -- memory was refused before a disk was taken
-  pub next_unasked : (tells : Bool) (given_back : List ℕ → D → Type 0) (rose : Type 0) (count : ℕ) (def : ResourceDef) → slice_get s.resources count ≡ Some def
-      → StopsOpening state tells given_back rose s count fault.NoMemory
-  next_unasked tells given_back rose count def here = record { def = def; there = here; refused = inl tt }
+  pub next_unasked : (has : List ℕ → Type 0) (tells : Bool) (given_back : List ℕ → D → Type 0) (rose : Type 0) (count : ℕ) (def : ResourceDef) → slice_get s.resources count ≡ Some def
+      → StopsOpening state has has tells given_back rose s count fault.NoMemory
+  next_unasked has tells given_back rose count def here = record { def = def; there = here; refused = inl (record { cause = tt; not_made = λ there. there }) }
 
-  pub stops_later : (tells : Bool) (given_back : List ℕ → D → Type 0) (rose more : Type 0) (count : ℕ) (missed : RunFault) → (rose → more)
-      → StopsOpening state tells given_back rose s count missed → StopsOpening state tells given_back more s count missed
-  stops_later tells given_back rose more count missed grows t = record { def = t.def; there = t.there; refused = by t.refused }
+  -- said of the shelf before the resources that were opened
+  pub stops_later : IsRunnable s → (had now has : List ℕ → Type 0) (tells : Bool) (given_back : List ℕ → D → Type 0) (rose more : Type 0) (count : ℕ) (missed : RunFault) → (rose → more)
+      → ((n : List ℕ) → now n → had n ⊎ IsOfOne s.resources count n) → StopsOpening state now has tells given_back rose s count missed → StopsOpening state had has tells given_back more s count missed
+  stops_later runs had now has tells given_back rose more count missed grows made t = record { def = t.def; there = t.there; refused = by t.refused }
     where
-      by : IsShelfFault (place.Res (count + 1)) rose missed ⊎ IsReturned state tells given_back (resource_role s (count + 1) t.def) t.def.name s.disk missed
-          → IsShelfFault (place.Res (count + 1)) more missed ⊎ IsReturned state tells given_back (resource_role s (count + 1) t.def) t.def.name s.disk missed
-      by (inl shelf) = inl (shelf_fault (place.Res (count + 1)) rose more missed grows shelf)
+      by : IsNotHad (place.Res (count + 1)) rose now has t.def.name missed ⊎ IsReturned state has tells given_back (resource_role s (count + 1) t.def) t.def.name s.disk missed
+          → IsNotHad (place.Res (count + 1)) more had has t.def.name missed ⊎ IsReturned state has tells given_back (resource_role s (count + 1) t.def) t.def.name s.disk missed
+      by (inl n) = inl (record {
+        cause = shelf_fault (place.Res (count + 1)) rose more missed grows n.cause;
+        not_made = λ there. second_since s runs count t.def t.there had now made (n.not_made there);
+      })
       by (inr g) = inr g
 
   -- and the disks of the nodes before it were given back then
-  module _ {K : Type 0} (managers resources : ℕ) (c : Coordinator D) (new : IsNewCoordinator state s managers resources c) (opened : List (Member (Resource D) K))
-      (first : AreFirst (IsNewResourceOf state s) s.resources opened) (tells : Bool) (before after : List ℕ → D → Type 0) (rose more : Type 0) (missed : RunFault) (grows : rose → more)
-      (stays : (def : ResourceDef) → slice_get s.resources (length opened) ≡ Some def → SameUnder def.name before after × SameUnder (second_name def.name) before after)
-      (back : FirstGivenBack tells after s (server_disks c opened)) where
+  module _ {K : Type 0} (runs : IsRunnable s) (managers resources : ℕ) (c : Coordinator D) (new : IsNewCoordinator state s managers resources c) (opened : List (Member (Resource D) K))
+      (first : AreFirst (IsNewResourceOf state s) s.resources opened) (old after : Showing D) (begun taken : List ℕ → Type 0) (before : List ℕ → D → Type 0) (rose : Type 0) (missed : RunFault)
+      (grows : rose → Rose old.faults after.faults)
+      (stays : (def : ResourceDef) → slice_get s.resources (length opened) ≡ Some def → SameUnder def.name before after.given_back × SameUnder (second_name def.name) before after.given_back)
+      (back : FirstGivenBack old.tells after.given_back s (server_disks c opened))
+      (made_first : (n : List ℕ) → begun n → old.has_place n ⊎ IsDiskName coordinator_name n) (made_then : (n : List ℕ) → taken n → begun n ⊎ IsOfOne s.resources (length opened + 1) n)
+      (same : SamePlaces taken after.has_place) (have : HaveTaken taken s.resources (length opened)) where
     disks_count : length (server_disks c opened) ≡ length opened + 1
-    disks_count = count_servers s c opened first.few tells after
+    disks_count = count_servers s c opened first.few old.tells after.given_back
 
-    by_shelf : (t : StopsOpening state tells before rose s (length opened) missed) → IsShelfFault (place.Res (length opened + 1)) rose missed → Replays state tells after more s (Err missed)
-    by_shelf t shelf = inr (record {
+    by_shelf : (t : StopsOpening state begun taken old.tells before rose s (length opened) missed) → IsNotHad (place.Res (length opened + 1)) rose begun taken t.def.name missed
+        → Replays state old after s (Err missed)
+    by_shelf t n = inr (record {
       disks = server_disks c opened;
+      taken = subst (AreTaken old.has_place after.has_place s) (sym disks_count)
+          (next_not_taken s runs old.has_place begun taken after.has_place (length opened) made_first made_then same have t.def t.there n.not_made);
       back = back;
       device = λ all. first_show state s all managers resources c new opened first;
-      cause = subst (λ (p : Place). IsShelfFault p more missed) (sym (place_behind (length opened) (length (server_disks c opened)) disks_count))
-          (shelf_fault (place.Res (length opened + 1)) rose more missed grows shelf);
+      sized = first_sized state s managers resources c new opened first;
+      cause = subst (λ (p : Place). IsShelfFault p (Rose old.faults after.faults) missed) (sym (place_behind (length opened) (length (server_disks c opened)) disks_count))
+          (shelf_fault (place.Res (length opened + 1)) rose (Rose old.faults after.faults) missed grows n.cause);
     })
 
-    by_disks : (t : StopsOpening state tells before rose s (length opened) missed) → IsReturned state tells before (resource_role s (length opened + 1) t.def) t.def.name s.disk missed
-        → Replays state tells after more s (Err missed)
+    by_disks : (t : StopsOpening state begun taken old.tells before rose s (length opened) missed)
+        → IsReturned state taken old.tells before (resource_role s (length opened + 1) t.def) t.def.name s.disk missed → Replays state old after s (Err missed)
     by_disks t g = inl (record {
       disks = server_disks c opened ++ g.disks ∷ [];
-      back = one_back s tells after (server_disks c opened) (length opened) t.def g.disks disks_count t.there
-          (let same = stays t.def t.there in both_stay tells before after t.def.name g.disks same.0 same.1 g.back) back;
+      taken = subst (AreTaken old.has_place after.has_place s) (sym (let more = length-append (server_disks c opened) (g.disks ∷ []) in let size = disks_count in omega (arith, more, size)))
+          (next_taken_too s runs old.has_place begun taken after.has_place (length opened) made_first made_then same have t.def t.there g.taken);
+      back = one_back s old.tells after.given_back (server_disks c opened) (length opened) t.def g.disks disks_count t.there
+          (let same = stays t.def t.there in both_stay old.tells before after.given_back t.def.name g.disks same.0 same.1 g.back) back;
       count = let more = length-append (server_disks c opened) (g.disks ∷ []) in omega (arith, more);
       leaves = λ all.
           subst (λ (ds : List Pair). Leaves s ds (Err missed)) (sym (map-append (pair_of state) (server_disks c opened) (g.disks ∷ [])))
@@ -250,6 +294,7 @@ module _ {D : Type 0} (state : D → DiskState) (s : Scenario) where
             device = show_more s (map (pair_of state) (server_disks c opened)) (pair_of state g.disks) (resource_role s (length opened + 1) t.def)
                 (role_behind s (length opened) t.def t.there (length (map (pair_of state) (server_disks c opened))) (count_disks state c opened)) (g.unopened all).device
                 (first_show state s all managers resources c new opened first);
+            sized = sized_more s (map (pair_of state) (server_disks c opened)) (pair_of state g.disks) (g.unopened all).sized (first_sized state s managers resources c new opened first);
             role = resource_role s (length opened + 1) t.def;
             there = role_behind s (length opened) t.def t.there (length (map (pair_of state) (server_disks c opened))) (count_disks state c opened);
             cause = subst (λ (p : Pair). IsOpenFault (resource_role s (length opened + 1) t.def) s.disk p missed) (sym (nth_end (map (pair_of state) (server_disks c opened)) (pair_of state g.disks)))
@@ -257,9 +302,10 @@ module _ {D : Type 0} (state : D → DiskState) (s : Scenario) where
           }));
     })
 
-    pub resource_refused : StopsOpening state tells before rose s (length opened) missed → Replays state tells after more s (Err missed)
+    pub resource_refused : StopsOpening state begun taken old.tells before rose s (length opened) missed → Replays state old after s (Err missed)
     resource_refused t = by t.refused
       where
-        by : IsShelfFault (place.Res (length opened + 1)) rose missed ⊎ IsReturned state tells before (resource_role s (length opened + 1) t.def) t.def.name s.disk missed → Replays state tells after more s (Err missed)
-        by (inl shelf) = by_shelf t shelf
+        by : IsNotHad (place.Res (length opened + 1)) rose begun taken t.def.name missed ⊎ IsReturned state taken old.tells before (resource_role s (length opened + 1) t.def) t.def.name s.disk missed
+            → Replays state old after s (Err missed)
+        by (inl n) = by_shelf t n
         by (inr g) = by_disks t g

@@ -28,6 +28,8 @@ mod Names
 mod NewNodes
 mod Closed
 mod Shown
-mod Finished
 mod Starting
 mod Returning
+mod Taken
+mod Finished
+pub mod Calm

@@ -33,7 +33,7 @@ module _ {N K : Type 0} (stands_for : N → Role → List Own → Type 0) (at : 
   pub made_err : (missed : RunFault) → IsEntered stands_for at disks size old.seat.node new.seat.node old.seat.trace new.seat.trace stamp now why event (Err missed)
       → IsMade stands_for at disks size old new stamp now why event (Err missed)
   made_err missed (inl e) = inl e
-  made_err missed (inr (is, step, e)) = inr (is, step, record { does = e.does; printed = e.printed; turned = tt; sent = tt })
+  made_err missed (inr (is, step, e)) = inr (is, step, record { does = e.does; room = e.room; printed = e.printed; turned = tt; sent = tt })
 
   pub made_ok : (packet : Option Sent) (letter : Option Letter) → IsEntered stands_for at disks size old.seat.node new.seat.node old.seat.trace new.seat.trace stamp now why event (Ok packet)
       → new.turned ≡ turned_by why stamp old.turned → at new.seat.node ≡ at old.seat.node → letter ≡ letter_with (at new.seat.node) (receiver_in new.seat.trace) packet
@@ -42,6 +42,7 @@ module _ {N K : Type 0} (stands_for : N → Role → List Own → Type 0) (at : 
     step,
     record {
       does = e.does;
+      room = e.room;
       printed = e.printed;
       turned = turned;
       sent = is ∙ ap (λ p. letter_with p (receiver_in new.seat.trace) packet) same ∙ ap (λ t. letter_with (at old.seat.node) (receiver_in t) packet) e.printed

@@ -26,7 +26,7 @@ use Rattle.resource_core.specs.Shown as shown
 use Rattle.manager_core.specs.declared.nodes.Manager.{Manager}
 use Rattle.manager_core.specs.Standing as manager
 use Rattle.node_seat.specs.Entering.{IsTold, event_by}
-use Rattle.node_seat.specs.Faults.{Blames}
+use Rattle.node_seat.specs.Faults.{Blames, Fits}
 use Rattle.node_seat.specs.declared.faults.RunFault.{RunFault}
 use Rattle.node_seat.specs.declared.faults.RunFault.TheVariants as fault
 use Rattle.node_seat.proofs.Kept.{told_all}
@@ -53,13 +53,15 @@ Missed p now c disks missed = (missed ≡ fault.NoMemory) ⊎ Blames p c.role (o
 module _ {N D K : Type 0} (state : D → DiskState) (stands_for : N → Role → List Own → Type 0) (place_at : N → Place) (disks : N → Pair) (size : N → ℕ)
     (old new : Nodes D K) (before after : Member N K) (stamp now : ℕ) (p : Place) (printed : Cause) (given : Option Input) (c : Comes state old stamp p printed given)
     (here : place_at before.seat.node ≡ p) (stood : stands_for before.seat.node c.role (own p c.ms)) (told : IsTold (disks before.seat.node) c.event)
-    (entered : (step : Step) (letter : Option Letter) → Makes stands_for place_at disks before after (length c.ms + 1) now (cause_of c.why) c.event step (Ok letter) → AreNodes state c.s new (moment_by p now c step ∷ c.ms))
+    (entered : (step : Step) (letter : Option Letter) → Makes stands_for place_at disks size before after (length c.ms + 1) now (cause_of c.why) c.event step (Ok letter) → AreNodes state c.s new (moment_by p now c step ∷ c.ms))
     (stand : (os : List Moment) → ((q : Place) → same_place q p ≡ false → own q os ≡ own q c.ms) → stands_for after.seat.node c.role (own p os) → AllStand state c.s new os)
+    (fits_by : Fits (disks before.seat.node) (size before.seat.node) c.role (own p c.ms) now c.event → Fits (disks_at state old p) c.s.disk c.role (own p c.ms) now c.event)
     (missed_by : (missed : RunFault) → Blames p c.role (own p c.ms) now c.event (disks after.seat.node) (size after.seat.node) missed → Missed p now c (disks_at state new p) missed) where
   entered_by : (r : Result (Option Letter) RunFault) → IsMade stands_for place_at disks size before after (length c.ms + 1) now (cause_of c.why) c.event r → Entered state old new stamp now p printed given c r
   entered_by (Ok letter) (step, e) = record {
     step = step;
-    happens = member_happens stands_for p c.role place_at disks before after c.ms now c.why c.event step (Ok letter) stood told e;
+    happens = member_happens stands_for p c.role place_at disks size before after c.ms now c.why c.event step (Ok letter) stood told e;
+    room = fits_by (e.room c.role (own p c.ms) stood);
     nodes = entered step letter e;
     sent = e.sent ∙ ap (λ q. option_map (letter_from q (length c.ms + 1)) step.sent) here;
   }
@@ -72,9 +74,10 @@ module _ {N D K : Type 0} (state : D → DiskState) (stands_for : N → Role →
   entered_by (Err missed) (inr (is, step, e)) = inr (record {
     memory = is;
     step = step;
-    happens = member_happens stands_for p c.role place_at disks before after c.ms now c.why c.event step (Err missed) stood told e;
+    happens = member_happens stands_for p c.role place_at disks size before after c.ms now c.why c.event step (Err missed) stood told e;
+    room = fits_by (e.room c.role (own p c.ms) stood);
     stands = stand (moment_by p now c step ∷ c.ms) (λ q away. own_there q (moment_by p now c step) c.ms away)
-        (member_stands stands_for p c.role place_at disks before after c.ms now c.why c.event step (Err missed) stood told e);
+        (member_stands stands_for p c.role place_at disks size before after c.ms now c.why c.event step (Err missed) stood told e);
   })
 
   entered_as : (r : Result (Option Letter) RunFault) → IsMade stands_for place_at disks size before after stamp now printed c.event r → Entered state old new stamp now p printed given c r
@@ -97,8 +100,9 @@ module _ {D K : Type 0} (state : D → DiskState) (old : Nodes D K) (after : Mem
       entered_as state (coordinator.StandsAs state) stepping.stands_at (coordinator.disks_of state) (coordinator.size_of state) old (with_coordinator old after) old.coordinator after stamp now place.Tc printed given c
       refl is.member.stands (told_all (coordinator.disks_of state old.coordinator.seat.node) c.event is.told)
       (λ step letter e. nodes_coordinator state c.s old after c.role c.there c.ms (moment_by place.Tc now c step) refl c.nodes
-      (server_enters (coordinator.StandsAs state) (coordinator.disks_of state) place.Tc c.role c.s.disk stepping.stands_at coordinator.serves old.coordinator after c.ms now c.why c.event step letter is refl same e))
-      (λ os elsewhere stands. stand_coordinator state c.s old after c.role c.there c.ms os elsewhere c.nodes stands)
+      (server_enters (coordinator.StandsAs state) (coordinator.disks_of state) place.Tc c.role c.s.disk stepping.stands_at (coordinator.size_of state) coordinator.serves old.coordinator after c.ms now c.why c.event step letter is refl same e))
+      (λ os elsewhere stands. stand_coordinator state c.s old after c.role c.there c.ms os elsewhere c.nodes (record { stands = stands; sized = sized }))
+      (λ fits. subst (λ n. Fits (coordinator.disks_of state old.coordinator.seat.node) n c.role (own place.Tc c.ms) now c.event) (size_coordinator state c.s.disk old.coordinator.seat.node is.sized) fits)
       (λ missed b. inr (subst (λ n. Blames place.Tc c.role (own place.Tc c.ms) now c.event (coordinator.disks_of state after.seat.node) n missed) (size_coordinator state c.s.disk after.seat.node sized) b)) r made
 
   pub entered_coordinator : (p : Place) → p ≡ place.Tc → ((event : Event) → event_by printed given ≡ Some event → CoordinatorMade event)
@@ -125,8 +129,10 @@ module _ {D K : Type 0} (state : D → DiskState) (old : Nodes D K) (n : ℕ) (b
       entered_as state (resource.StandsAs state) shown.stands_at (shown.disks_of state) (shown.size_of state) old (with_resources old resources) before after stamp now (place.Res n) printed given c
       stands_here is.member.stands (told_all (shown.disks_of state before.seat.node) c.event is.told)
       (λ step letter e. nodes_resource state c.s old n before after resources placed changed c.role c.there c.ms (moment_by (place.Res n) now c step) refl c.nodes
-      (server_enters (resource.StandsAs state) (shown.disks_of state) (place.Res n) c.role c.s.disk shown.stands_at resource.serves before after c.ms now c.why c.event step letter is stands_here same e))
-      (λ os elsewhere stands. stand_resource state c.s old n before after resources placed changed c.role c.there c.ms os elsewhere c.nodes stands)
+      (server_enters (resource.StandsAs state) (shown.disks_of state) (place.Res n) c.role c.s.disk shown.stands_at (shown.size_of state) resource.serves before after c.ms now c.why c.event step letter is stands_here same e))
+      (λ os elsewhere stands. stand_resource state c.s old n before after resources placed changed c.role c.there c.ms os elsewhere c.nodes (record { stands = stands; sized = sized }))
+      (λ fits. subst (λ (o : Option (Member (Resource D) K)). Fits (member_disks state o) c.s.disk c.role (own (place.Res n) c.ms) now c.event) (sym placed)
+      (subst (λ k. Fits (shown.disks_of state before.seat.node) k c.role (own (place.Res n) c.ms) now c.event) (size_resource state c.s.disk before.seat.node is.sized) fits))
       (λ missed b. inr (subst (λ (o : Option (Member (Resource D) K)). Blames (place.Res n) c.role (own (place.Res n) c.ms) now c.event (member_disks state o) c.s.disk missed) (sym there)
       (subst (λ k. Blames (place.Res n) c.role (own (place.Res n) c.ms) now c.event (shown.disks_of state after.seat.node) k missed) (size_resource state c.s.disk after.seat.node sized) b))) r made
 
@@ -157,6 +163,13 @@ only_memory m at owns now (Stopped calls) disks size missed fits b = absurd fits
 only_memory m at owns now Crashed disks size missed fits b = absurd fits
 only_memory m at owns now (Restarted pick calls) disks size missed fits b = absurd fits
 
+-- it asks for no record
+asks_none : (m : Settings) (owns : List Own) (now : ℕ) (event : Event) (disks : Pair) (size : ℕ) → Fits disks size (ManagerRole m) owns now event
+asks_none m owns now (Given given) disks size = λ up bytes e. absurd (let no : None ≡ Some bytes = e in cc)
+asks_none m owns now (Stopped calls) disks size = tt
+asks_none m owns now Crashed disks size = tt
+asks_none m owns now (Restarted pick calls) disks size = tt
+
 abbrev pub manager_at : Manager → Place
 manager_at m = place.Man (manager.settings m).number
 
@@ -181,8 +194,9 @@ module _ {D K : Type 0} (state : D → DiskState) (old : Nodes D K) (n : ℕ) (b
       entered_as state manager.StandsAs manager_at manager_disks manager_size old (with_managers old managers) before after stamp now (place.Man n) printed given c
       stands_here is.stands told
       (λ step letter e. nodes_manager state c.s old n before after managers placed changed c.role c.there c.ms (moment_by (place.Man n) now c step) refl c.nodes
-      (member_enters manager.StandsAs (place.Man n) c.role manager_at manager_disks before after c.ms now c.why c.event step letter is stands_here told e))
+      (member_enters manager.StandsAs (place.Man n) c.role manager_at manager_disks manager_size before after c.ms now c.why c.event step letter is stands_here told e))
       (λ os elsewhere stands. stand_manager state c.s old n before after managers placed changed c.role c.there c.ms os elsewhere c.nodes stands)
+      (λ fits. subst (λ role. Fits no_disks c.s.disk role (own (place.Man n) c.ms) now c.event) (sym role_is) (asks_none settings (own (place.Man n) c.ms) now c.event no_disks c.s.disk))
       (λ missed b. inl (only_memory settings (place.Man n) (own (place.Man n) c.ms) now c.event no_disks 0 missed fits
       (subst (λ role. Blames (place.Man n) role (own (place.Man n) c.ms) now c.event no_disks 0 missed) role_is b)))
       r made

@@ -1,5 +1,5 @@
 -- The disks of a replay's nodes: which are out, and that they are given back.
-use Rattle.std.proofs.Common.{◌≡◌, ◌+◌, ◌≤◌, ℕ, suc, Bool, List, length, slice_get, Some, IsTrue, inl, inr, refl, ap, ◌∙◌, arith}
+use Rattle.std.proofs.Common.{◌≡◌, ◌⊎◌, ◌+◌, ◌≤◌, ℕ, suc, Bool, List, length, slice_get, Some, IsTrue, inl, inr, refl, ap, ◌∙◌, arith}
 use Rattle.std.proofs.lemmas.Option.{slice_get-map}
 use Rattle.std.specs.Prelude.{option_map}
 use Rattle.scenario_reader.specs.declared.scenarios.ResourceDef.{ResourceDef}
@@ -19,6 +19,12 @@ use Rattle.replay_runner.proofs.Lists.{member_at}
 
 pub of_next : (defs : List ResourceDef) (count size : ℕ) (def : ResourceDef) → slice_get defs count ≡ Some def → size ≡ count + 1 → (n : List ℕ) → IsDiskName def.name n → IsOfOne defs size n
 of_next defs count size def here grown n named = record { k = count; def = def; below = omega (arith, grown); there = here; named = named }
+
+-- a place that was made for the next one
+pub made_next : (had : List ℕ → Type 0) (defs : List ResourceDef) (count : ℕ) (def : ResourceDef) → slice_get defs count ≡ Some def → (n : List ℕ) → had n ⊎ IsDiskName def.name n
+    → had n ⊎ IsOfOne defs (count + 1) n
+made_next had defs count def here n (inl there) = inl there
+made_next had defs count def here n (inr named) = inr (of_next defs count (count + 1) def here refl n named)
 
 pub of_more : (defs : List ResourceDef) (count more : ℕ) → count ≤ more → (n : List ℕ) → IsOfOne defs count n → IsOfOne defs more n
 of_more defs count more few n o = record { k = o.k; def = o.def; below = let below = o.below in omega (arith, below, few); there = o.there; named = o.named }

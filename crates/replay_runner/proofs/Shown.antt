@@ -35,7 +35,7 @@ use Rattle.scenario_nodes.specs.Opening.{HaveNoEntry}
 use Rattle.scenario_nodes.specs.Shelves.{AllTell, pair_of}
 use Rattle.replay_runner.specs.declared.members.Member.{Member}
 use Rattle.replay_runner.specs.declared.nodes.Nodes.{Nodes}
-use Rattle.replay_runner.specs.Leaving.{AreLeft, AreSized, ShowNoEntry, disks_in, nth_pair, server_at}
+use Rattle.replay_runner.specs.Leaving.{AreLeft, HaveSizes, ShowNoEntry, disks_in, nth_pair, server_at}
 use Rattle.replay_runner.specs.Opened.{AreFirst, IsNewResourceOf, member_pair, server_disks}
 use Rattle.replay_runner.specs.Standing.{AllStand, AreNodes, HasNode, StandsAt, disks_at, member_disks}
 use Rattle.replay_runner.proofs.Blamed.{Alike}
@@ -74,15 +74,9 @@ module _ {D : Type 0} (state : D → DiskState) where
   manager_role_is : (m : Manager) (role : Role) (owns : List Own) (disks : Pair) → manager.StandsAs m role owns → AreNodeDisks role owns disks × AreLeft role owns disks
   manager_role_is m role owns disks stands = subst (λ r. AreNodeDisks r owns disks × AreLeft r owns disks) (sym stands.0) (tt, tt)
 
--- disks of so many bytes are so of any role
-sized_as : (role : Role) (bytes : ℕ) (disks : Pair) → HaveSize bytes disks → AreSized role bytes disks
-sized_as (CoordinatorRole times past) bytes disks sized = sized
-sized_as (ResourceRole setup past) bytes disks sized = sized
-sized_as (ManagerRole settings) bytes disks sized = tt
-
 -- ---- among the disks of all
 
-nth_map : {D : Type 0} (state : D → DiskState) (ds : List (D × D)) (k : ℕ) (d : D × D) → slice_get ds k ≡ Some d → nth_pair (map (pair_of state) ds) k ≡ pair_of state d
+pub nth_map : {D : Type 0} (state : D → DiskState) (ds : List (D × D)) (k : ℕ) (d : D × D) → slice_get ds k ≡ Some d → nth_pair (map (pair_of state) ds) k ≡ pair_of state d
 nth_map state [] k d e = absurd (let no : None ≡ Some d = e in cc)
 nth_map state (x ∷ ds) zero d e = ap (pair_of state) (same_Some x d e)
 nth_map state (x ∷ ds) (suc k) d e = nth_map state ds k d e
@@ -120,11 +114,11 @@ module _ {D K : Type 0} (state : D → DiskState) (s : Scenario) (n : Nodes D K)
   abbrev node_disks : List Pair
   node_disks = all_disks state n.coordinator.seat.node n.resources.items
 
-  shows_at : (p : Place) (role : Role) (owns : List Own) → StandsAt state n p role owns → AreNodeDisks role owns (disks_in node_disks p)
+  shows_at : (p : Place) (role : Role) (owns : List Own) → StandsAt state s.disk n p role owns → AreNodeDisks role owns (disks_in node_disks p)
   shows_at place.Net role owns stands = absurd stands
-  shows_at place.Tc role owns stands = coordinator_shows state n.coordinator.seat.node role owns stands
-  shows_at (place.Res k) role owns (m, here, stands) =
-      subst (λ (d : Pair). AreNodeDisks role owns d) (sym (resource_in state n.coordinator.seat.node n.resources.items k m here)) (resource_shows state m.seat.node role owns stands)
+  shows_at place.Tc role owns is = coordinator_shows state n.coordinator.seat.node role owns is.stands
+  shows_at (place.Res k) role owns (m, here, is) =
+      subst (λ (d : Pair). AreNodeDisks role owns d) (sym (resource_in state n.coordinator.seat.node n.resources.items k m here)) (resource_shows state m.seat.node role owns is.stands)
   shows_at (place.Man k) role owns (m, here, stands) = (manager_role_is state m.seat.node role owns (disks_in node_disks (place.Man k)) stands).0
 
   pub all_show : (ms : List Moment) → AllStand state s n ms → (p : Place) (role : Role) → role_at (world_of s) no_past p ≡ Some role → AreNodeDisks role (own p ms) (disks_in node_disks p)
@@ -141,28 +135,26 @@ module _ {D K : Type 0} (state : D → DiskState) (s : Scenario) (n : Nodes D K)
   pub all_left : (ms : List Moment) → AreNodes state s n ms → (p : Place) (role : Role) → role_at (world_of s) no_past p ≡ Some role → AreLeft role (own p ms) (disks_in node_disks p)
   all_left ms nodes p role e = leaves_at s.disk ms p role (nodes.each p role e)
 
-  sized_at : (bytes : ℕ) (ms : List Moment) (p : Place) (role : Role) → HasNode state bytes n ms p role → AreSized role bytes (disks_in node_disks p)
-  sized_at bytes ms place.Net role has = absurd has
-  sized_at bytes ms place.Tc role has = sized_as role bytes (pair_of state (coordinator_disks n.coordinator.seat.node)) (record { first = has.sized.first; second = has.sized.second })
-  sized_at bytes ms (place.Res k) role (m, here, is) =
-      subst (λ (d : Pair). AreSized role bytes d) (sym (resource_in state n.coordinator.seat.node n.resources.items k m here))
-      (sized_as role bytes (pair_of state (resource_disks m.seat.node)) (record { first = is.sized.first; second = is.sized.second }))
-  sized_at bytes ms (place.Man k) role (m, here, is) = subst (λ r. AreSized r bytes (disks_in node_disks (place.Man k))) (sym is.stands.0) tt
-
-  pub all_sized : (ms : List Moment) → AreNodes state s n ms → (p : Place) (role : Role) → role_at (world_of s) no_past p ≡ Some role → AreSized role s.disk (disks_in node_disks p)
-  all_sized ms nodes p role e = sized_at s.disk ms p role (nodes.each p role e)
-
-  stands_by : (bytes : ℕ) (ms : List Moment) (p : Place) (role : Role) → HasNode state bytes n ms p role → StandsAt state n p role (own p ms)
+  stands_by : (bytes : ℕ) (ms : List Moment) (p : Place) (role : Role) → HasNode state bytes n ms p role → StandsAt state bytes n p role (own p ms)
   stands_by bytes ms place.Net role has = absurd has
-  stands_by bytes ms place.Tc role has = has.member.stands
-  stands_by bytes ms (place.Res k) role (m, here, is) = (m, here, is.member.stands)
+  stands_by bytes ms place.Tc role has = record { stands = has.member.stands; sized = has.sized }
+  stands_by bytes ms (place.Res k) role (m, here, is) = (m, here, record { stands = is.member.stands; sized = is.sized })
   stands_by bytes ms (place.Man k) role (m, here, is) = (m, here, is.stands)
 
   pub all_stand : (ms : List Moment) → AreNodes state s n ms → AllStand state s n ms
   all_stand ms nodes p role e = stands_by s.disk ms p role (nodes.each p role e)
 
+  -- all have the scenario's size
+  pub all_sized : length n.resources.items ≡ length s.resources → (ms : List Moment) → AllStand state s n ms → HaveSizes s node_disks
+  all_sized count ms stand zero below = let is = stand place.Tc (coordinator_role s) refl in record { first = is.sized.first; second = is.sized.second }
+  all_sized count ms stand (suc k) below =
+      let size = count_disks state n.coordinator.seat.node n.resources.items in
+      let (def, here) = member_at s.resources k (omega (arith, below, size, count)) in
+      let (m, there, is) = stand (place.Res (suc k)) (resource_role s (k + 1) def) (sym (ap (λ i. role_at (world_of s) no_past (place.Res i)) (add-one k)) ∙ role_of_resource s k def here) in
+      subst (λ (d : Pair). HaveSize s.disk d) (sym (resource_in state n.coordinator.seat.node n.resources.items (suc k) m there)) (record { first = is.sized.first; second = is.sized.second })
+
   -- the disks of the node at a place are those that are given back
-  pub alike_in : (p : Place) (role : Role) (owns : List Own) → StandsAt state n p role owns → Alike (disks_at state n p) (disks_in node_disks p)
+  pub alike_in : (p : Place) (role : Role) (owns : List Own) → StandsAt state s.disk n p role owns → Alike (disks_at state n p) (disks_in node_disks p)
   alike_in place.Net role owns stands = absurd stands
   alike_in place.Tc role owns stands = record { first = λ a one. one; second = λ b two. two; faults = refl }
   alike_in (place.Res k) role owns (m, here, stands) =
@@ -232,6 +224,29 @@ show_more s disks p role at none show k other below e = by (nat_lt k (length dis
         subst (λ (d : Pair). HaveNoEntry other d) (sym (in_order (disks ++ p ∷ []) k ∙ ap (λ i. nth_pair (disks ++ p ∷ []) i) end ∙ nth_end disks p))
         (subst (λ r. HaveNoEntry r p) same none)
 
+-- the sizes of their disks
+pub none_sized : (s : Scenario) → HaveSizes s []
+none_sized s k below = absurd (omega (arith, below))
+
+pub one_sized : (s : Scenario) (p : Pair) → HaveSize s.disk p → HaveSizes s (p ∷ [])
+one_sized s p sized zero below = sized
+one_sized s p sized (suc k) below = absurd (omega (arith, below))
+
+pub sized_more : (s : Scenario) (disks : List Pair) (p : Pair) → HaveSize s.disk p → HaveSizes s disks → HaveSizes s (disks ++ p ∷ [])
+sized_more s disks p sized all k below = by (nat_lt k (length disks)) refl
+  where
+    size : length (disks ++ p ∷ []) ≡ length disks + 1
+    size = let more = length-append disks (p ∷ []) in omega (arith, more)
+
+    by : (b : Bool) → nat_lt k (length disks) ≡ b → HaveSize s.disk (nth_pair (disks ++ p ∷ []) k)
+    by true t =
+        let lower : k < length disks = grind (arith, nat_tests) in
+        subst (λ (d : Pair). HaveSize s.disk d) (sym (nth_below disks p k lower)) (all k lower)
+    by false t =
+        let past : length disks ≤ k = grind (arith, nat_tests) in
+        let end : k ≡ length disks = omega (arith, past, below, size) in
+        subst (λ (d : Pair). HaveSize s.disk d) (sym (ap (λ i. nth_pair (disks ++ p ∷ []) i) end ∙ nth_end disks p)) sized
+
 -- the coordinator and the first resources show it
 module _ {D K : Type 0} (state : D → DiskState) (s : Scenario) (all : AllTell state) (managers resources : ℕ) (c : Coordinator D) (new : IsNewCoordinator state s managers resources c)
     (opened : List (Member (Resource D) K)) (first : AreFirst (IsNewResourceOf state s) s.resources opened) where
@@ -249,3 +264,16 @@ module _ {D K : Type 0} (state : D → DiskState) (s : Scenario) (all : AllTell 
   first_show zero role below e =
       subst (λ r. HaveNoEntry r (pair_of state (coordinator_disks c))) (same_Some (coordinator_role s) role e) (coordinator_none state s c (new.stands (new.told all)))
   first_show (suc k) role below e = let size = count_disks state c opened in kth_shows k role (omega (arith, below, size)) e
+
+-- and their disks have the scenario's size
+module _ {D K : Type 0} (state : D → DiskState) (s : Scenario) (managers resources : ℕ) (c : Coordinator D) (new : IsNewCoordinator state s managers resources c)
+    (opened : List (Member (Resource D) K)) (first : AreFirst (IsNewResourceOf state s) s.resources opened) where
+  pub first_sized : HaveSizes s (all_disks state c opened)
+  first_sized zero below = record { first = new.sized.first; second = new.sized.second }
+  first_sized (suc k) below =
+      let size = count_disks state c opened in
+      let few = first.few in
+      let (m, there) = member_at opened k (omega (arith, below, size)) in
+      let (def, here) = member_at s.resources k (omega (arith, below, size, few)) in
+      let is = (first.each k def m here there).node.sized in
+      subst (λ (d : Pair). HaveSize s.disk d) (sym (resource_in state c opened (suc k) m there)) (record { first = is.first; second = is.second })

@@ -15,7 +15,7 @@ use Rattle.history_text.specs.declared.entries.Cause.{Cause}
 use Rattle.history_text.specs.History.{cause_of}
 use Rattle.history_text.specs.Worlds.{world_of}
 use Rattle.node_seat.specs.Entering.{event_by}
-use Rattle.node_seat.specs.Faults.{Blames}
+use Rattle.node_seat.specs.Faults.{Blames, Fits}
 use Rattle.node_seat.specs.declared.faults.RunFault.{RunFault}
 use Rattle.node_seat.specs.declared.faults.RunFault.TheVariants as fault
 use Rattle.replay_runner.specs.declared.messages.Letter.{Letter}
@@ -47,25 +47,27 @@ pub record Unmade {D K : Type 0} (state : D → DiskState) (s : Scenario) (new :
   pub stands : AllStand state s new ms
   pub cause : (missed ≡ fault.NoMemory) ⊎ Blames at role (own at ms) now event (disks_at state new at) s.disk missed
 
--- one was made, and memory for its message was refused
-pub record Unsent {D K : Type 0} (state : D → DiskState) (s : Scenario) (new : Nodes D K) (role : Role) (os : List Moment) (at : Place) (now : ℕ) (event : Event) (moment : Step → Moment) (missed : RunFault) : Type 0 where
+-- one was made, with a place for its record, and memory for its message was refused
+pub record Unsent {D K : Type 0} (state : D → DiskState) (s : Scenario) (old new : Nodes D K) (role : Role) (os : List Moment) (at : Place) (now : ℕ) (event : Event) (moment : Step → Moment) (missed : RunFault) : Type 0 where
   pub memory : missed ≡ fault.NoMemory
   pub step : Step
   pub happens : Happens role (own at os) now event step
+  pub room : Fits (disks_at state old at) s.disk role (own at os) now event
   pub stands : AllStand state s new (moment step ∷ os)
 
--- the node did what may happen there, all nodes stand for the history with that moment, and this is the message that it sent
-pub record IsEntered {D K : Type 0} (state : D → DiskState) (s : Scenario) (new : Nodes D K) (role : Role) (os : List Moment) (at : Place) (now : ℕ) (event : Event) (moment : Step → Moment) (letter : Option Letter) : Type 0 where
+-- the node did what may happen there, with a place for its record, all nodes stand for the history with that moment, and this is the message that it sent
+pub record IsEntered {D K : Type 0} (state : D → DiskState) (s : Scenario) (old new : Nodes D K) (role : Role) (os : List Moment) (at : Place) (now : ℕ) (event : Event) (moment : Step → Moment) (letter : Option Letter) : Type 0 where
   pub step : Step
   pub happens : Happens role (own at os) now event step
+  pub room : Fits (disks_at state old at) s.disk role (own at os) now event
   pub nodes : AreNodes state s new (moment step ∷ os)
   pub sent : letter ≡ letter_of (moment step)
 
 abbrev pub Entered : {D K : Type 0} → (state : D → DiskState) → (old new : Nodes D K) (stamp now : ℕ) (at : Place) (printed : Cause) (given : Option Input) → Comes state old stamp at printed given
     → Result (Option Letter) RunFault → Type 0
-Entered state old new stamp now at printed given c (Ok letter) = IsEntered state c.s new c.role c.ms at now c.event (moment_by at now c) letter
+Entered state old new stamp now at printed given c (Ok letter) = IsEntered state c.s old new c.role c.ms at now c.event (moment_by at now c) letter
 Entered state old new stamp now at printed given c (Err missed) =
-    Unmade state c.s new c.ms at c.role now c.event missed ⊎ Unsent state c.s new c.role c.ms at now c.event (moment_by at now c) missed
+    Unmade state c.s new c.ms at c.role now c.event missed ⊎ Unsent state c.s old new c.role c.ms at now c.event (moment_by at now c) missed
 
 -- said of each history that the nodes stand for: this is where the node stands whose last turn is the earliest
 abbrev pub IsEarliest : {D K : Type 0} → (state : D → DiskState) → Nodes D K → Place → Type 0

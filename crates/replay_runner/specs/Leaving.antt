@@ -1,6 +1,6 @@
 -- What a replay leaves on a shelf: the history, and what the disks that are given back show of it.
-use Rattle.std.specs.Prelude.{◌≡◌, ◌⊎◌, ◌+◌, ◌<◌, ◌≤◌, ℕ, zero, suc, Bool, List, [], ◌∷◌, length, map, slice_get, Some, Result, Ok, Err}
-use Rattle.disk_model.specs.Disk.{DiskState}
+use Rattle.std.specs.Prelude.{◌≡◌, ◌⊎◌, ◌+◌, ◌<◌, ◌≤◌, ℕ, zero, suc, Bool, IsTrue, List, [], ◌∷◌, length, map, slice_get, Some, Result, Ok, Err}
+use Rattle.disk_model.specs.Disk.{DiskState, Rose}
 use Rattle.journal_checkpoint.specs.Images.{Pair}
 use Rattle.seata_types.specs.declared.ids.Place.{Place}
 use Rattle.seata_types.specs.declared.ids.Place.TheVariants as place
@@ -16,9 +16,10 @@ use Rattle.history_text.specs.History.{entries, IsRun}
 use Rattle.history_text.specs.Promises.{no_disks}
 use Rattle.history_text.specs.Worlds.{items_of, world_of}
 use Rattle.node_seat.specs.declared.faults.RunFault.{RunFault}
+use Rattle.node_seat.specs.declared.faults.RunFault.TheVariants as fault
 use Rattle.scenario_nodes.specs.Nodes.{HaveSize}
 use Rattle.scenario_nodes.specs.Opening.{HaveNoEntry, IsOpenFault, IsShelfFault}
-use Rattle.scenario_nodes.specs.Shelves.{AllTell, AreGivenBack, coordinator_name, pair_of}
+use Rattle.scenario_nodes.specs.Shelves.{AllTell, AreGivenBack, HasBoth, Showing, coordinator_name, pair_of, second_name}
 use Rattle.replay_runner.specs.Ends.{IsCause}
 
 -- ---- the nodes with disks, in order: the coordinator, and the resources
@@ -52,11 +53,9 @@ AreLeft (Coordinator times past) os disks = AreCoordinatorDisks past os 0 disks
 AreLeft (Resource setup past) os disks = AreResourceDisks setup past os 0 disks
 AreLeft (Manager settings) os disks = Unit {0}
 
--- the two disks of a node have so many bytes each
-abbrev pub AreSized : Role → ℕ → Pair → Type 0
-AreSized (Coordinator times past) bytes disks = HaveSize bytes disks
-AreSized (Resource setup past) bytes disks = HaveSize bytes disks
-AreSized (Manager settings) bytes disks = Unit {0}
+-- both disks of each of these nodes have the scenario's size
+abbrev pub HaveSizes : Scenario → List Pair → Type 0
+HaveSizes s disks = (k : ℕ) → k < length disks → HaveSize s.disk (nth_pair disks k)
 
 -- the history of the whole schedule was made, these are its entries, and the disks of each node, of the scenario's size, show it
 pub record Done (s : Scenario) (disks : List Pair) (es : List Entry) : Type 0 where
@@ -64,27 +63,30 @@ pub record Done (s : Scenario) (disks : List Pair) (es : List Entry) : Type 0 wh
   pub is_run : IsRun s history
   pub printed : es ≡ entries history
   pub device : (p : Place) (role : Role) → role_at (world_of s) no_past p ≡ Some role → AreLeft role (own p history) (disks_in disks p)
-  pub sized : (p : Place) (role : Role) → role_at (world_of s) no_past p ≡ Some role → AreSized role s.disk (disks_in disks p)
+  pub sized : HaveSizes s disks
 
--- the replay ended by a fault: the history that it made up to there is legal and follows the schedule, and the disks of each node show its
--- records and counted faults
+-- the replay ended by a fault: the history that it made up to there is legal and follows the schedule, and the disks of each node, of the
+-- scenario's size, show its records and counted faults
 pub record Broken (s : Scenario) (disks : List Pair) (missed : RunFault) : Type 0 where
   pub history : List Moment
   pub legal : Legal (world_of s) no_past history
   pub follows : Follows (world_of s) no_past (items_of s) history
   pub count : length disks ≡ length s.resources + 1
   pub device : (p : Place) (role : Role) → role_at (world_of s) no_past p ≡ Some role → AreNodeDisks role (own p history) (disks_in disks p)
+  pub sized : HaveSizes s disks
   pub cause : IsCause s history (disks_in disks) missed
 
 -- of the first nodes, whose disks these are, none made an entry
 abbrev pub ShowNoEntry : Scenario → List Pair → Type 0
 ShowNoEntry s disks = (k : ℕ) (role : Role) → k < length disks → role_at (world_of s) no_past (server_at k) ≡ Some role → HaveNoEntry role (disks_in disks (server_at k))
 
--- So many nodes were opened, and the next one, whose disks are the last, wasn't: no entry was made, which all disks show.
+-- So many nodes were opened, and the next one, whose disks are the last, wasn't: no entry was made, which all disks, of the scenario's size,
+-- show.
 pub record Unopened (s : Scenario) (disks : List Pair) (missed : RunFault) : Type 0 where
   pub opened : ℕ
   pub count : length disks ≡ opened + 1
   pub device : ShowNoEntry s disks
+  pub sized : HaveSizes s disks
   pub role : Role
   pub there : role_at (world_of s) no_past (server_at opened) ≡ Some role
   pub cause : IsOpenFault role s.disk (nth_pair disks opened) missed
@@ -95,6 +97,12 @@ Leaves s disks (Ok es) = Done s disks es
 Leaves s disks (Err missed) = Broken s disks missed ⊎ Unopened s disks missed
 
 -- ---- the shelf
+
+-- Both disks of so many of the first nodes were taken, and no second disk of a node behind them. Where none of these names had a place
+-- before, this says how many nodes they are.
+pub record AreTaken (had has : List ℕ → Type 0) (s : Scenario) (count : ℕ) : Type 0 where
+  pub both : (k : ℕ) (name : List ℕ) → k < count → slice_get (server_names s) k ≡ Some name → HasBoth has name
+  pub no_more : (k : ℕ) (name : List ℕ) → count ≤ k → slice_get (server_names s) k ≡ Some name → has (second_name name) → had (second_name name)
 
 -- these disks of the first nodes were given back, each pair under its node's name
 pub record FirstGivenBack {D : Type 0} (tells : Bool) (given_back : List ℕ → D → Type 0) (s : Scenario) (disks : List (D × D)) : Type 0 where
@@ -107,23 +115,44 @@ IsNodeCount s (Ok es) count = count ≡ length s.resources + 1
 IsNodeCount s (Err missed) count = 1 ≤ count
 
 -- the disks of all nodes that were taken were given back; where disks tell their bytes, they show how the replay ended
-pub record GivesBack {D : Type 0} (state : D → DiskState) (tells : Bool) (given_back : List ℕ → D → Type 0) (s : Scenario) (result : Result (List Entry) RunFault) : Type 0 where
+pub record GivesBack {D : Type 0} (state : D → DiskState) (had has : List ℕ → Type 0) (tells : Bool) (given_back : List ℕ → D → Type 0) (s : Scenario) (result : Result (List Entry) RunFault) : Type 0 where
   pub disks : List (D × D)
+  pub taken : AreTaken had has s (length disks)
   pub back : FirstGivenBack tells given_back s disks
   pub count : IsNodeCount s result (length disks)
   pub leaves : AllTell state → Leaves s (map (pair_of state) disks) result
 
--- A disk wasn't had for the node behind those whose disks were given back: the shelf failed, or memory was refused. No entry was made.
-pub record IsNotTaken {D : Type 0} (state : D → DiskState) (tells : Bool) (given_back : List ℕ → D → Type 0) (rose : Type 0) (s : Scenario) (missed : RunFault) : Type 0 where
+-- A disk wasn't had for the node behind those whose disks were taken and given back: the shelf failed, or memory was refused. No entry was
+-- made, which these disks, of the scenario's size, show.
+pub record IsNotTaken {D : Type 0} (state : D → DiskState) (had has : List ℕ → Type 0) (tells : Bool) (given_back : List ℕ → D → Type 0) (rose : Type 0) (s : Scenario) (missed : RunFault) : Type 0 where
   pub disks : List (D × D)
+  pub taken : AreTaken had has s (length disks)
   pub back : FirstGivenBack tells given_back s disks
   pub device : AllTell state → ShowNoEntry s (map (pair_of state) disks)
+  pub sized : HaveSizes s (map (pair_of state) disks)
   pub cause : IsShelfFault (server_at (length disks)) rose missed
 
-abbrev pub TakesNone : {D : Type 0} → (D → DiskState) → (tells : Bool) → (List ℕ → D → Type 0) → (rose : Type 0) → Scenario → Result (List Entry) RunFault → Type 0
-TakesNone state tells given_back rose s (Ok es) = ⊥
-TakesNone state tells given_back rose s (Err missed) = IsNotTaken state tells given_back rose s missed
+abbrev pub TakesNone : {D : Type 0} → (D → DiskState) → (old new : Showing D) → Scenario → Result (List Entry) RunFault → Type 0
+TakesNone state old new s (Ok es) = ⊥
+TakesNone state old new s (Err missed) = IsNotTaken state old.has_place new.has_place old.tells new.given_back (Rose old.faults new.faults) s missed
 
 -- what a replay does with a shelf
-abbrev pub Replays : {D : Type 0} → (D → DiskState) → (tells : Bool) → (List ℕ → D → Type 0) → (rose : Type 0) → Scenario → Result (List Entry) RunFault → Type 0
-Replays state tells given_back rose s result = GivesBack state tells given_back s result ⊎ TakesNone state tells given_back rose s result
+abbrev pub Replays : {D : Type 0} → (D → DiskState) → (old new : Showing D) → Scenario → Result (List Entry) RunFault → Type 0
+Replays state old new s result = GivesBack state old.has_place new.has_place old.tells new.given_back s result ⊎ TakesNone state old new s result
+
+-- ---- where nothing fails
+
+-- The shelf tells what was given back to it, and its disks their bytes. In a call it didn't fail, and no disk that was given back to it
+-- has counted a fault.
+pub record IsCalmShelf {D : Type 0} (state : D → DiskState) (old new : Showing D) : Type 0 where
+  pub tells : IsTrue old.tells
+  pub told : AllTell state
+  pub shelf : ¬ Rose old.faults new.faults
+  pub disks : (name : List ℕ) (disk : D) → new.given_back name disk → (state disk).counts.faults ≡ 0
+
+-- how a replay ends then: it is done, a record doesn't fit, or memory was refused
+abbrev pub IsCalmEnd : Result (List Entry) RunFault → Type 0
+IsCalmEnd (Ok es) = Unit {0}
+IsCalmEnd (Err (fault.Full at full)) = Unit {0}
+IsCalmEnd (Err fault.NoMemory) = Unit {0}
+IsCalmEnd (Err missed) = ⊥

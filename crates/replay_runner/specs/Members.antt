@@ -10,7 +10,7 @@ use Rattle.history_rules.specs.Schedules.{last_turn}
 use Rattle.history_text.specs.declared.entries.Cause.{Cause}
 use Rattle.history_text.specs.declared.entries.Cause.TheVariants as cause
 use Rattle.history_text.specs.History.{entries}
-use Rattle.node_seat.specs.Entering.{Does, Stays, entry_at}
+use Rattle.node_seat.specs.Entering.{Does, HadPlace, Stays, entry_at}
 use Rattle.node_seat.specs.declared.faults.RunFault.{RunFault}
 use Rattle.node_seat.specs.declared.faults.RunFault.TheVariants as fault
 use Rattle.replay_runner.specs.declared.members.Member.{Member}
@@ -23,10 +23,12 @@ abbrev pub turned_by : Cause → (stamp before : ℕ) → ℕ
 turned_by cause.Turn stamp before = stamp
 turned_by _ stamp before = before
 
--- A node did a step, its entry was added, and this is the message that it sent, unless memory for that was refused.
-pub record Makes {N K : Type 0} (stands_for : N → Role → List Own → Type 0) (place : N → Place) (disks : N → Pair) (old new : Member N K)
+-- A node did a step, for whose record there was a place, its entry was added, and this is the message that it sent, unless memory for that
+-- was refused.
+pub record Makes {N K : Type 0} (stands_for : N → Role → List Own → Type 0) (place : N → Place) (disks : N → Pair) (size : N → ℕ) (old new : Member N K)
     (stamp now : ℕ) (why : Cause) (event : Event) (step : Step) (result : Result (Option Letter) RunFault) : Type 0 where
   pub does : Does stands_for disks old.seat.node new.seat.node event now step
+  pub room : HadPlace stands_for disks size old.seat.node event now
   pub printed : new.seat.trace ≡ old.seat.trace ++ entry_at stamp (place old.seat.node) now why step ∷ []
   pub turned : IfOk result (λ letter. new.turned ≡ turned_by why stamp old.turned)
   pub sent : IfOk result (λ letter. letter ≡ option_map (letter_from (place old.seat.node) stamp) step.sent)
@@ -35,10 +37,10 @@ pub record Makes {N K : Type 0} (stands_for : N → Role → List Own → Type 0
 abbrev pub IsMade : {N K : Type 0} → (N → Role → List Own → Type 0) → (N → Place) → (N → Pair) → (N → ℕ) → Member N K → Member N K → ℕ → ℕ → Cause → Event
     → Result (Option Letter) RunFault → Type 0
 IsMade stands_for place disks size old new stamp now why event (Ok letter) =
-    (step : Step) × Makes stands_for place disks old new stamp now why event step (Ok letter)
+    (step : Step) × Makes stands_for place disks size old new stamp now why event step (Ok letter)
 IsMade stands_for place disks size old new stamp now why event (Err missed) =
     Stays stands_for place disks size old.seat.node new.seat.node old.seat.trace new.seat.trace now event missed
-    ⊎ ((missed ≡ fault.NoMemory) × (step : Step) × Makes stands_for place disks old new stamp now why event step (Err missed))
+    ⊎ ((missed ≡ fault.NoMemory) × (step : Step) × Makes stands_for place disks size old new stamp now why event step (Err missed))
 
 -- the node of this role at a place, after these moments: it stands for its own entries, and its trace is what is printed of them
 pub record IsMember {N K : Type 0} (stands_for : N → Role → List Own → Type 0) (p : Place) (role : Role) (m : Member N K) (ms : List Moment) : Type 0 where

@@ -52,16 +52,22 @@ pub record AreNodes {D K : Type 0} (state : D → DiskState) (s : Scenario) (n :
 
 -- ---- once a replay has ended
 
--- the node at a place stands for these own entries
-abbrev pub StandsAt : {D K : Type 0} → (D → DiskState) → Nodes D K → Place → Role → List Own → Type 0
-StandsAt state n place.Net role os = ⊥
-StandsAt state n place.Tc role os = coordinator.StandsAs state n.coordinator.seat.node role os
-StandsAt {D} {K} state n (place.Res k) role os = (m : Member (Resource D) K) × (counted_at n.resources.items k ≡ Some m) × resource.StandsAs state m.seat.node role os
-StandsAt {D} {K} state n (place.Man k) role os = (m : Member Manager K) × (counted_at n.managers.items k ≡ Some m) × manager.StandsAs m.seat.node role os
+-- a node stands for these own entries, on disks of so many bytes
+pub record StandsOn {N : Type 0} (stands_for : N → Role → List Own → Type 0) (disks : N → Pair) (bytes : ℕ) (node : N) (role : Role) (os : List Own) : Type 0 where
+  pub stands : stands_for node role os
+  pub sized : HaveSize bytes (disks node)
 
--- so does each node for its own
+-- so does the node at a place
+abbrev pub StandsAt : {D K : Type 0} → (D → DiskState) → (bytes : ℕ) → Nodes D K → Place → Role → List Own → Type 0
+StandsAt state bytes n place.Net role os = ⊥
+StandsAt state bytes n place.Tc role os = StandsOn (coordinator.StandsAs state) (coordinator.disks_of state) bytes n.coordinator.seat.node role os
+StandsAt {D} {K} state bytes n (place.Res k) role os =
+    (m : Member (Resource D) K) × (counted_at n.resources.items k ≡ Some m) × StandsOn (resource.StandsAs state) (shown.disks_of state) bytes m.seat.node role os
+StandsAt {D} {K} state bytes n (place.Man k) role os = (m : Member Manager K) × (counted_at n.managers.items k ≡ Some m) × manager.StandsAs m.seat.node role os
+
+-- each node stands for its own, on disks of the scenario's size
 abbrev pub AllStand : {D K : Type 0} → (D → DiskState) → Scenario → Nodes D K → List Moment → Type 0
-AllStand state s n ms = (p : Place) (role : Role) → role_at (world_of s) no_past p ≡ Some role → StandsAt state n p role (own p ms)
+AllStand state s n ms = (p : Place) (role : Role) → role_at (world_of s) no_past p ≡ Some role → StandsAt state s.disk n p role (own p ms)
 
 -- the disks of a resource, if there is one
 abbrev pub member_disks : {D K : Type 0} → (D → DiskState) → Option (Member (Resource D) K) → Pair

@@ -6,7 +6,7 @@ ghost use Rattle.scenario_reader.specs.Runnable.{IsRunnable};
 ghost use Rattle.history_rules.specs.Histories.{Moment};
 ghost use Rattle.history_text.specs.declared.entries.Entry.{Entry as TheEntry};
 ghost use Rattle.history_text.specs.History.{entries};
-ghost use Rattle.scenario_nodes.specs.Shelves.{ReturnsAll, coordinator_name, second_name};
+ghost use Rattle.scenario_nodes.specs.Shelves.{ReturnsAll, SamePlaces, coordinator_name, second_name};
 ghost use Rattle.replay_runner.specs.Collecting.{AreTraces, AreTracesOf, trace_of};
 ghost use Rattle.replay_runner.specs.Leaving.{FirstGivenBack};
 ghost use Rattle.replay_runner.specs.Opened.{AreAll, AreDefsApart, AreReturned, HaveBoth, HaveTaken, IsOfNone, IsSecondName, server_disks};
@@ -47,6 +47,7 @@ fn close_resources<H: Shelf, K: RunName>(
     requires taken { HaveBoth (H.has_place shelf.old) defs.now (length resources.items) }
     ensures back { AreReturned (H.tells shelf.old) (H.given_back shelf.new) defs.now resources.items }
     ensures others { (n : Items ℕ) → IsOfNone defs.now (length resources.items) n → SameUnder n (H.given_back shelf.old) (H.given_back shelf.new) }
+    ensures places { SamePlaces (H.has_place shelf.old) (H.has_place shelf.new) }
     ensures returned { ReturnsAll (H.tells shelf.old) (H.has_place shelf.old) (H.has_place shelf.new) (H.given_back shelf.old) (H.given_back shelf.new) }
     ensures faults { H.faults shelf.old ≤ H.faults shelf.new }
     ensures tells { H.tells shelf.new ≡ H.tells shelf.old }
@@ -79,6 +80,7 @@ pub fn close_servers<H: Shelf, K: RunName>(
     ensures back { FirstGivenBack (H.tells shelf.old) (H.given_back shelf.new) scenario.now (server_disks coordinator resources.items) }
     ensures others { (n : Items ℕ) → n ≢ coordinator_name → n ≢ second_name coordinator_name → IsOfNone scenario.now.resources (length resources.items) n
         → SameUnder n (H.given_back shelf.old) (H.given_back shelf.new) }
+    ensures places { SamePlaces (H.has_place shelf.old) (H.has_place shelf.new) }
     ensures returned { ReturnsAll (H.tells shelf.old) (H.has_place shelf.old) (H.has_place shelf.new) (H.given_back shelf.old) (H.given_back shelf.new) }
     ensures faults { H.faults shelf.old ≤ H.faults shelf.new }
     ensures tells { H.tells shelf.new ≡ H.tells shelf.old }
@@ -117,6 +119,7 @@ pub fn close<H: Shelf, K: RunName>(
     requires seconds { AreAll IsSecondName scenario.now.resources seconds.now }
     requires taken { HaveTaken (H.has_place shelf.old) scenario.now.resources (length run.nodes.resources.items) }
     ensures back { FirstGivenBack (H.tells shelf.old) (H.given_back shelf.new) scenario.now (server_disks run.nodes.coordinator.seat.node run.nodes.resources.items) }
+    ensures places { SamePlaces (H.has_place shelf.old) (H.has_place shelf.new) }
     ensures returned { ReturnsAll (H.tells shelf.old) (H.has_place shelf.old) (H.has_place shelf.new) (H.given_back shelf.old) (H.given_back shelf.new) }
     ensures history { IfOk result (λ history. (ms : Items Moment) → run.places.items ≡ places_of ms → AreTraces (trace_of run.network.items run.nodes) ms → history ≡ entries ms) }
 {

@@ -1,5 +1,5 @@
 //! The nodes of a scenario on the disks of a shelf.
-ghost use Rattle.std.specs.Prelude.{◌≡◌, ◌<◌, ◌≤◌, ◌+◌, [], ℕ, List as Items, IfOk, IfErr, OnOk, OnErr, length};
+ghost use Rattle.std.specs.Prelude.{◌≡◌, ◌⊎◌, ◌<◌, ◌≤◌, ◌+◌, [], ℕ, List as Items, IfOk, IfErr, OnOk, OnErr, length};
 ghost use Rattle.disk_model.specs.Disk.{Rose};
 ghost use Rattle.scenario_reader.specs.Runnable.{IsRunnable};
 ghost use Rattle.history_rules.specs.Nodes.{no_past};
@@ -67,8 +67,9 @@ fn open_next<H: Shelf, K: RunName>(
     ensures more { OnOk result (length opened.new.items ≡ k + 1) }
     ensures same { OnErr result (opened.new.items ≡ opened.old.items) }
     ensures taken { HaveBoth (H.has_place shelf.new) scenario.now.resources (length opened.new.items) }
-    ensures refused { IfErr result (StopsOpening H.D.state (H.tells shelf.old) (H.given_back shelf.new) (Rose (H.faults shelf.old) (H.faults shelf.new)) scenario.now k) }
+    ensures refused { IfErr result (StopsOpening H.D.state (H.has_place shelf.old) (H.has_place shelf.new) (H.tells shelf.old) (H.given_back shelf.new) (Rose (H.faults shelf.old) (H.faults shelf.new)) scenario.now k) }
     ensures places { (n : Items ℕ) → H.has_place shelf.old n → H.has_place shelf.new n }
+    ensures made { (n : Items ℕ) → H.has_place shelf.new n → H.has_place shelf.old n ⊎ IsOfOne scenario.now.resources (k + 1) n }
     ensures out { ReturnsBut (IsOfOne scenario.now.resources (length opened.new.items)) (H.tells shelf.old) (H.has_place shelf.old) (H.has_place shelf.new) (H.given_back shelf.old) (H.given_back shelf.new) }
     ensures faults { H.faults shelf.old ≤ H.faults shelf.new }
     ensures tells { H.tells shelf.new ≡ H.tells shelf.old }
@@ -103,8 +104,9 @@ pub fn open_resources<H: Shelf, K: RunName>(
     ensures opened { AreFirst (IsNewResourceOf H.D.state scenario.now) scenario.now.resources opened.new.items }
     ensures whole { OnOk result (length opened.new.items ≡ length scenario.now.resources) }
     ensures taken { HaveBoth (H.has_place shelf.new) scenario.now.resources (length opened.new.items) }
-    ensures refused { IfErr result (StopsOpening H.D.state (H.tells shelf.old) (H.given_back shelf.new) (Rose (H.faults shelf.old) (H.faults shelf.new)) scenario.now (length opened.new.items)) }
+    ensures refused { IfErr result (StopsOpening H.D.state (H.has_place shelf.old) (H.has_place shelf.new) (H.tells shelf.old) (H.given_back shelf.new) (Rose (H.faults shelf.old) (H.faults shelf.new)) scenario.now (length opened.new.items)) }
     ensures places { (n : Items ℕ) → H.has_place shelf.old n → H.has_place shelf.new n }
+    ensures made { (n : Items ℕ) → H.has_place shelf.new n → H.has_place shelf.old n ⊎ IsOfOne scenario.now.resources (length opened.new.items + 1) n }
     ensures out { ReturnsBut (IsOfOne scenario.now.resources (length opened.new.items)) (H.tells shelf.old) (H.has_place shelf.old) (H.has_place shelf.new) (H.given_back shelf.old) (H.given_back shelf.new) }
     ensures faults { H.faults shelf.old ≤ H.faults shelf.new }
     ensures tells { H.tells shelf.new ≡ H.tells shelf.old }

@@ -1,11 +1,10 @@
 //! Replays on the disks of a shelf.
 ghost use Rattle.std.specs.Prelude.{◌≡◌, Err, IfErr, IfOk, IsTrue, List as Items, OnErr, OnOk, length, ℕ};
-ghost use Rattle.disk_model.specs.Disk.{Rose};
 ghost use Rattle.scenario_reader.specs.Runnable.{IsRunnable};
 ghost use Rattle.history_rules.specs.Nodes.{no_past};
 ghost use Rattle.history_text.specs.Worlds.{world_of};
-ghost use Rattle.scenario_nodes.specs.Shelves.{HasDisk, ReturnsAll, ReturnsBut};
-ghost use Rattle.replay_runner.specs.Leaving.{GivesBack, Replays};
+ghost use Rattle.scenario_nodes.specs.Shelves.{HasDisk, ReturnsAll, ReturnsBut, showing};
+ghost use Rattle.replay_runner.specs.Leaving.{GivesBack, IsCalmEnd, IsCalmShelf, Replays};
 ghost use Rattle.replay_runner.specs.Opened.{AreAll, AreNewNodes, HaveTaken, IsNewManagerOf, IsOfServer, IsSecondName};
 
 use crate::closings::{close, close_servers};
@@ -38,7 +37,7 @@ fn open_nodes<H: Shelf, K: RunName>(
     requires managers { AreAll (IsNewManagerOf scenario.now) scenario.now.managers managers.items }
     ensures new { IfOk result (AreNewNodes H.D.state scenario.now) }
     ensures taken { OnOk result (HaveTaken (H.has_place shelf.new) scenario.now.resources (length scenario.now.resources)) }
-    ensures refused { IfErr result (λ missed. Replays H.D.state (H.tells shelf.old) (H.given_back shelf.new) (Rose (H.faults shelf.old) (H.faults shelf.new)) scenario.now (Err missed)) }
+    ensures refused { IfErr result (λ missed. Replays H.D.state (showing H.has_place H.given_back H.faults H.tells shelf.old) (showing H.has_place H.given_back H.faults H.tells shelf.new) scenario.now (Err missed)) }
     ensures out { OnOk result (ReturnsBut (IsOfServer scenario.now.resources (length scenario.now.resources)) (H.tells shelf.old) (H.has_place shelf.old) (H.has_place shelf.new) (H.given_back shelf.old) (H.given_back shelf.new)) }
     ensures returned { OnErr result (ReturnsAll (H.tells shelf.old) (H.has_place shelf.old) (H.has_place shelf.new) (H.given_back shelf.old) (H.given_back shelf.new)) }
     ensures tells { H.tells shelf.new ≡ H.tells shelf.old }
@@ -59,7 +58,8 @@ fn open_nodes<H: Shelf, K: RunName>(
     })
 }
 
-/// Plays the schedule of a scenario with its nodes, and gives their disks back.
+/// Plays the schedule of a scenario with its nodes, and gives their disks back: as none of them was left out, said as of a shelf
+/// without places.
 fn play<H: Shelf, K: RunName>(
     alloc: Global,
     scenario: &Scenario,
@@ -71,7 +71,7 @@ fn play<H: Shelf, K: RunName>(
     requires seconds { AreAll IsSecondName scenario.now.resources seconds.now }
     requires new { AreNewNodes H.D.state scenario.now nodes }
     requires taken { HaveTaken (H.has_place shelf.old) scenario.now.resources (length scenario.now.resources) }
-    ensures back { GivesBack H.D.state (H.tells shelf.old) (H.given_back shelf.new) scenario.now result }
+    ensures back { GivesBack H.D.state (λ n. ⊥) (H.has_place shelf.new) (H.tells shelf.old) (H.given_back shelf.new) scenario.now result }
     ensures given { IsTrue (H.tells shelf.old) → (n : Items ℕ) → IsOfServer scenario.now.resources (length scenario.now.resources) n → HasDisk (H.given_back shelf.new) n }
     ensures returned { ReturnsAll (H.tells shelf.old) (H.has_place shelf.old) (H.has_place shelf.new) (H.given_back shelf.old) (H.given_back shelf.new) }
 {
@@ -98,7 +98,7 @@ fn replay_named<H: Shelf, K: RunName>(
     requires runnable { IsRunnable scenario.now }
     requires world { K.world ≡ world_of scenario.now }
     requires past { K.past ≡ no_past }
-    ensures replays { Replays H.D.state (H.tells shelf.old) (H.given_back shelf.new) (Rose (H.faults shelf.old) (H.faults shelf.new)) scenario.now result }
+    ensures replays { Replays H.D.state (showing H.has_place H.given_back H.faults H.tells shelf.old) (showing H.has_place H.given_back H.faults H.tells shelf.new) scenario.now result }
     ensures returned { ReturnsAll (H.tells shelf.old) (H.has_place shelf.old) (H.has_place shelf.new) (H.given_back shelf.old) (H.given_back shelf.new) }
 {
     let Ok(seconds) = second_names(alloc, scenario.resources.as_slice()) else {
@@ -115,14 +115,16 @@ fn replay_named<H: Shelf, K: RunName>(
 
 /// Replays the schedule of a scenario, step by step, with the coordinator and each resource on two disks of the shelf, which
 /// are given back however it ends: the entries of its history, or why it ended early. Where the disks tell their bytes,
-/// `Damaged` and `Other` never come: blank disks are no other scenario's, and each message fits a node.
+/// `Damaged` and `Other` never come: blank disks are no other scenario's, and each message fits a node. `Store` comes only
+/// by a fault that the shelf or a disk counted.
 pub fn replay<H: Shelf>(
     alloc: Global,
     scenario: &Scenario,
     shelf: &mut H,
 ) -> Result<List<Entry>, RunFault>
     requires runnable { IsRunnable scenario.now }
-    ensures replays { Replays H.D.state (H.tells shelf.old) (H.given_back shelf.new) (Rose (H.faults shelf.old) (H.faults shelf.new)) scenario.now result }
+    ensures replays { Replays H.D.state (showing H.has_place H.given_back H.faults H.tells shelf.old) (showing H.has_place H.given_back H.faults H.tells shelf.new) scenario.now result }
+    ensures calm { IsCalmShelf H.D.state (showing H.has_place H.given_back H.faults H.tells shelf.old) (showing H.has_place H.given_back H.faults H.tells shelf.new) → IsCalmEnd result }
     ensures returned { ReturnsAll (H.tells shelf.old) (H.has_place shelf.old) (H.has_place shelf.new) (H.given_back shelf.old) (H.given_back shelf.new) }
 {
     replay_named::<H, Brand>(alloc, scenario, shelf)

@@ -29,7 +29,7 @@ use Rattle.history_rules.specs.ResourceRules.{resource_answer}
 use Rattle.history_rules.specs.Nodes.{Coordinator, Manager, happens, left_at}
 use Rattle.history_rules.specs.Nodes.{Resource as ResourceRole}
 use Rattle.history_text.specs.Durable.{own_faults}
-use Rattle.history_text.specs.Promises.{AfterError, TakesStep, FailsAt, StaysItself, Overflows, own_step, cut, goes_down, steps_of, DisksFail}
+use Rattle.history_text.specs.Promises.{AfterError, TakesStep, FailsAt, StaysItself, Overflows, Fits, HadPlace, own_step, cut, goes_down, steps_of, DisksFail}
 use Rattle.resource_log.specs.Records.{record_bytes}
 use Rattle.resource_memory.specs.Known.{Known}
 use Rattle.resource_store.specs.declared.store.Store.{Store}
@@ -44,6 +44,7 @@ use Rattle.resource_core.specs.Holding.{Holds}
 use Rattle.resource_core.specs.NodeMoving.{Misses}
 use Rattle.resource_core.specs.NodeLaws.{on_same}
 use Rattle.resource_core.specs.NodeStanding.{IsSound, OnDisks, StandsAs, StandsForEither, StandsOver, serves}
+use Rattle.history_text.proofs.Places.{has_place}
 use Rattle.resource_core.specs.NodeStepping.{HasRoom, HadRoom, StepsBy}
 use Rattle.resource_core.specs.Ready.{AreTicketsWithin, HasActionWithin, HasStmtsWithin, IsReady}
 use Rattle.resource_core.specs.Shown.{active_of, disks_of, is_down, needs, pair_of, size_of, stands_at, store_of}
@@ -305,6 +306,14 @@ module _ {D : Type 0} (state : D → DiskState) (law : (d : Stoppable D) → IsL
 
   -- ---- a record that was taken
 
+  -- what fits has a place behind the records that the disks hold
+  pub placed : HasRoom state r given now → Fits (StandsAs state) (disks_of state r) (size_of state r) r given now
+  placed room (ResourceRole setup past) owns s bytes e =
+      let h = s.holds (upon setup past owns s) in
+      has_place (state_of state) law h.keeps.found (twin (store_of r)) h.keeps.kept.pair (size_of state r) (length bytes) (room (ResourceRole setup past) owns s bytes e)
+  placed room (Coordinator times past) owns s bytes e = absurd s
+  placed room (Manager settings) owns s bytes e = absurd s
+
   -- the bytes of a record fit where it does
   room_of : (asked : Option ResourceRecord) (bytes : List ℕ) → ((q : ResourceRecord) → asked ≡ Some q → HasRecordRoom (state_of state) q (store_of r)) → option_map record_bytes asked ≡ Some bytes
       → needs r (length bytes) ≤ size_of state r
@@ -381,6 +390,7 @@ module _ {D : Type 0} (state : D → DiskState) (law : (d : Stoppable D) → IsL
         framable = λ comes. a.frames ready served.1;
         after = tt;
         room = has_room state law r r' given now up (Ok step) r'.branches a (λ q rs made. made.fits);
+        placed = placed state law r r' given now up (has_room state law r r' given now up (Ok step) r'.branches a (λ q rs made. made.fits));
         same = stays_itself state r r' a.same.number (λ s. sound) moves.first_kind moves.second_kind;
         picks = same_picks (disks_of state r) (disks_of state r') moves;
         counted = counted;
@@ -388,13 +398,15 @@ module _ {D : Type 0} (state : D → DiskState) (law : (d : Stoppable D) → IsL
       }
 
   -- nothing changed
-  itself : (e : NodeError) → AfterError (StandsAs state) (DisksFail (disks_of state r) (disks_of state r)) (disks_of state r) (size_of state r) r r given now e → HadRoom state r given now (Err e) → steps_of (Err e) ≡ 0
+  itself : (e : NodeError) → AfterError (StandsAs state) (DisksFail (disks_of state r) (disks_of state r)) (disks_of state r) (size_of state r) r r given now e → HadRoom state r given now (Err e)
+      → HadPlace (StandsAs state) (disks_of state r) (size_of state r) r given now (Err e) → steps_of (Err e) ≡ 0
       → goes_down (Err e) ≡ false → StepsBy state r r given now (Err e)
-  itself e after room none not = record {
+  itself e after room place none not = record {
     answers = tt;
     framable = λ f. tt;
     after = after;
     room = room;
+    placed = place;
     same = stays_itself state r r refl (λ s. s) (same_kind (disks_of state r).first) (same_kind (disks_of state r).second);
     picks = same_picks (disks_of state r) (disks_of state r) (moved_same (disks_of state r));
     counted = omega (arith, none);
@@ -421,6 +433,7 @@ module _ {D : Type 0} (state : D → DiskState) (law : (d : Stoppable D) → IsL
         framable = λ f. tt;
         after = fails_at state law r r' given now up flight a' m.1 m.2 (m.3 ∙ counts);
         room = has_room state law r r' given now up (Err (error.Failed flight)) r'.branches a' (λ q rs made. made.fits);
+        placed = placed state law r r' given now up (has_room state law r r' given now up (Err (error.Failed flight)) r'.branches a' (λ q rs made. made.fits));
         same = stays_itself state r r' a'.same.number (λ s. sound) moves.first_kind moves.second_kind;
         picks = same_picks (disks_of state r) (disks_of state r') moves;
         counted = counted;
@@ -429,8 +442,8 @@ module _ {D : Type 0} (state : D → DiskState) (law : (d : Stoppable D) → IsL
   missed b' r' count counts (error.Full full) a m =
       as_before b' r' (error.Full full) m
       (same_branches r.branches b' (same_store (state_of state) (store_error.Full full) (store_of r) b'.store a.leaves (λ e. absurd cc)) a.tickets a.same)
-      (itself (error.Full full) (λ role owns s. s, overflows state law r r given now up full b' a) tt refl refl)
+      (itself (error.Full full) (λ role owns s. s, overflows state law r r given now up full b' a) tt tt refl refl)
   missed b' r' count counts error.NoMemory a m =
       as_before b' r' error.NoMemory m
       (same_branches r.branches b' (same_store (state_of state) store_error.NoMemory (store_of r) b'.store a.leaves (λ e. absurd cc)) a.tickets a.same)
-      (itself error.NoMemory (λ role owns s. s) tt refl refl)
+      (itself error.NoMemory (λ role owns s. s) tt tt refl refl)

@@ -1,9 +1,9 @@
 -- What calls of a shelf for the two disks of a node leave.
-use Rattle.std.proofs.Common.{◌≡◌, ◌≢◌, ◌+◌, ℕ, Bool, List, length, IsTrue, ap, subst, ◌∙◌, arith}
+use Rattle.std.proofs.Common.{◌≡◌, ◌≢◌, ◌⊎◌, inl, inr, ◌+◌, ℕ, Bool, List, length, IsTrue, ap, subst, ◌∙◌, arith}
 use Rattle.std.specs.Prelude.{codes}
 use Rattle.std.proofs.lemmas.List.{length-append}
 use Rattle.disk_model.specs.Shelf.{SameUnder}
-use Rattle.scenario_nodes.specs.Shelves.{AreGivenBack, IsGivenBack, KeepsOthers, Showing, second_name}
+use Rattle.scenario_nodes.specs.Shelves.{AreGivenBack, IsDiskName, IsGivenBack, KeepsOthers, Showing, second_name}
 
 -- ---- names
 
@@ -15,10 +15,15 @@ names_differ name e = let longer : length name ≡ length name + 2 = ap length e
 pub same_after : {D : Type 0} (n : List ℕ) (a b c : List ℕ → D → Type 0) → SameUnder n a b → SameUnder n b c → SameUnder n a c
 same_after n a b c first second = λ disk. ((λ x. (first disk).0 ((second disk).0 x)), (λ x. (second disk).1 ((first disk).1 x)))
 
+made_after : (name n : List ℕ) (had now : Type 0) → (now → had ⊎ IsDiskName name n) → now ⊎ IsDiskName name n → had ⊎ IsDiskName name n
+made_after name n had now first (inl there) = first there
+made_after name n had now first (inr named) = inr named
+
 -- one call after another
 pub keeps_after : {D : Type 0} (name : List ℕ) (a b c : Showing D) → KeepsOthers name a b → KeepsOthers name b c → KeepsOthers name a c
 keeps_after name a b c first second = record {
   places = λ n had. second.places n (first.places n had);
+  made = λ n has. made_after name n (a.has_place n) (b.has_place n) (first.made n) (second.made n has);
   others = λ n one two. same_after n a.given_back b.given_back c.given_back (first.others n one two) (second.others n one two);
   faults = let one = first.faults in let two = second.faults in omega (arith, one, two);
   tells = second.tells ∙ first.tells;

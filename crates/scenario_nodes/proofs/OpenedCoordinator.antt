@@ -41,6 +41,7 @@ module _ {D : Type 0} (state : D → DiskState) (s : Scenario) (first second : D
         let blank = sessions s.disk (state first) (state second) one two (omega (arith, large)) a b is_a is_b managed served in
         record {
           device = λ x y here there. stands_for_records managed served [] x y (h.images a b x y is_a is_b here there [] blank);
+          sized = record { first = h.first_disk.rest.kind.size ∙ one.size; second = h.second_disk.rest.kind.size ∙ two.size };
           cause = blamed failed.0 (h.recovers [] a b is_a is_b blank) h.cause;
         }
 

@@ -2,11 +2,8 @@
 use Rattle.std.proofs.Common.{◌≡◌, ◌≢◌, ◌⊎◌, inl, inr, ℕ, Bool, List, IsTrue, sym, subst}
 use Rattle.disk_model.specs.Shelf.{SameUnder}
 use Rattle.disk_model.proofs.Named.{same_or_other}
-use Rattle.scenario_nodes.specs.Shelves.{AreGivenBack, HasDisk, IsDiskName, ReturnsAll, ReturnsBut, Showing}
-
--- what a shelf shows, by the ghosts of its kind
-abbrev pub showing : {S D : Type 0} → (has_place : S → List ℕ → Type 0) (given_back : S → List ℕ → D → Type 0) (faults : S → ℕ) (tells : S → Bool) → S → Showing D
-showing has_place given_back faults tells shelf = record { has_place = has_place shelf; given_back = given_back shelf; faults = faults shelf; tells = tells shelf }
+use Rattle.scenario_nodes.specs.Shelves.{AreGivenBack, HasDisk, IsDiskName, ReturnsAll, ReturnsBut, SamePlaces, Showing}
+pub use Rattle.scenario_nodes.specs.Shelves.{showing}
 
 -- what a call returns, by what the shelf shows before and after it
 abbrev pub All : {D : Type 0} → (a b : Showing D) → Type 0
@@ -17,6 +14,14 @@ But out a b = ReturnsBut out a.tells a.has_place b.has_place a.given_back b.give
 
 pub still : (t u : Bool) → u ≡ t → IsTrue t → IsTrue u
 still t u same told = subst (λ (v : Bool). IsTrue v) (sym same) told
+
+-- ---- places that stay
+
+pub places_then : (a b c : List ℕ → Type 0) → SamePlaces a b → SamePlaces b c → SamePlaces a c
+places_then a b c one two n = ((λ here. (one n).0 ((two n).0 here)), (λ here. (two n).1 ((one n).1 here)))
+
+pub places_here : (a : List ℕ → Type 0) → SamePlaces a a
+places_here a n = ((λ here. here), (λ here. here))
 
 -- ---- the calls of a shelf
 

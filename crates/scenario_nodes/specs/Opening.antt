@@ -9,7 +9,8 @@ use Rattle.history_text.specs.Durable.{StandsForRecords, of_coordinator, of_reso
 use Rattle.history_text.specs.Promises.{BootOverflows, place_of}
 use Rattle.node_seat.specs.declared.faults.RunFault.{RunFault}
 use Rattle.node_seat.specs.declared.faults.RunFault.TheVariants as fault
-use Rattle.scenario_nodes.specs.Shelves.{AllTell, AreGivenBack, Showing, pair_of}
+use Rattle.scenario_nodes.specs.Nodes.{HaveSize}
+use Rattle.scenario_nodes.specs.Shelves.{AllTell, AreGivenBack, HasBoth, Showing, pair_of, second_name}
 
 -- a disk wasn't had for the node at a place: the shelf failed, or memory was refused
 abbrev pub IsShelfFault : Place → (rose : Type 0) → RunFault → Type 0
@@ -34,17 +35,25 @@ IsOpenFault role bytes disks (fault.Damaged at second offset) = ⊥
 IsOpenFault role bytes disks fault.Other = ⊥
 IsOpenFault role bytes disks fault.NoMemory = Unit {0}
 
--- a node wasn't opened, and its two disks show it
+-- a node wasn't opened, and its two disks, of so many bytes, show it
 pub record IsUnopened (role : Role) (bytes : ℕ) (disks : Pair) (missed : RunFault) : Type 0 where
   pub device : HaveNoEntry role disks
+  pub sized : HaveSize bytes disks
   pub cause : IsOpenFault role bytes disks missed
 
--- its disks were given back, and show it where they tell their bytes
+-- The disks of a node weren't had: no place was made for its second one. Its first may have been taken; then it was given back.
+pub record IsNotHad (at : Place) (rose : Type 0) (had has : List ℕ → Type 0) (name : List ℕ) (missed : RunFault) : Type 0 where
+  pub cause : IsShelfFault at rose missed
+  pub not_made : has (second_name name) → had (second_name name)
+
+-- both were taken and given back, and show it where they tell their bytes
 pub record GivesBack {D : Type 0} (state : D → DiskState) (new : Showing D) (role : Role) (name : List ℕ) (bytes : ℕ) (missed : RunFault) : Type 0 where
   pub disks : D × D
+  pub taken : HasBoth new.has_place name
   pub back : AreGivenBack new.tells new.given_back name disks
   pub unopened : AllTell state → IsUnopened role bytes (pair_of state disks) missed
 
 -- a node of a role wasn't opened: its disks weren't had, or were given back
 abbrev pub IsNotOpened : {D : Type 0} → (D → DiskState) → (old new : Showing D) → Role → (name : List ℕ) → (bytes : ℕ) → RunFault → Type 0
-IsNotOpened state old new role name bytes missed = IsShelfFault (place_of role) (Rose old.faults new.faults) missed ⊎ GivesBack state new role name bytes missed
+IsNotOpened state old new role name bytes missed =
+    IsNotHad (place_of role) (Rose old.faults new.faults) old.has_place new.has_place name missed ⊎ GivesBack state new role name bytes missed

@@ -1,5 +1,5 @@
 -- The two disks of a node on a shelf.
-use Rattle.std.specs.Prelude.{◌≡◌, ◌≢◌, ◌⊎◌, ◌≤◌, ◌++◌, ℕ, IsTrue, IsSome, Bool, List, codes}
+use Rattle.std.specs.Prelude.{◌≡◌, ◌≢◌, ◌⊎◌, ◌↔◌, ◌≤◌, ◌++◌, ℕ, IsTrue, IsSome, Bool, List, codes}
 use Rattle.disk_model.specs.Disk.{DiskState}
 use Rattle.disk_model.specs.Shelf.{SameUnder}
 use Rattle.disk_model.specs.Stop.{with_stop}
@@ -57,9 +57,18 @@ pub record Showing (D : Type 0) : Type 1 where
   pub faults : ℕ
   pub tells : Bool
 
--- a call for the node of a name left what is under other names as it was
+-- by the ghosts of its kind
+abbrev pub showing : {S D : Type 0} → (has_place : S → List ℕ → Type 0) (given_back : S → List ℕ → D → Type 0) (faults : S → ℕ) (tells : S → Bool) → S → Showing D
+showing has_place given_back faults tells shelf = record { has_place = has_place shelf; given_back = given_back shelf; faults = faults shelf; tells = tells shelf }
+
+-- no place was made, and none is gone
+abbrev pub SamePlaces : (had has : List ℕ → Type 0) → Type 0
+SamePlaces had has = (n : List ℕ) → has n ↔ had n
+
+-- a call for the node of a name made no place but for its disks, and left what is under other names as it was
 pub record KeepsOthers {D : Type 0} (name : List ℕ) (old new : Showing D) : Type 0 where
   pub places : (n : List ℕ) → old.has_place n → new.has_place n
+  pub made : (n : List ℕ) → new.has_place n → old.has_place n ⊎ IsDiskName name n
   pub others : (n : List ℕ) → n ≢ name → n ≢ second_name name → SameUnder n old.given_back new.given_back
   pub faults : old.faults ≤ new.faults
   pub tells : new.tells ≡ old.tells

@@ -1,7 +1,7 @@
 //! The coordinator of a scenario on two disks of a shelf.
 ghost use Rattle.std.specs.Prelude.{◌≡◌, length, IfOk, IfErr, OnErr, OnOk};
 ghost use Rattle.scenario_reader.specs.Runnable.{IsRunnable};
-ghost use Rattle.scenario_nodes.specs.Shelves.{AreGivenBack, HasBoth, IsDiskName, KeepsOthers, ReturnsAll, ReturnsBut, coordinator_name};
+ghost use Rattle.scenario_nodes.specs.Shelves.{AreGivenBack, HasBoth, IsDiskName, KeepsOthers, ReturnsAll, ReturnsBut, SamePlaces, coordinator_name, showing};
 ghost use Rattle.scenario_nodes.specs.Nodes.{IsNewCoordinator, coordinator_disks, coordinator_role};
 ghost use Rattle.scenario_nodes.specs.Opening.{IsNotOpened};
 
@@ -23,12 +23,12 @@ pub fn open_coordinator<H: Shelf>(
     ensures new { IfOk result (IsNewCoordinator H.D.state scenario.now (length scenario.now.managers) (length scenario.now.resources)) }
     ensures both { OnOk result (HasBoth (H.has_place shelf.new) coordinator_name) }
     ensures refused { IfErr result (IsNotOpened H.D.state
-        (record { has_place = H.has_place shelf.old; given_back = H.given_back shelf.old; faults = H.faults shelf.old; tells = H.tells shelf.old })
-        (record { has_place = H.has_place shelf.new; given_back = H.given_back shelf.new; faults = H.faults shelf.new; tells = H.tells shelf.new })
+        (showing H.has_place H.given_back H.faults H.tells shelf.old)
+        (showing H.has_place H.given_back H.faults H.tells shelf.new)
         (coordinator_role scenario.now) coordinator_name scenario.now.disk) }
     ensures keeps { KeepsOthers coordinator_name
-        (record { has_place = H.has_place shelf.old; given_back = H.given_back shelf.old; faults = H.faults shelf.old; tells = H.tells shelf.old })
-        (record { has_place = H.has_place shelf.new; given_back = H.given_back shelf.new; faults = H.faults shelf.new; tells = H.tells shelf.new }) }
+        (showing H.has_place H.given_back H.faults H.tells shelf.old)
+        (showing H.has_place H.given_back H.faults H.tells shelf.new) }
     ensures out { OnOk result (ReturnsBut (IsDiskName coordinator_name) (H.tells shelf.old) (H.has_place shelf.old) (H.has_place shelf.new) (H.given_back shelf.old) (H.given_back shelf.new)) }
     ensures returned { OnErr result (ReturnsAll (H.tells shelf.old) (H.has_place shelf.old) (H.has_place shelf.new) (H.given_back shelf.old) (H.given_back shelf.new)) }
 {
@@ -66,8 +66,9 @@ pub fn close_coordinator<H: Shelf>(shelf: &mut H, coordinator: Coordinator<H::D>
     requires { HasBoth (H.has_place shelf.old) coordinator_name }
     ensures back { AreGivenBack (H.tells shelf.old) (H.given_back shelf.new) coordinator_name (coordinator_disks coordinator) }
     ensures keeps { KeepsOthers coordinator_name
-        (record { has_place = H.has_place shelf.old; given_back = H.given_back shelf.old; faults = H.faults shelf.old; tells = H.tells shelf.old })
-        (record { has_place = H.has_place shelf.new; given_back = H.given_back shelf.new; faults = H.faults shelf.new; tells = H.tells shelf.new }) }
+        (showing H.has_place H.given_back H.faults H.tells shelf.old)
+        (showing H.has_place H.given_back H.faults H.tells shelf.new) }
+    ensures places { SamePlaces (H.has_place shelf.old) (H.has_place shelf.new) }
     ensures returned { ReturnsAll (H.tells shelf.old) (H.has_place shelf.old) (H.has_place shelf.new) (H.given_back shelf.old) (H.given_back shelf.new) }
 {
     give_disks(shelf, FIRST_DISK, SECOND_DISK, coordinator.into_disks());

@@ -2,9 +2,9 @@
 ghost use Rattle.std.specs.Prelude.{◌≡◌, ◌<◌, ◌^◌, IfOk, IfErr, OnErr, OnOk, string_bytes};
 ghost use Rattle.disk_model.specs.Disk.{Rose};
 ghost use Rattle.disk_model.specs.Shelf.{IsBlank};
-ghost use Rattle.scenario_nodes.specs.Shelves.{AreGivenBack, HasBoth, IsDiskName, KeepsOthers, ReturnsAll, ReturnsBut};
+ghost use Rattle.scenario_nodes.specs.Shelves.{AreGivenBack, HasBoth, IsDiskName, KeepsOthers, ReturnsAll, ReturnsBut, SamePlaces, showing};
 ghost use Rattle.scenario_nodes.specs.Shelves.{second_name as name_of_second};
-ghost use Rattle.scenario_nodes.specs.Opening.{IsShelfFault};
+ghost use Rattle.scenario_nodes.specs.Opening.{IsNotHad};
 
 use disk_model::{Shelf, ShelfError};
 use node_seat::RunFault;
@@ -36,7 +36,7 @@ fn shelf_fault(place: Place, error: ShelfError) -> RunFault
     }
 }
 
-/// Takes both disks of the node at a place. Where the second can't be had the first is given back.
+/// Takes both disks of the node at a place. Where the second can't be had the first is given back, and the second has no place.
 pub(crate) fn take_disks<H: Shelf>(
     alloc: Global,
     shelf: &mut H,
@@ -50,10 +50,10 @@ pub(crate) fn take_disks<H: Shelf>(
     ensures first { IfOk result (λ disks. IsBlank size (H.D.state disks.0)) }
     ensures second { IfOk result (λ disks. IsBlank size (H.D.state disks.1)) }
     ensures both { OnOk result (HasBoth (H.has_place shelf.new) first.now) }
-    ensures fault { IfErr result (IsShelfFault place (Rose (H.faults shelf.old) (H.faults shelf.new))) }
+    ensures refused { IfErr result (IsNotHad place (Rose (H.faults shelf.old) (H.faults shelf.new)) (H.has_place shelf.old) (H.has_place shelf.new) first.now) }
     ensures keeps { KeepsOthers first.now
-        (record { has_place = H.has_place shelf.old; given_back = H.given_back shelf.old; faults = H.faults shelf.old; tells = H.tells shelf.old })
-        (record { has_place = H.has_place shelf.new; given_back = H.given_back shelf.new; faults = H.faults shelf.new; tells = H.tells shelf.new }) }
+        (showing H.has_place H.given_back H.faults H.tells shelf.old)
+        (showing H.has_place H.given_back H.faults H.tells shelf.new) }
     ensures out { OnOk result (ReturnsBut (IsDiskName first.now) (H.tells shelf.old) (H.has_place shelf.old) (H.has_place shelf.new) (H.given_back shelf.old) (H.given_back shelf.new)) }
     ensures returned { OnErr result (ReturnsAll (H.tells shelf.old) (H.has_place shelf.old) (H.has_place shelf.new) (H.given_back shelf.old) (H.given_back shelf.new)) }
 {
@@ -76,8 +76,9 @@ pub(crate) fn give_disks<H: Shelf>(shelf: &mut H, first: &str, second: &str, dis
     requires both { HasBoth (H.has_place shelf.old) first.now }
     ensures back { AreGivenBack (H.tells shelf.old) (H.given_back shelf.new) first.now disks }
     ensures keeps { KeepsOthers first.now
-        (record { has_place = H.has_place shelf.old; given_back = H.given_back shelf.old; faults = H.faults shelf.old; tells = H.tells shelf.old })
-        (record { has_place = H.has_place shelf.new; given_back = H.given_back shelf.new; faults = H.faults shelf.new; tells = H.tells shelf.new }) }
+        (showing H.has_place H.given_back H.faults H.tells shelf.old)
+        (showing H.has_place H.given_back H.faults H.tells shelf.new) }
+    ensures places { SamePlaces (H.has_place shelf.old) (H.has_place shelf.new) }
     ensures returned { ReturnsAll (H.tells shelf.old) (H.has_place shelf.old) (H.has_place shelf.new) (H.given_back shelf.old) (H.given_back shelf.new) }
 {
     let (a, b) = disks;

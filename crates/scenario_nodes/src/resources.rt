@@ -3,7 +3,7 @@ ghost use Rattle.std.specs.Prelude.{◌≡◌, ◌-◌, Some, length, slice_get,
 ghost use Rattle.scenario_reader.specs.declared.scenarios.ResourceDef.{ResourceDef as TheDef};
 ghost use Rattle.scenario_reader.specs.Contents.{IsBetween};
 ghost use Rattle.scenario_reader.specs.Runnable.{IsRunnable};
-ghost use Rattle.scenario_nodes.specs.Shelves.{AreGivenBack, HasBoth, IsDiskName, KeepsOthers, ReturnsAll, ReturnsBut, second_name};
+ghost use Rattle.scenario_nodes.specs.Shelves.{AreGivenBack, HasBoth, IsDiskName, KeepsOthers, ReturnsAll, ReturnsBut, SamePlaces, second_name, showing};
 ghost use Rattle.scenario_nodes.specs.Nodes.{IsNewResource, resource_disks, resource_role};
 ghost use Rattle.scenario_nodes.specs.Opening.{IsNotOpened};
 
@@ -33,12 +33,12 @@ pub fn open_resource<H: Shelf>(
     ensures new { IfOk result (IsNewResource H.D.state scenario.now number def.now) }
     ensures both { OnOk result (HasBoth (H.has_place shelf.new) def.now.name) }
     ensures refused { IfErr result (IsNotOpened H.D.state
-        (record { has_place = H.has_place shelf.old; given_back = H.given_back shelf.old; faults = H.faults shelf.old; tells = H.tells shelf.old })
-        (record { has_place = H.has_place shelf.new; given_back = H.given_back shelf.new; faults = H.faults shelf.new; tells = H.tells shelf.new })
+        (showing H.has_place H.given_back H.faults H.tells shelf.old)
+        (showing H.has_place H.given_back H.faults H.tells shelf.new)
         (resource_role scenario.now number def.now) def.now.name scenario.now.disk) }
     ensures keeps { KeepsOthers def.now.name
-        (record { has_place = H.has_place shelf.old; given_back = H.given_back shelf.old; faults = H.faults shelf.old; tells = H.tells shelf.old })
-        (record { has_place = H.has_place shelf.new; given_back = H.given_back shelf.new; faults = H.faults shelf.new; tells = H.tells shelf.new }) }
+        (showing H.has_place H.given_back H.faults H.tells shelf.old)
+        (showing H.has_place H.given_back H.faults H.tells shelf.new) }
     ensures out { OnOk result (ReturnsBut (IsDiskName def.now.name) (H.tells shelf.old) (H.has_place shelf.old) (H.has_place shelf.new) (H.given_back shelf.old) (H.given_back shelf.new)) }
     ensures returned { OnErr result (ReturnsAll (H.tells shelf.old) (H.has_place shelf.old) (H.has_place shelf.new) (H.given_back shelf.old) (H.given_back shelf.new)) }
 {
@@ -70,8 +70,9 @@ pub fn close_resource<H: Shelf>(shelf: &mut H, name: &str, second: &str, resourc
     requires both { HasBoth (H.has_place shelf.old) name.now }
     ensures back { AreGivenBack (H.tells shelf.old) (H.given_back shelf.new) name.now (resource_disks resource) }
     ensures keeps { KeepsOthers name.now
-        (record { has_place = H.has_place shelf.old; given_back = H.given_back shelf.old; faults = H.faults shelf.old; tells = H.tells shelf.old })
-        (record { has_place = H.has_place shelf.new; given_back = H.given_back shelf.new; faults = H.faults shelf.new; tells = H.tells shelf.new }) }
+        (showing H.has_place H.given_back H.faults H.tells shelf.old)
+        (showing H.has_place H.given_back H.faults H.tells shelf.new) }
+    ensures places { SamePlaces (H.has_place shelf.old) (H.has_place shelf.new) }
     ensures returned { ReturnsAll (H.tells shelf.old) (H.has_place shelf.old) (H.has_place shelf.new) (H.given_back shelf.old) (H.given_back shelf.new) }
 {
     give_disks(shelf, name, second, resource.into_disks());

@@ -1,4 +1,5 @@
 mod Answered
+mod CalmStatus
 mod Concluded
 mod Fed
 mod Flow

@@ -13,7 +13,7 @@ use Rattle.seata_types.specs.declared.ids.Place.{Place}
 use Rattle.node_seat.specs.declared.faults.RunFault.{RunFault}
 use Rattle.node_seat.specs.declared.faults.RunFault.TheVariants as run_fault
 use Rattle.scenario_nodes.specs.Shelves.{AllTell, pair_of}
-use Rattle.replay_runner.specs.Leaving.{AreLeft, AreSized, FirstGivenBack, disks_in}
+use Rattle.replay_runner.specs.Leaving.{AreLeft, FirstGivenBack, HaveSizes, disks_in}
 use Rattle.report_text.specs.Following.{Reports}
 use Rattle.history_rules.specs.Nodes.{Role, no_past, role_at}
 use Rattle.history_rules.specs.Histories.{Moment, own}
@@ -148,7 +148,7 @@ pub record Reported {D : Type 0} (state : D → DiskState) (s : Scenario) (disks
   pub is_safe : IsSafeHistory (world_of s) no_past history
   pub is_report : text ≡ report s history
   pub device : (p : Place) (role : Role) → role_at (world_of s) no_past p ≡ Some role → AreLeft role (own p history) (disks_in (map (pair_of state) disks) p)
-  pub sized : (p : Place) (role : Role) → role_at (world_of s) no_past p ≡ Some role → AreSized role s.disk (disks_in (map (pair_of state) disks) p)
+  pub sized : HaveSizes s (map (pair_of state) disks)
 
 -- what a replay tells: its input was read to its end and is a scenario; its disks were given back, and the sink got the text of how
 -- it ended
@@ -185,6 +185,10 @@ pub record CutsShort (ends : Ending) (IsDone : Scenario → List ℕ → Type 0)
 -- the statuses of a scenario: it was replayed, or memory was refused
 abbrev pub is_end : ℕ → Bool
 is_end status = is_among (0 ∷ 6 ∷ 7 ∷ 8 ∷ 9 ∷ []) status
+
+-- those where nothing failed: a replay that is done, a record that doesn't fit, or want of memory
+abbrev pub is_calm_end : ℕ → Bool
+is_calm_end status = is_among (0 ∷ 6 ∷ 8 ∷ []) status
 
 -- what the status of a replay says of the input, where that is told
 pub record TellsReplay (ends : Ending) (IsDone : Scenario → List ℕ → Type 0) (status : ℕ) (old new : Devices) : Type 0 where

@@ -4,8 +4,7 @@ ghost use Rattle.std.specs.Fmt.{decimal};
 ghost use Rattle.history_text.specs.Report.{line};
 ghost use Rattle.scenario_reader.specs.Reading.{IsScenario};
 ghost use Rattle.scenario_reader.specs.Runnable.{IsRunnable};
-ghost use Rattle.disk_model.specs.Disk.{Rose};
-ghost use Rattle.scenario_nodes.specs.Shelves.{ReturnsAll};
+ghost use Rattle.scenario_nodes.specs.Shelves.{ReturnsAll, showing};
 ghost use Rattle.replay_runner.specs.Leaving.{Replays as Replayed};
 ghost use Rattle.seata_lab.specs.Answers.{IsAnswerTo, IsEndText, IsLeftByReplay, TellsShelf, damaged_text, disk_text, end_text, fault_text, full_text, status_of, store_text};
 
@@ -229,9 +228,9 @@ fn answer_of<H: Shelf>(
     shelf: &mut H,
 ) -> Result<Answer, NoMemory>
     requires { IsRunnable scenario.now }
-    ensures answer { (bytes : Items ℕ) → IsScenario bytes scenario.now → IfOk result (λ answer. IsAnswerTo (Replayed H.D.state (H.tells shelf.old) (H.given_back shelf.new) (Rose (H.faults shelf.old) (H.faults shelf.new))) bytes (string_bytes answer.text) answer.status) }
-    ensures shelf { (bytes : Items ℕ) → IsScenario bytes scenario.now → IfOk result (λ answer. IsLeftByReplay (Replayed H.D.state (H.tells shelf.old) (H.given_back shelf.new) (Rose (H.faults shelf.old) (H.faults shelf.new))) answer.status (Some bytes) (Some [])) }
-    ensures unanswered { (bytes : Items ℕ) → IsScenario bytes scenario.now → IfErr result (λ none. IsLeftByReplay (Replayed H.D.state (H.tells shelf.old) (H.given_back shelf.new) (Rose (H.faults shelf.old) (H.faults shelf.new))) 6 (Some bytes) (Some [])) }
+    ensures answer { (bytes : Items ℕ) → IsScenario bytes scenario.now → IfOk result (λ answer. IsAnswerTo (Replayed H.D.state (showing H.has_place H.given_back H.faults H.tells shelf.old) (showing H.has_place H.given_back H.faults H.tells shelf.new)) bytes (string_bytes answer.text) answer.status) }
+    ensures shelf { (bytes : Items ℕ) → IsScenario bytes scenario.now → IfOk result (λ answer. IsLeftByReplay (Replayed H.D.state (showing H.has_place H.given_back H.faults H.tells shelf.old) (showing H.has_place H.given_back H.faults H.tells shelf.new)) answer.status (Some bytes) (Some [])) }
+    ensures unanswered { (bytes : Items ℕ) → IsScenario bytes scenario.now → IfErr result (λ none. IsLeftByReplay (Replayed H.D.state (showing H.has_place H.given_back H.faults H.tells shelf.old) (showing H.has_place H.given_back H.faults H.tells shelf.new)) 6 (Some bytes) (Some [])) }
     ensures returned { ReturnsAll (H.tells shelf.old) (H.has_place shelf.old) (H.has_place shelf.new) (H.given_back shelf.old) (H.given_back shelf.new) }
 {
     let replayed = replay(alloc, scenario, shelf);
@@ -241,9 +240,9 @@ fn answer_of<H: Shelf>(
 /// The text of an input, with its status.
 #[tactic(auto, unfolding(crate::specs::Answers::IsAnswerTo, crate::specs::Answers::IsFaultOf))]
 pub fn answer_to<H: Shelf>(alloc: Global, bytes: &[u8], shelf: &mut H) -> Result<Answer, NoMemory>
-    ensures answer { IfOk result (λ answer. IsAnswerTo (Replayed H.D.state (H.tells shelf.old) (H.given_back shelf.new) (Rose (H.faults shelf.old) (H.faults shelf.new))) bytes.now (string_bytes answer.text) answer.status) }
-    ensures shelf { IfOk result (λ answer. TellsShelf (Replayed H.D.state (H.tells shelf.old) (H.given_back shelf.new) (Rose (H.faults shelf.old) (H.faults shelf.new))) (shelf.new ≡ shelf.old) answer.status (Some bytes.now) (Some [])) }
-    ensures unanswered { IfErr result (λ none. TellsShelf (Replayed H.D.state (H.tells shelf.old) (H.given_back shelf.new) (Rose (H.faults shelf.old) (H.faults shelf.new))) (shelf.new ≡ shelf.old) 6 (Some bytes.now) (Some [])) }
+    ensures answer { IfOk result (λ answer. IsAnswerTo (Replayed H.D.state (showing H.has_place H.given_back H.faults H.tells shelf.old) (showing H.has_place H.given_back H.faults H.tells shelf.new)) bytes.now (string_bytes answer.text) answer.status) }
+    ensures shelf { IfOk result (λ answer. TellsShelf (Replayed H.D.state (showing H.has_place H.given_back H.faults H.tells shelf.old) (showing H.has_place H.given_back H.faults H.tells shelf.new)) (shelf.new ≡ shelf.old) answer.status (Some bytes.now) (Some [])) }
+    ensures unanswered { IfErr result (λ none. TellsShelf (Replayed H.D.state (showing H.has_place H.given_back H.faults H.tells shelf.old) (showing H.has_place H.given_back H.faults H.tells shelf.new)) (shelf.new ≡ shelf.old) 6 (Some bytes.now) (Some [])) }
     ensures returned { ReturnsAll (H.tells shelf.old) (H.has_place shelf.old) (H.has_place shelf.new) (H.given_back shelf.old) (H.given_back shelf.new) }
 {
     match read(alloc, bytes) {

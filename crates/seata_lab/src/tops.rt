@@ -2,10 +2,13 @@
 ghost use Rattle.std.specs.Prelude.{◌≡◌, ◌≢◌, ◌⊎◌, ℕ, true, false, List as Items, ◌∷◌, Some, IfOk, IfErr, string_bytes};
 ghost use Rattle.std.specs.Io.KnownBytes.{Appends};
 ghost use Rattle.disk_model.specs.Disk.{Rose};
-ghost use Rattle.scenario_nodes.specs.Shelves.{ReturnsAll};
+ghost use Rattle.scenario_nodes.specs.Shelves.{ReturnsAll, showing};
+ghost use Rattle.scenario_reader.specs.declared.scenarios.Scenario.{Scenario as TheScenario};
+ghost use Rattle.scenario_reader.specs.Reading.{IsScenario};
+ghost use Rattle.replay_runner.specs.Leaving.{IsCalmShelf};
 ghost use Rattle.replay_runner.specs.Leaving.{Replays as Replayed};
-ghost use Rattle.seata_lab.specs.Answers.{Answers, Done, IsAnswerTo, IsFramesAnswer, Replays, TellsReplay, TellsShelf, TellsFrames, TellsUsage, TellsFaults, is_replay, is_frames, replay_statuses, frames_statuses, with_failures};
-ghost use Rattle.seata_lab.specs.Streams.{GainsFront, devices};
+ghost use Rattle.seata_lab.specs.Answers.{Answers, Done, IsAnswerTo, IsFramesAnswer, Replays, TellsReplay, TellsShelf, TellsFrames, TellsUsage, TellsFaults, is_calm_end, is_replay, is_frames, replay_statuses, frames_statuses, with_failures};
+ghost use Rattle.seata_lab.specs.Streams.{GainsFront, IsCalm, devices};
 
 use crate::answers::{Answer, answer_to};
 use crate::frames::list_frames;
@@ -45,9 +48,9 @@ fn replay_input<S: Source, H: Shelf>(
     source: &mut S,
     shelf: &mut H,
 ) -> Result<Answer, u8>
-    ensures answer { IfOk result (λ a. Answers (IsAnswerTo (Replayed H.D.state (H.tells shelf.old) (H.given_back shelf.new) (Rose (H.faults shelf.old) (H.faults shelf.new)))) replay_statuses (S.left source.old) (S.left source.new) (string_bytes a.text) a.status) }
-    ensures shelf { IfOk result (λ a. TellsShelf (Replayed H.D.state (H.tells shelf.old) (H.given_back shelf.new) (Rose (H.faults shelf.old) (H.faults shelf.new))) (shelf.new ≡ shelf.old) a.status (S.left source.old) (S.left source.new)) }
-    ensures unanswered { IfErr result (λ status. TellsShelf (Replayed H.D.state (H.tells shelf.old) (H.given_back shelf.new) (Rose (H.faults shelf.old) (H.faults shelf.new))) (shelf.new ≡ shelf.old) status (S.left source.old) (S.left source.new)) }
+    ensures answer { IfOk result (λ a. Answers (IsAnswerTo (Replayed H.D.state (showing H.has_place H.given_back H.faults H.tells shelf.old) (showing H.has_place H.given_back H.faults H.tells shelf.new))) replay_statuses (S.left source.old) (S.left source.new) (string_bytes a.text) a.status) }
+    ensures shelf { IfOk result (λ a. TellsShelf (Replayed H.D.state (showing H.has_place H.given_back H.faults H.tells shelf.old) (showing H.has_place H.given_back H.faults H.tells shelf.new)) (shelf.new ≡ shelf.old) a.status (S.left source.old) (S.left source.new)) }
+    ensures unanswered { IfErr result (λ status. TellsShelf (Replayed H.D.state (showing H.has_place H.given_back H.faults H.tells shelf.old) (showing H.has_place H.given_back H.faults H.tells shelf.new)) (shelf.new ≡ shelf.old) status (S.left source.old) (S.left source.new)) }
     ensures returned { ReturnsAll (H.tells shelf.old) (H.has_place shelf.old) (H.has_place shelf.new) (H.given_back shelf.old) (H.given_back shelf.new) }
     ensures statuses { IfErr result (λ status. (status ≡ 4) ⊎ (status ≡ 6)) }
     ensures failed { IfErr result (λ status. status ≡ 4 → Rose (S.faults source.old) (S.faults source.new)) }
@@ -91,18 +94,20 @@ fn write_answer<K: Sink>(sink: &mut K, answer: Result<Answer, u8>) -> u8
 /// where the sink did, 6 where memory was refused, 7 where a disk couldn't be had or its opening or restart failed, 8 where a
 /// node's next record would pass the end of its disk, and 9 where a disk has bytes that are no journal. At each status the
 /// disks that were taken are given back: where the shelf tells of them, each name that has a place there had one before or has
-/// a disk that was given back to it, and a name that had such a disk still has one. How many nodes were opened where memory
-/// was refused, the clauses don't say.
+/// a disk that was given back to it, and a name that had such a disk still has one. Where a shelf had no place for any node
+/// before, its places say of how many nodes the disks were taken. Where nothing fails, the status of a scenario is 0, 6 or 8.
 pub fn replay_once<S: Source, K: Sink, H: Shelf>(
     alloc: Global,
     source: &mut S,
     sink: &mut K,
     shelf: &mut H,
 ) -> u8
-    ensures replay { TellsReplay (Replayed H.D.state (H.tells shelf.old) (H.given_back shelf.new) (Rose (H.faults shelf.old) (H.faults shelf.new))) (Done H.D.state (H.tells shelf.old) (H.given_back shelf.new)) result (devices S.left S.faults K.written K.faults source.old sink.old) (devices S.left S.faults K.written K.faults source.new sink.new) }
+    ensures replay { TellsReplay (Replayed H.D.state (showing H.has_place H.given_back H.faults H.tells shelf.old) (showing H.has_place H.given_back H.faults H.tells shelf.new)) (Done H.D.state (H.tells shelf.old) (H.given_back shelf.new)) result (devices S.left S.faults K.written K.faults source.old sink.old) (devices S.left S.faults K.written K.faults source.new sink.new) }
     ensures done { result ≡ 0 → (input : Items ℕ) → S.left source.old ≡ Some input
-        → (r : Replays (Replayed H.D.state (H.tells shelf.old) (H.given_back shelf.new) (Rose (H.faults shelf.old) (H.faults shelf.new))) 0 input (devices S.left S.faults K.written K.faults source.old sink.old) (devices S.left S.faults K.written K.faults source.new sink.new)) × Done H.D.state (H.tells shelf.old) (H.given_back shelf.new) r.scenario r.text }
-    ensures shelf { TellsShelf (Replayed H.D.state (H.tells shelf.old) (H.given_back shelf.new) (Rose (H.faults shelf.old) (H.faults shelf.new))) (shelf.new ≡ shelf.old) result (S.left source.old) (S.left source.new) }
+        → (r : Replays (Replayed H.D.state (showing H.has_place H.given_back H.faults H.tells shelf.old) (showing H.has_place H.given_back H.faults H.tells shelf.new)) 0 input (devices S.left S.faults K.written K.faults source.old sink.old) (devices S.left S.faults K.written K.faults source.new sink.new)) × Done H.D.state (H.tells shelf.old) (H.given_back shelf.new) r.scenario r.text }
+    ensures shelf { TellsShelf (Replayed H.D.state (showing H.has_place H.given_back H.faults H.tells shelf.old) (showing H.has_place H.given_back H.faults H.tells shelf.new)) (shelf.new ≡ shelf.old) result (S.left source.old) (S.left source.new) }
+    ensures calm { IsCalm (devices S.left S.faults K.written K.faults source.old sink.old) (devices S.left S.faults K.written K.faults source.new sink.new) → (input : Items ℕ) (scenario : TheScenario) → S.left source.old ≡ Some input → IsScenario input scenario
+        → IsCalmShelf H.D.state (showing H.has_place H.given_back H.faults H.tells shelf.old) (showing H.has_place H.given_back H.faults H.tells shelf.new) → is_calm_end result ≡ true }
     ensures returned { ReturnsAll (H.tells shelf.old) (H.has_place shelf.old) (H.has_place shelf.new) (H.given_back shelf.old) (H.given_back shelf.new) }
     ensures faults { TellsFaults (with_failures replay_statuses) result (devices S.left S.faults K.written K.faults source.old sink.old) (devices S.left S.faults K.written K.faults source.new sink.new) }
 {
@@ -137,11 +142,13 @@ pub fn top<S: Source, K: Sink, H: Shelf>(
     ensures usage { is_replay words.now ≡ false → is_frames words.now ≡ false
         → TellsUsage result (devices S.left S.faults K.written K.faults source.old sink.old) (devices S.left S.faults K.written K.faults source.new sink.new) }
     ensures replay { is_replay words.now ≡ true
-        → TellsReplay (Replayed H.D.state (H.tells shelf.old) (H.given_back shelf.new) (Rose (H.faults shelf.old) (H.faults shelf.new))) (Done H.D.state (H.tells shelf.old) (H.given_back shelf.new)) result (devices S.left S.faults K.written K.faults source.old sink.old) (devices S.left S.faults K.written K.faults source.new sink.new) }
+        → TellsReplay (Replayed H.D.state (showing H.has_place H.given_back H.faults H.tells shelf.old) (showing H.has_place H.given_back H.faults H.tells shelf.new)) (Done H.D.state (H.tells shelf.old) (H.given_back shelf.new)) result (devices S.left S.faults K.written K.faults source.old sink.old) (devices S.left S.faults K.written K.faults source.new sink.new) }
     ensures done { is_replay words.now ≡ true → result ≡ 0 → (input : Items ℕ) → S.left source.old ≡ Some input
-        → (r : Replays (Replayed H.D.state (H.tells shelf.old) (H.given_back shelf.new) (Rose (H.faults shelf.old) (H.faults shelf.new))) 0 input (devices S.left S.faults K.written K.faults source.old sink.old) (devices S.left S.faults K.written K.faults source.new sink.new)) × Done H.D.state (H.tells shelf.old) (H.given_back shelf.new) r.scenario r.text }
+        → (r : Replays (Replayed H.D.state (showing H.has_place H.given_back H.faults H.tells shelf.old) (showing H.has_place H.given_back H.faults H.tells shelf.new)) 0 input (devices S.left S.faults K.written K.faults source.old sink.old) (devices S.left S.faults K.written K.faults source.new sink.new)) × Done H.D.state (H.tells shelf.old) (H.given_back shelf.new) r.scenario r.text }
     ensures shelf { is_replay words.now ≡ true
-        → TellsShelf (Replayed H.D.state (H.tells shelf.old) (H.given_back shelf.new) (Rose (H.faults shelf.old) (H.faults shelf.new))) (shelf.new ≡ shelf.old) result (S.left source.old) (S.left source.new) }
+        → TellsShelf (Replayed H.D.state (showing H.has_place H.given_back H.faults H.tells shelf.old) (showing H.has_place H.given_back H.faults H.tells shelf.new)) (shelf.new ≡ shelf.old) result (S.left source.old) (S.left source.new) }
+    ensures calm { is_replay words.now ≡ true → IsCalm (devices S.left S.faults K.written K.faults source.old sink.old) (devices S.left S.faults K.written K.faults source.new sink.new) → (input : Items ℕ) (scenario : TheScenario) → S.left source.old ≡ Some input → IsScenario input scenario
+        → IsCalmShelf H.D.state (showing H.has_place H.given_back H.faults H.tells shelf.old) (showing H.has_place H.given_back H.faults H.tells shelf.new) → is_calm_end result ≡ true }
     ensures returned { ReturnsAll (H.tells shelf.old) (H.has_place shelf.old) (H.has_place shelf.new) (H.given_back shelf.old) (H.given_back shelf.new) }
     ensures untouched { is_replay words.now ≡ false → shelf.new ≡ shelf.old }
     ensures frames { is_frames words.now ≡ true

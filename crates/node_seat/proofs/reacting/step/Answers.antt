@@ -1,11 +1,16 @@
 use Rattle.std.proofs.Common.{subst}
 use Rattle.history_text.specs.Promises.{DisksFail}
 use Rattle.node_seat.specs.Entering.{IsStepOf}
-use Rattle.node_seat.proofs.Reacted.{step_ok}
+use Rattle.node_seat.proofs.Reacted.{step_ok, step_room}
 use Rattle.node_seat.proofs.reacting.step.Goals as goal
 
 pub returns-in-Err-clause-does : goal.returns-in-Err-clause-does
 returns-in-Err-clause-does g c =
     step_ok g.N.Node.stands_for g.N.Node.disks g.N.Node.stands_at g.N.Node.size c.args.node.now c.step.new.self c.args.input c.args.now
     (DisksFail (g.N.Node.disks c.args.node.now) (g.N.Node.disks c.step.new.self)) c.in-Err.ensures.picks c.in-Err.error c.step_of.result c.in-Err.ensures.after
+    (subst (λ p. IsStepOf p c.in-Err.error c.step_of.result) c.place-place.ensures c.step_of.ensures.step)
+
+pub returns-in-Err-clause-room : goal.returns-in-Err-clause-room
+returns-in-Err-clause-room g c =
+    step_room g.N.Node.stands_for g.N.Node.disks g.N.Node.size (g.N.Node.stands_at c.args.node.now) c.args.node.now c.args.input c.args.now c.in-Err.error c.step_of.result c.in-Err.ensures.room
     (subst (λ p. IsStepOf p c.in-Err.error c.step_of.result) c.place-place.ensures c.step_of.ensures.step)

@@ -79,7 +79,7 @@ loop-k-preserved g c =
           (subst (λ name. AreGivenBack (g.H.Shelf.tells c.loop-k.shelf) (g.H.Shelf.given_back c.close_resource.new.shelf) name (resource_disks c.in-Some.member.seat.node)) named
           (subst (λ (r : Resource g.row.H-D.Denot). AreGivenBack (g.H.Shelf.tells c.loop-k.shelf) (g.H.Shelf.given_back c.close_resource.new.shelf) c.as_str.result.now (resource_disks r))
           c.finish-resource.ensures.node c.close_resource.ensures.back))
-          (subst (λ name. KeepsOthers name now after) named c.close_resource.ensures.keeps) c.close_resource.ensures.returned
+          (subst (λ name. KeepsOthers name now after) named c.close_resource.ensures.keeps) c.close_resource.ensures.places c.close_resource.ensures.returned
           (λ told.
           let (kept, is, more) = c.keep-kept.ensures (and_right c.loop-k.kept c.keep-kept.result told) in
           (and_left c.loop-k.kept c.keep-kept.result told, kept, is ∙ c.finish-resource.ensures.trace, more))),
@@ -125,3 +125,9 @@ returns-then-kept-clause-returned g c = c.loop-k.invariant.2.closed.returned
 
 pub returns-else-kept-clause-returned : goal.returns-else-kept-clause-returned
 returns-else-kept-clause-returned g c = c.loop-k.invariant.2.closed.returned
+
+pub returns-then-kept-clause-places : goal.returns-then-kept-clause-places
+returns-then-kept-clause-places g c = c.loop-k.invariant.2.closed.places
+
+pub returns-else-kept-clause-places : goal.returns-else-kept-clause-places
+returns-else-kept-clause-places g c = c.loop-k.invariant.2.closed.places

@@ -1,7 +1,7 @@
 use Rattle.std.proofs.Common.{◌≤◌, ◌∙◌, List, arith, length, sym, subst}
 use Rattle.scenario_reader.specs.declared.scenarios.ResourceDef.{ResourceDef}
 use Rattle.replay_runner.specs.Opened.{AreAll, AreDefsApart, AreReturned, HaveBoth, IsOfNone, IsSecondName}
-use Rattle.scenario_nodes.proofs.Returned.{all_after, showing}
+use Rattle.scenario_nodes.proofs.Returned.{all_after, places_then, showing}
 use Rattle.replay_runner.proofs.Closed.{all_back, all_others, taken_stay}
 use Rattle.replay_runner.proofs.Names.{defs_apart}
 use Rattle.replay_runner.proofs.closings.close_servers.Goals as goal
@@ -53,3 +53,8 @@ returns-clause-returned g c =
     (showing g.H.Shelf.has_place g.H.Shelf.given_back g.H.Shelf.faults g.H.Shelf.tells c.close_coordinator.new.shelf)
     (showing g.H.Shelf.has_place g.H.Shelf.given_back g.H.Shelf.faults g.H.Shelf.tells c.close_resources.new.shelf) c.close_coordinator.ensures.keeps.tells c.close_coordinator.ensures.returned
     c.close_resources.ensures.returned
+
+pub returns-clause-places : goal.returns-clause-places
+returns-clause-places g c =
+    places_then (g.H.Shelf.has_place c.args.shelf.now) (g.H.Shelf.has_place c.close_coordinator.new.shelf) (g.H.Shelf.has_place c.close_resources.new.shelf) c.close_coordinator.ensures.places
+    c.close_resources.ensures.places

@@ -1,4 +1,4 @@
-use Rattle.std.proofs.Common.{◌≡◌, ◌∙◌, ◌+◌, ◌<◌, ◌++◌, ◌∷◌, [], List, Some, ap, arith, length, length-append, refl, slice_get, sym, subst}
+use Rattle.std.proofs.Common.{◌≡◌, inl, ◌∙◌, ◌+◌, ◌<◌, ◌++◌, ◌∷◌, [], List, Some, ap, arith, length, length-append, refl, slice_get, sym, subst}
 use Rattle.std.proofs.lemmas.Option.{slice_get_read}
 use Rattle.disk_model.specs.Disk.{Rose}
 use Rattle.scenario_reader.specs.declared.scenarios.ResourceDef.{ResourceDef}
@@ -10,7 +10,7 @@ use Rattle.replay_runner.proofs.Closed.{taken_more, taken_stay}
 use Rattle.replay_runner.proofs.Finished.{next_refused, next_unasked}
 use Rattle.replay_runner.proofs.Lists.{member_at}
 use Rattle.replay_runner.proofs.NewNodes.{fresh_resource, next_first}
-use Rattle.replay_runner.proofs.Returning.{of_next}
+use Rattle.replay_runner.proofs.Returning.{made_next, of_next}
 use Rattle.replay_runner.proofs.openings.open_next.Goals as goal
 
 pub returns-then-is_err-clause-opened : goal.returns-then-is_err-clause-opened
@@ -23,7 +23,7 @@ returns-then-is_err-clause-taken g c =
 pub returns-then-is_err-clause-refused : goal.returns-then-is_err-clause-refused
 returns-then-is_err-clause-refused g c =
     let (def, here) = member_at c.args.scenario.now.resources c.args.k c.requires.there in
-    next_unasked g.H.D.Disk.state c.args.scenario.now (g.H.Shelf.tells c.args.shelf.now) (g.H.Shelf.given_back c.args.shelf.now)
+    next_unasked g.H.D.Disk.state c.args.scenario.now (g.H.Shelf.has_place c.args.shelf.now) (g.H.Shelf.tells c.args.shelf.now) (g.H.Shelf.given_back c.args.shelf.now)
     (Rose (g.H.Shelf.faults c.args.shelf.now) (g.H.Shelf.faults c.args.shelf.now)) c.args.k def here
 
 pub overflow_cast-k : goal.overflow_cast-k
@@ -104,3 +104,20 @@ returns-in-Err-clause-out g c =
     let before = showing g.H.Shelf.has_place g.H.Shelf.given_back g.H.Shelf.faults g.H.Shelf.tells c.args.shelf.now in
     let after = showing g.H.Shelf.has_place g.H.Shelf.given_back g.H.Shelf.faults g.H.Shelf.tells c.open_resource.new.shelf in
     but_of_all (IsOfOne c.args.scenario.now.resources (length c.reserve.new.self.items)) before after c.in-Err.ensures.returned
+
+pub returns-then-is_err-clause-made : goal.returns-then-is_err-clause-made
+returns-then-is_err-clause-made g c = λ n there. inl there
+
+pub returns-in-Ok-clause-made : goal.returns-in-Ok-clause-made
+returns-in-Ok-clause-made g c = λ n there.
+    let here =
+    slice_get_read c.as_slice.result.now _ c.args.k c.index-as_slice-k.result refl (subst (λ (ds : List ResourceDef). c.args.k < length ds) (sym c.as_slice.ensures) c.requires.there) c.index-as_slice-k.is in
+    made_next (g.H.Shelf.has_place c.args.shelf.now) c.args.scenario.now.resources c.args.k c.index-as_slice-k.result
+    (subst (λ (ds : List ResourceDef). slice_get ds c.args.k ≡ Some c.index-as_slice-k.result) c.as_slice.ensures here) n (c.in-Ok.ensures.keeps.made n there)
+
+pub returns-in-Err-clause-made : goal.returns-in-Err-clause-made
+returns-in-Err-clause-made g c = λ n there.
+    let here =
+    slice_get_read c.as_slice.result.now _ c.args.k c.index-as_slice-k.result refl (subst (λ (ds : List ResourceDef). c.args.k < length ds) (sym c.as_slice.ensures) c.requires.there) c.index-as_slice-k.is in
+    made_next (g.H.Shelf.has_place c.args.shelf.now) c.args.scenario.now.resources c.args.k c.index-as_slice-k.result
+    (subst (λ (ds : List ResourceDef). slice_get ds c.args.k ≡ Some c.index-as_slice-k.result) c.as_slice.ensures here) n (c.in-Err.ensures.keeps.made n there)

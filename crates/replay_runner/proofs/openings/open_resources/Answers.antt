@@ -1,9 +1,10 @@
-use Rattle.std.proofs.Common.{◌≡◌, ◌∙◌, ◌+◌, Bool, ap, arith, length, refl, sym, subst}
+use Rattle.std.proofs.Common.{◌≡◌, inl, ◌∙◌, ◌+◌, Bool, ap, arith, length, refl, sym, subst}
 use Rattle.disk_model.specs.Disk.{Rose}
 use Rattle.replay_runner.specs.Opened.{HaveBoth, IsNewResourceOf, IsOfOne, StopsOpening}
 use Rattle.replay_runner.proofs.Finished.{rose_between, stops_later}
 use Rattle.replay_runner.proofs.NewNodes.{begin_first}
 use Rattle.replay_runner.proofs.Returning.{of_more}
+use Rattle.replay_runner.proofs.Taken.{made_since, made_wider}
 use Rattle.scenario_nodes.proofs.Returned.{all_same, but_after, but_of_all, but_wider, showing}
 use Rattle.replay_runner.proofs.openings.open_resources.Goals as goal
 
@@ -18,18 +19,19 @@ loop-k-init g c =
       omega arith,
       refl,
       but_of_all (IsOfOne c.args.scenario.now.resources 0) before before (all_same before),
+      (λ n here. inl here),
     )
 
 pub returns-in-Err-clause-refused : goal.returns-in-Err-clause-refused
 returns-in-Err-clause-refused g c =
     let i = c.loop-k.invariant in
     let size : length c.open_next.new.opened.items ≡ c.loop-k.k = ap length c.in-Err.ensures.same ∙ i.1 in
-    subst (λ n. StopsOpening g.H.D.Disk.state (g.H.Shelf.tells c.args.shelf.now) (g.H.Shelf.given_back c.open_next.new.shelf)
+    subst (λ n. StopsOpening g.H.D.Disk.state (g.H.Shelf.has_place c.args.shelf.now) (g.H.Shelf.has_place c.open_next.new.shelf) (g.H.Shelf.tells c.args.shelf.now) (g.H.Shelf.given_back c.open_next.new.shelf)
     (Rose (g.H.Shelf.faults c.args.shelf.now) (g.H.Shelf.faults c.open_next.new.shelf)) c.args.scenario.now n c.in-Err.fault) (sym size)
-    (stops_later g.H.D.Disk.state c.args.scenario.now (g.H.Shelf.tells c.args.shelf.now) (g.H.Shelf.given_back c.open_next.new.shelf)
+    (stops_later g.H.D.Disk.state c.args.scenario.now c.requires.runnable (g.H.Shelf.has_place c.args.shelf.now) (g.H.Shelf.has_place c.loop-k.shelf) (g.H.Shelf.has_place c.open_next.new.shelf) (g.H.Shelf.tells c.args.shelf.now) (g.H.Shelf.given_back c.open_next.new.shelf)
     (Rose (g.H.Shelf.faults c.loop-k.shelf) (g.H.Shelf.faults c.open_next.new.shelf)) (Rose (g.H.Shelf.faults c.args.shelf.now) (g.H.Shelf.faults c.open_next.new.shelf)) c.loop-k.k c.in-Err.fault
-    (rose_between (g.H.Shelf.faults c.args.shelf.now) (g.H.Shelf.faults c.loop-k.shelf) (g.H.Shelf.faults c.open_next.new.shelf) (g.H.Shelf.faults c.open_next.new.shelf) i.4 (omega arith))
-    (subst (λ (t : Bool). StopsOpening g.H.D.Disk.state t (g.H.Shelf.given_back c.open_next.new.shelf) (Rose (g.H.Shelf.faults c.loop-k.shelf) (g.H.Shelf.faults c.open_next.new.shelf))
+    (rose_between (g.H.Shelf.faults c.args.shelf.now) (g.H.Shelf.faults c.loop-k.shelf) (g.H.Shelf.faults c.open_next.new.shelf) (g.H.Shelf.faults c.open_next.new.shelf) i.4 (omega arith)) i.7
+    (subst (λ (t : Bool). StopsOpening g.H.D.Disk.state (g.H.Shelf.has_place c.loop-k.shelf) (g.H.Shelf.has_place c.open_next.new.shelf) t (g.H.Shelf.given_back c.open_next.new.shelf) (Rose (g.H.Shelf.faults c.loop-k.shelf) (g.H.Shelf.faults c.open_next.new.shelf))
     c.args.scenario.now c.loop-k.k c.in-Err.fault) i.5 c.in-Err.ensures.refused))
 
 pub loop-k-preserved : goal.loop-k-preserved
@@ -49,6 +51,7 @@ loop-k-preserved g c =
       e.tells ∙ i.5,
       but_after (IsOfOne rs c.loop-k.k) (IsOfOne rs (length c.open_next.new.opened.items)) (IsOfOne rs (c.loop-k.k + 1)) before now after i.5
           (of_more rs c.loop-k.k (c.loop-k.k + 1) (omega arith)) (of_more rs (length c.open_next.new.opened.items) (c.loop-k.k + 1) (omega (arith, grown))) i.6 e.out,
+      made_since rs before.has_place now.has_place after.has_place c.loop-k.k (c.loop-k.k + 1) (omega arith) i.7 c.open_next.ensures.made,
     )
 
 pub returns-clause-whole : goal.returns-clause-whole
@@ -84,3 +87,17 @@ returns-clause-out g c =
     let now = showing g.H.Shelf.has_place g.H.Shelf.given_back g.H.Shelf.faults g.H.Shelf.tells c.loop-k.shelf in
     let size = i.1 in
     but_wider (IsOfOne rs c.loop-k.k) (IsOfOne rs (length c.loop-k.opened.items)) before now (of_more rs c.loop-k.k (length c.loop-k.opened.items) (omega (arith, size))) i.6
+
+pub returns-in-Err-clause-made : goal.returns-in-Err-clause-made
+returns-in-Err-clause-made g c =
+    let i = c.loop-k.invariant in
+    let rs = c.args.scenario.now.resources in
+    let size : length c.open_next.new.opened.items ≡ c.loop-k.k = ap length c.in-Err.ensures.same ∙ i.1 in
+    made_wider rs (g.H.Shelf.has_place c.args.shelf.now) (g.H.Shelf.has_place c.open_next.new.shelf) (c.loop-k.k + 1) (length c.open_next.new.opened.items + 1) (omega (arith, size))
+    (made_since rs (g.H.Shelf.has_place c.args.shelf.now) (g.H.Shelf.has_place c.loop-k.shelf) (g.H.Shelf.has_place c.open_next.new.shelf) c.loop-k.k (c.loop-k.k + 1) (omega arith) i.7 c.open_next.ensures.made)
+
+pub returns-clause-made : goal.returns-clause-made
+returns-clause-made g c =
+    let i = c.loop-k.invariant in
+    let size = i.1 in
+    made_wider c.args.scenario.now.resources (g.H.Shelf.has_place c.args.shelf.now) (g.H.Shelf.has_place c.loop-k.shelf) c.loop-k.k (length c.loop-k.opened.items + 1) (omega (arith, size)) i.7

@@ -14,8 +14,8 @@ use Rattle.replay_runner.proofs.replays.open_nodes.Goals as goal
 
 pub returns-in-Err-clause-refused : goal.returns-in-Err-clause-refused
 returns-in-Err-clause-refused g c =
-    coordinator_refused g.H.D.Disk.state c.args.scenario.now (showing g.H.Shelf.has_place g.H.Shelf.given_back g.H.Shelf.faults g.H.Shelf.tells c.args.shelf.now)
-    (showing g.H.Shelf.has_place g.H.Shelf.given_back g.H.Shelf.faults g.H.Shelf.tells c.open_coordinator.new.shelf) c.in-Err.fault c.open_coordinator.ensures.keeps.tells c.in-Err.ensures.refused
+    coordinator_refused g.H.D.Disk.state c.args.scenario.now c.requires.runnable (showing g.H.Shelf.has_place g.H.Shelf.given_back g.H.Shelf.faults g.H.Shelf.tells c.args.shelf.now)
+    (showing g.H.Shelf.has_place g.H.Shelf.given_back g.H.Shelf.faults g.H.Shelf.tells c.open_coordinator.new.shelf) c.in-Err.fault c.open_coordinator.ensures.keeps c.in-Err.ensures.refused
 
 pub close_servers-requires-clause-taken : goal.close_servers-requires-clause-taken
 close_servers-requires-clause-taken g c κs within = record {
@@ -26,10 +26,11 @@ close_servers-requires-clause-taken g c κs within = record {
 pub returns-in-Err-open_resources-clause-refused : goal.returns-in-Err-open_resources-clause-refused
 returns-in-Err-open_resources-clause-refused g c =
     let tells = c.open_resources.ensures.tells ∙ c.open_coordinator.ensures.keeps.tells in
-    resource_refused g.H.D.Disk.state c.args.scenario.now (length c.args.scenario.now.managers) (length c.args.scenario.now.resources) c.in-Ok.coordinator c.in-Ok.ensures.new c.open_resources.new.opened.items
-    c.open_resources.ensures.opened (g.H.Shelf.tells c.args.shelf.now) (g.H.Shelf.given_back c.open_resources.new.shelf) (g.H.Shelf.given_back c.close_servers.new.shelf)
-    (Rose (g.H.Shelf.faults c.open_coordinator.new.shelf) (g.H.Shelf.faults c.open_resources.new.shelf)) (Rose (g.H.Shelf.faults c.args.shelf.now) (g.H.Shelf.faults c.close_servers.new.shelf))
-    c.in-Err-open_resources.fault
+    resource_refused g.H.D.Disk.state c.args.scenario.now c.requires.runnable (length c.args.scenario.now.managers) (length c.args.scenario.now.resources) c.in-Ok.coordinator c.in-Ok.ensures.new c.open_resources.new.opened.items
+    c.open_resources.ensures.opened (showing g.H.Shelf.has_place g.H.Shelf.given_back g.H.Shelf.faults g.H.Shelf.tells c.args.shelf.now)
+    (showing g.H.Shelf.has_place g.H.Shelf.given_back g.H.Shelf.faults g.H.Shelf.tells c.close_servers.new.shelf) (g.H.Shelf.has_place c.open_coordinator.new.shelf)
+    (g.H.Shelf.has_place c.open_resources.new.shelf) (g.H.Shelf.given_back c.open_resources.new.shelf)
+    (Rose (g.H.Shelf.faults c.open_coordinator.new.shelf) (g.H.Shelf.faults c.open_resources.new.shelf)) c.in-Err-open_resources.fault
     (rose_between (g.H.Shelf.faults c.args.shelf.now) (g.H.Shelf.faults c.open_coordinator.new.shelf) (g.H.Shelf.faults c.open_resources.new.shelf) (g.H.Shelf.faults c.close_servers.new.shelf)
     c.open_coordinator.ensures.keeps.faults c.close_servers.ensures.faults)
     (λ def here.
@@ -39,7 +40,12 @@ returns-in-Err-open_resources-clause-refused g c =
       c.close_servers.ensures.others (second_name def.name) (λ e. apart.other (sym e)) (λ e. apart.seconds (sym e)) none.1,
     ))
     (subst (λ (t : Bool). FirstGivenBack t (g.H.Shelf.given_back c.close_servers.new.shelf) c.args.scenario.now (server_disks c.in-Ok.coordinator c.open_resources.new.opened.items)) tells c.close_servers.ensures.back)
-    (subst (λ (t : Bool). StopsOpening g.H.D.Disk.state t (g.H.Shelf.given_back c.open_resources.new.shelf)
+    c.open_coordinator.ensures.keeps.made c.open_resources.ensures.made c.close_servers.ensures.places
+    (record {
+      coordinator = both_stay_taken (g.H.Shelf.has_place c.open_coordinator.new.shelf) (g.H.Shelf.has_place c.open_resources.new.shelf) coordinator_name c.open_resources.ensures.places c.in-Ok.ensures.both;
+      resources = c.open_resources.ensures.taken;
+    })
+    (subst (λ (t : Bool). StopsOpening g.H.D.Disk.state (g.H.Shelf.has_place c.open_coordinator.new.shelf) (g.H.Shelf.has_place c.open_resources.new.shelf) t (g.H.Shelf.given_back c.open_resources.new.shelf)
     (Rose (g.H.Shelf.faults c.open_coordinator.new.shelf) (g.H.Shelf.faults c.open_resources.new.shelf)) c.args.scenario.now (length c.open_resources.new.opened.items) c.in-Err-open_resources.fault)
     c.open_coordinator.ensures.keeps.tells c.in-Err-open_resources.ensures.refused)
 

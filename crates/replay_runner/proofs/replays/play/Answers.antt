@@ -3,6 +3,7 @@ use Rattle.replay_runner.proofs.Finished.{ended, finished, unfinished}
 use Rattle.replay_runner.proofs.NewNodes.{are_nodes, nodes_go}
 use Rattle.replay_runner.proofs.Starting.{all_fit, can_start, count_of_resources, locals_stand}
 use Rattle.replay_runner.proofs.Returning.{closed_given}
+use Rattle.replay_runner.proofs.Taken.{taken_servers}
 use Rattle.replay_runner.proofs.replays.play.Goals as goal
 
 pub new-run-requires : goal.new-run-requires
@@ -28,7 +29,13 @@ returns-in-Err-clause-back g c =
     ended g.H.D.Disk.state c.args.scenario.now c.play_all-played.new.self
     (c.play_all-played.ensures.count ∙ count_of_resources c.args.scenario.now c.requires.runnable (length c.args.nodes.managers.items) (length c.args.nodes.resources.items) c.new-run.result c.new-run.ensures.goes
     c.requires.new.managers.count c.requires.new.resources.count)
-    (g.H.Shelf.tells c.args.shelf.now) (g.H.Shelf.given_back c.close-history.new.shelf) c.close-history.ensures.back c.play_all-played.result c.in-Err.fault c.in-Err.is
+    (λ n. ⊥) (g.H.Shelf.has_place c.close-history.new.shelf) (g.H.Shelf.tells c.args.shelf.now) (g.H.Shelf.given_back c.close-history.new.shelf) c.close-history.ensures.back
+    (taken_servers c.args.scenario.now c.play_all-played.new.self.nodes.coordinator.seat.node c.play_all-played.new.self.nodes.resources.items (λ n. ⊥) (g.H.Shelf.has_place c.args.shelf.now)
+    (g.H.Shelf.has_place c.close-history.new.shelf)
+    (c.play_all-played.ensures.count ∙ count_of_resources c.args.scenario.now c.requires.runnable (length c.args.nodes.managers.items) (length c.args.nodes.resources.items) c.new-run.result c.new-run.ensures.goes
+    c.requires.new.managers.count c.requires.new.resources.count)
+    c.close-history.ensures.places c.requires.taken)
+    c.play_all-played.result c.in-Err.fault c.in-Err.is
     (λ all. c.play_all-played.ensures.played c.args.scenario.now c.requires.runnable (sym c.as_slice-locals.ensures) (sym c.as_slice.ensures)
     (c.new-run.ensures.plays c.args.scenario.now (are_nodes g.H.D.Disk.state c.args.scenario.now c.args.nodes c.requires.new all)))
 
@@ -37,7 +44,13 @@ returns-in-Ok-clause-back g c =
     finished g.H.D.Disk.state c.args.scenario.now c.play_all-played.new.self
     (c.play_all-played.ensures.count ∙ count_of_resources c.args.scenario.now c.requires.runnable (length c.args.nodes.managers.items) (length c.args.nodes.resources.items) c.new-run.result c.new-run.ensures.goes
     c.requires.new.managers.count c.requires.new.resources.count)
-    (g.H.Shelf.tells c.args.shelf.now) (g.H.Shelf.given_back c.close-history.new.shelf) c.close-history.ensures.back c.play_all-played.result c.in_default.field-0 c.in_default.is
+    (λ n. ⊥) (g.H.Shelf.has_place c.close-history.new.shelf) (g.H.Shelf.tells c.args.shelf.now) (g.H.Shelf.given_back c.close-history.new.shelf) c.close-history.ensures.back
+    (taken_servers c.args.scenario.now c.play_all-played.new.self.nodes.coordinator.seat.node c.play_all-played.new.self.nodes.resources.items (λ n. ⊥) (g.H.Shelf.has_place c.args.shelf.now)
+    (g.H.Shelf.has_place c.close-history.new.shelf)
+    (c.play_all-played.ensures.count ∙ count_of_resources c.args.scenario.now c.requires.runnable (length c.args.nodes.managers.items) (length c.args.nodes.resources.items) c.new-run.result c.new-run.ensures.goes
+    c.requires.new.managers.count c.requires.new.resources.count)
+    c.close-history.ensures.places c.requires.taken)
+    c.play_all-played.result c.in_default.field-0 c.in_default.is
     (λ all. c.play_all-played.ensures.played c.args.scenario.now c.requires.runnable (sym c.as_slice-locals.ensures) (sym c.as_slice.ensures)
     (c.new-run.ensures.plays c.args.scenario.now (are_nodes g.H.D.Disk.state c.args.scenario.now c.args.nodes c.requires.new all)))
     c.in-Ok.history c.in-Ok.ensures.history
@@ -47,7 +60,13 @@ returns-in-Err-history-clause-back g c =
     unfinished g.H.D.Disk.state c.args.scenario.now c.play_all-played.new.self
     (c.play_all-played.ensures.count ∙ count_of_resources c.args.scenario.now c.requires.runnable (length c.args.nodes.managers.items) (length c.args.nodes.resources.items) c.new-run.result c.new-run.ensures.goes
     c.requires.new.managers.count c.requires.new.resources.count)
-    (g.H.Shelf.tells c.args.shelf.now) (g.H.Shelf.given_back c.close-history.new.shelf) c.close-history.ensures.back c.play_all-played.result c.in_default.field-0 c.in_default.is
+    (λ n. ⊥) (g.H.Shelf.has_place c.close-history.new.shelf) (g.H.Shelf.tells c.args.shelf.now) (g.H.Shelf.given_back c.close-history.new.shelf) c.close-history.ensures.back
+    (taken_servers c.args.scenario.now c.play_all-played.new.self.nodes.coordinator.seat.node c.play_all-played.new.self.nodes.resources.items (λ n. ⊥) (g.H.Shelf.has_place c.args.shelf.now)
+    (g.H.Shelf.has_place c.close-history.new.shelf)
+    (c.play_all-played.ensures.count ∙ count_of_resources c.args.scenario.now c.requires.runnable (length c.args.nodes.managers.items) (length c.args.nodes.resources.items) c.new-run.result c.new-run.ensures.goes
+    c.requires.new.managers.count c.requires.new.resources.count)
+    c.close-history.ensures.places c.requires.taken)
+    c.play_all-played.result c.in_default.field-0 c.in_default.is
     (λ all. c.play_all-played.ensures.played c.args.scenario.now c.requires.runnable (sym c.as_slice-locals.ensures) (sym c.as_slice.ensures)
     (c.new-run.ensures.plays c.args.scenario.now (are_nodes g.H.D.Disk.state c.args.scenario.now c.args.nodes c.requires.new all)))
 

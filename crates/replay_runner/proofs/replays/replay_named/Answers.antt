@@ -1,22 +1,22 @@
 use Rattle.std.proofs.Common.{inl, Bool, length, subst}
-use Rattle.disk_model.specs.Disk.{Rose}
 use Rattle.replay_runner.specs.Leaving.{GivesBack}
 use Rattle.replay_runner.specs.Opened.{IsOfServer}
 use Rattle.scenario_nodes.proofs.Returned.{all_in, all_same, showing, still}
-use Rattle.replay_runner.proofs.Finished.{takes_none}
+use Rattle.replay_runner.proofs.Finished.{gives_back_on, takes_none}
 use Rattle.replay_runner.proofs.replays.replay_named.Goals as goal
 
 pub returns-in_default-clause-replays : goal.returns-in_default-clause-replays
-returns-in_default-clause-replays g c =
-    takes_none g.H.D.Disk.state c.args.scenario.now (g.H.Shelf.tells c.args.shelf.now) (g.H.Shelf.given_back c.args.shelf.now) (Rose (g.H.Shelf.faults c.args.shelf.now) (g.H.Shelf.faults c.args.shelf.now))
+returns-in_default-clause-replays g c = takes_none g.H.D.Disk.state c.args.scenario.now (showing g.H.Shelf.has_place g.H.Shelf.given_back g.H.Shelf.faults g.H.Shelf.tells c.args.shelf.now)
 
 pub returns-in_default-new_managers-clause-replays : goal.returns-in_default-new_managers-clause-replays
-returns-in_default-new_managers-clause-replays g c =
-    takes_none g.H.D.Disk.state c.args.scenario.now (g.H.Shelf.tells c.args.shelf.now) (g.H.Shelf.given_back c.args.shelf.now) (Rose (g.H.Shelf.faults c.args.shelf.now) (g.H.Shelf.faults c.args.shelf.now))
+returns-in_default-new_managers-clause-replays g c = takes_none g.H.D.Disk.state c.args.scenario.now (showing g.H.Shelf.has_place g.H.Shelf.given_back g.H.Shelf.faults g.H.Shelf.tells c.args.shelf.now)
 
 pub returns-in-Ok-open_nodes-clause-replays : goal.returns-in-Ok-open_nodes-clause-replays
 returns-in-Ok-open_nodes-clause-replays g c =
-    inl (subst (λ (t : Bool). GivesBack g.H.D.Disk.state t (g.H.Shelf.given_back c.play.new.shelf) c.args.scenario.now c.play.result) c.open_nodes.ensures.tells c.play.ensures.back)
+    inl (gives_back_on g.H.D.Disk.state (g.H.Shelf.has_place c.args.shelf.now) (g.H.Shelf.has_place c.play.new.shelf) (g.H.Shelf.tells c.args.shelf.now) (g.H.Shelf.given_back c.play.new.shelf)
+    c.args.scenario.now c.play.result
+    (subst (λ (t : Bool). GivesBack g.H.D.Disk.state (λ n. ⊥) (g.H.Shelf.has_place c.play.new.shelf) t (g.H.Shelf.given_back c.play.new.shelf) c.args.scenario.now c.play.result) c.open_nodes.ensures.tells
+    c.play.ensures.back))
 
 pub returns-in_default-clause-returned : goal.returns-in_default-clause-returned
 returns-in_default-clause-returned g c = all_same (showing g.H.Shelf.has_place g.H.Shelf.given_back g.H.Shelf.faults g.H.Shelf.tells c.args.shelf.now)

@@ -20,7 +20,7 @@ pub returns-in-Err-opened-clause-refused : goal.returns-in-Err-opened-clause-ref
 returns-in-Err-opened-clause-refused g c =
     let s = c.args.scenario.now in
     let e = c.in-Err-opened in
-    inr (handed_back g.H.D.Disk.state _ _ (coordinator_role s) coordinator_name coordinator_name s.disk _ c.open_fault.result e.first e.second refl c.give_disks.ensures.keeps c.give_disks.ensures.back
+    inr (handed_back g.H.D.Disk.state _ _ (coordinator_role s) coordinator_name coordinator_name s.disk _ c.open_fault.result e.first e.second refl c.in-Ok.ensures.both c.give_disks.ensures.keeps c.give_disks.ensures.back
     c.open_fault.ensures
     (unopened g.H.D.Disk.state s c.in-Ok.disks.0 c.in-Ok.disks.1 c.in-Ok.ensures.first c.in-Ok.ensures.second c.requires.set.disk.0 (length c.as_slice.result.now) (length c.as_slice-2.result.now)
     (e.error, e.first, e.second) e.ensures.refused))

@@ -17,7 +17,7 @@ returns-in-Err-open-clause-refused g c =
     let def = c.args.def.now in
     let d = c.in-Ok-take_disks in
     let e = c.in-Err-open in
-    inr (handed_back g.H.D.Disk.state _ _ (resource_role s c.args.number def) c.as_str-name.result.now def.name s.disk _ c.open_fault.result e.first e.other c.as_str-name.ensures
+    inr (handed_back g.H.D.Disk.state _ _ (resource_role s c.args.number def) c.as_str-name.result.now def.name s.disk _ c.open_fault.result e.first e.other c.as_str-name.ensures d.ensures.both
     c.give_disks.ensures.keeps c.give_disks.ensures.back c.open_fault.ensures
     (unopened g.H.D.Disk.state s d.disks.0 d.disks.1 d.ensures.first d.ensures.second c.requires.runnable.set.disk.0 c.args.number def c.in-Ok.setup c.in-Ok.ensures.setup c.in-Ok.ensures.within
     (e.error, e.first, e.other) e.ensures.refused))

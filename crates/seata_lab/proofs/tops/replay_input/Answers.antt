@@ -1,5 +1,5 @@
 use Rattle.std.proofs.Common.{◌≡◌, Some, [], subst, string_bytes}
-use Rattle.disk_model.specs.Disk.{Rose}
+use Rattle.scenario_nodes.specs.Shelves.{showing}
 use Rattle.replay_runner.specs.Leaving.{Replays as Replayed}
 use Rattle.seata_lab.specs.Answers.{IsAnswerTo, TellsShelf, replay_statuses}
 use Rattle.seata_lab.proofs.Concluded.{answers_of, input_of}
@@ -10,14 +10,14 @@ use Rattle.seata_lab.proofs.tops.replay_input.Goals as goal
 pub returns-in-Ok-answer_to-clause-answer : goal.returns-in-Ok-answer_to-clause-answer
 returns-in-Ok-answer_to-clause-answer g c =
     let a = c.in-Ok-answer_to.answer in
-    let ends = Replayed g.H.D.Disk.state (g.H.Shelf.tells c.args.shelf.now) (g.H.Shelf.given_back c.answer_to.new.shelf) (Rose (g.H.Shelf.faults c.args.shelf.now) (g.H.Shelf.faults c.answer_to.new.shelf)) in
+    let ends = Replayed g.H.D.Disk.state (showing g.H.Shelf.has_place g.H.Shelf.given_back g.H.Shelf.faults g.H.Shelf.tells c.args.shelf.now) (showing g.H.Shelf.has_place g.H.Shelf.given_back g.H.Shelf.faults g.H.Shelf.tells c.answer_to.new.shelf) in
     answers_of (IsAnswerTo ends) replay_statuses (status_is ends) (answer_of_whole ends) c.in-Ok.bytes.items (string_bytes a.text) a.status (g.S.Source.left c.args.source.now) (g.S.Source.left c.read_all.new.source)
     c.in-Ok.ensures.bytes c.in-Ok.ensures.most c.in-Ok.ensures.end
     (subst (λ bytes. IsAnswerTo ends bytes (string_bytes a.text) a.status) c.as_slice.ensures.value c.in-Ok-answer_to.ensures.answer)
 
 pub returns-in-Ok-answer_to-clause-shelf : goal.returns-in-Ok-answer_to-clause-shelf
 returns-in-Ok-answer_to-clause-shelf g c =
-    let ends = Replayed g.H.D.Disk.state (g.H.Shelf.tells c.args.shelf.now) (g.H.Shelf.given_back c.answer_to.new.shelf) (Rose (g.H.Shelf.faults c.args.shelf.now) (g.H.Shelf.faults c.answer_to.new.shelf)) in
+    let ends = Replayed g.H.D.Disk.state (showing g.H.Shelf.has_place g.H.Shelf.given_back g.H.Shelf.faults g.H.Shelf.tells c.args.shelf.now) (showing g.H.Shelf.has_place g.H.Shelf.given_back g.H.Shelf.faults g.H.Shelf.tells c.answer_to.new.shelf) in
     let same = c.answer_to.new.shelf ≡ c.args.shelf.now in
     tells_of_input ends same c.in-Ok.bytes.items (g.S.Source.left c.args.source.now) (g.S.Source.left c.read_all.new.source)
     (λ input told. input_of input c.in-Ok.bytes.items (g.S.Source.left c.args.source.now) (g.S.Source.left c.read_all.new.source) c.in-Ok.ensures.bytes c.in-Ok.ensures.most c.in-Ok.ensures.end told) c.in-Ok-answer_to.answer.status
@@ -25,7 +25,7 @@ returns-in-Ok-answer_to-clause-shelf g c =
 
 pub returns-clause-unanswered : goal.returns-clause-unanswered
 returns-clause-unanswered g c =
-    let ends = Replayed g.H.D.Disk.state (g.H.Shelf.tells c.args.shelf.now) (g.H.Shelf.given_back c.answer_to.new.shelf) (Rose (g.H.Shelf.faults c.args.shelf.now) (g.H.Shelf.faults c.answer_to.new.shelf)) in
+    let ends = Replayed g.H.D.Disk.state (showing g.H.Shelf.has_place g.H.Shelf.given_back g.H.Shelf.faults g.H.Shelf.tells c.args.shelf.now) (showing g.H.Shelf.has_place g.H.Shelf.given_back g.H.Shelf.faults g.H.Shelf.tells c.answer_to.new.shelf) in
     let same = c.answer_to.new.shelf ≡ c.args.shelf.now in
     tells_of_input ends same c.in-Ok.bytes.items (g.S.Source.left c.args.source.now) (g.S.Source.left c.read_all.new.source)
     (λ input told. input_of input c.in-Ok.bytes.items (g.S.Source.left c.args.source.now) (g.S.Source.left c.read_all.new.source) c.in-Ok.ensures.bytes c.in-Ok.ensures.most c.in-Ok.ensures.end told) 6

@@ -1,0 +1,54 @@
+-- The status of a replay where no device fails.
+use Rattle.std.proofs.Common.{◌≡◌, ◌⊎◌, inl, inr, ◌||◌, ℕ, nat_eq, Bool, true, false, List, [], ◌∷◌, Some, Result, Ok, Err, refl, sym, subst, ◌∙◌, arith}
+use Rattle.std.proofs.lemmas.Bool.Decides.{nat_tests}
+use Rattle.disk_model.specs.Disk.{DiskState}
+use Rattle.scenario_reader.specs.declared.scenarios.Scenario.{Scenario}
+use Rattle.scenario_reader.specs.Reading.{IsScenario}
+use Rattle.history_text.specs.declared.entries.Entry.{Entry}
+use Rattle.node_seat.specs.declared.faults.RunFault.{RunFault}
+use Rattle.node_seat.specs.declared.faults.RunFault.TheVariants as run_fault
+use Rattle.scenario_nodes.specs.Shelves.{Showing}
+use Rattle.replay_runner.specs.Leaving.{IsCalmEnd, IsCalmShelf}
+use Rattle.replay_runner.specs.Leaving.{Replays as Replayed}
+use Rattle.replay_runner.proofs.Calm.{ends_calmly}
+use Rattle.seata_lab.specs.Answers.{IsEndText, Replays, TellsReplay, is_calm_end, is_end}
+use Rattle.seata_lab.specs.Streams.{Devices, IsCalm}
+
+-- the status of such an end
+calm_text : (s : Scenario) (ended : Result (List Entry) RunFault) (text : List ℕ) (n : ℕ) → IsCalmEnd ended → IsEndText s ended text n → is_calm_end n ≡ true
+calm_text s (Ok es) text n calm t = rw t.0 refl
+calm_text s (Err (run_fault.Full at full)) text n calm t = rw t.1 refl
+calm_text s (Err run_fault.NoMemory) text n calm t = absurd (t.0 refl)
+calm_text s (Err (run_fault.Store at)) text n calm t = absurd calm
+calm_text s (Err (run_fault.Damaged at second offset)) text n calm t = absurd calm
+calm_text s (Err run_fault.Other) text n calm t = absurd calm
+
+module _ {D : Type 0} (state : D → DiskState) (before after : Showing D) (result : ℕ) (old new : Devices) (input : List ℕ) (told : old.left ≡ Some input) (s : Scenario) (is : IsScenario input s)
+    {IsDone : Scenario → List ℕ → Type 0} (said : TellsReplay (Replayed state before after) IsDone result old new) where
+  of_replay : (n : ℕ) → Replays (Replayed state before after) n input old new → IsCalmShelf state before after → is_calm_end n ≡ true
+  of_replay n r calm = calm_text r.scenario r.is_replay.ended r.text n (ends_calmly state r.scenario before after r.is_replay.ended r.is_replay.has_ended calm) r.is_replay.is_text
+
+  pub calm_status : IsCalm old new → IsCalmShelf state before after → is_calm_end result ≡ true
+  calm_status still calm = by (said.complete input s told is still)
+    where
+      three_never : is_calm_end 3 ≡ true → is_calm_end result ≡ true
+      three_never e = absurd (let no : false ≡ true = e in cc)
+
+      at : (zero six seven eight nine : Bool) → nat_eq result 0 ≡ zero → nat_eq result 6 ≡ six → nat_eq result 7 ≡ seven → nat_eq result 8 ≡ eight → nat_eq result 9 ≡ nine
+          → (zero || (six || (seven || (eight || (nine || false))))) ≡ true → (zero || (six || (eight || false))) ≡ true
+      at true six seven eight nine a b c d e known = refl
+      at false true seven eight nine a b c d e known = refl
+      at false false true eight nine a b c d e known =
+          let seven : result ≡ 7 = grind (arith, nat_tests) in
+          absurd (let no : is_calm_end 7 ≡ true = of_replay 7 (subst (λ n. Replays (Replayed state before after) n input old new) seven (said.replayed (rw seven refl) input told)) calm in
+          let never : false ≡ true = no in cc)
+      at false false false true nine a b c d e known = refl
+      at false false false false true a b c d e known =
+          let nine : result ≡ 9 = grind (arith, nat_tests) in
+          absurd (let no : is_calm_end 9 ≡ true = of_replay 9 (subst (λ n. Replays (Replayed state before after) n input old new) nine (said.replayed (rw nine refl) input told)) calm in
+          let never : false ≡ true = no in cc)
+      at false false false false false a b c d e known = absurd (let no : false ≡ true = known in cc)
+
+      by : (is_end result ≡ true) ⊎ Replays (Replayed state before after) 3 input old new → is_calm_end result ≡ true
+      by (inl known) = at (nat_eq result 0) (nat_eq result 6) (nat_eq result 7) (nat_eq result 8) (nat_eq result 9) refl refl refl refl refl known
+      by (inr r) = three_never (of_replay 3 r calm)
