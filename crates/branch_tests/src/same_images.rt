@@ -29,9 +29,13 @@ fn are_same_rows(found: &Option<Row>, wanted: &Option<Row>) -> bool
 fn is_same_image(found: &Image, wanted: &Image) -> bool
     ensures { result ≡ true → found.now ≡ wanted.now }
 {
-    is_same_key(&found.key, &wanted.key)
-        && are_same_rows(&found.before, &wanted.before)
-        && are_same_rows(&found.after, &wanted.after)
+    if !is_same_key(&found.key, &wanted.key) {
+        return false;
+    }
+    if !are_same_rows(&found.before, &wanted.before) {
+        return false;
+    }
+    are_same_rows(&found.after, &wanted.after)
 }
 
 /// Whether there is one image on each side, and both are one.
