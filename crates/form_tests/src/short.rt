@@ -510,7 +510,7 @@ const STOPS: [(&str, &str); 14] = [
 ];
 
 /// Steps beside a resource A, a manager m1 and one local.
-const STEPS: [(&str, &str); 76] = [
+const STEP_TEXTS: [(&str, &str); 76] = [
     ("1", "Shape /schedule/0"),
     (r#""""#, "Shape /schedule/0"),
     (r#""turn""#, "Shape /schedule/0"),
@@ -701,7 +701,7 @@ fn steps(rt: HostRuntime) -> Result<(), Fail> {
         rt.alloc(),
         r#"{"resources":[{"name":"A","tables":[]}],"managers":[{"name":"m1","calls":[],"end":"commit"}],"locals":[{"at":"A","do":[]}],"schedule":["#,
         "]}",
-        &STEPS,
+        &STEP_TEXTS,
     )?;
     assert_eq!(rt; other.as_str(), "");
     Ok(())

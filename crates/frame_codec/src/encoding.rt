@@ -1,8 +1,8 @@
 //! The frame of a message.
-ghost use Rattle.std.specs.Prelude.{◌≡◌, ◌≤◌, ◌<◌, ◌^◌, ◌∷◌, ◌++◌, [], OnOk, IfOk, length};
-ghost use Rattle.std.specs.Int.{w16, w64, to_be_bytes};
+ghost use Rattle.std.specs.Prelude.{◌≡◌, ◌<◌, ◌∷◌, ◌++◌, [], OnOk, IfOk};
+ghost use Rattle.std.specs.Int.{w16, to_be_bytes};
 ghost use Rattle.seata_types.specs.Statuses.{code_of, branch_code_of};
-ghost use Rattle.byte_fields.specs.Layout.{FitsKeys, FitsTicket, keys_bytes, ticket_bytes};
+ghost use Rattle.byte_fields.specs.Layout.{FitsKeys, keys_bytes, ticket_bytes};
 ghost use Rattle.byte_fields.specs.Parts.{kind_code, xid_bytes, branch_bytes, joined};
 ghost use Rattle.frame_codec.specs.Parts.{FitsRegistered, FitsHeld, FitsAnswer, registered_bytes, held_bytes, answer_bytes};
 ghost use Rattle.frame_codec.specs.Works.{FitsWork, work_bytes};

@@ -1,6 +1,6 @@
 //! A message on its way, as its frame.
-ghost use Rattle.std.specs.Prelude.{◌≡◌, ◌<◌, ◌^◌, IfOk};
-ghost use Rattle.frame_codec.specs.Frames.{HasFrame, frame_bytes};
+ghost use Rattle.std.specs.Prelude.{◌≡◌, ◌<◌, IfOk};
+ghost use Rattle.frame_codec.specs.Frames.{frame_bytes};
 ghost use Rattle.frame_codec.specs.Limits.{IsFramable};
 
 use crate::errors::FrameError;

@@ -1,5 +1,4 @@
 //! The parts that messages alone have, taken from fields.
-ghost use Rattle.std.specs.Prelude.{◌≡◌};
 ghost use Rattle.byte_fields.specs.Taking.{Reads};
 ghost use Rattle.frame_codec.specs.Parts.{registered_at, conflict_at, held_at, held_key_at, stmt_error_at, why_at, why_stmt_at, answer_at, busy_at};
 

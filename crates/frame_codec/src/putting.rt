@@ -1,12 +1,6 @@
 //! The body of a message, appended to bytes.
-ghost use Rattle.std.specs.Prelude.{◌≡◌, ◌<◌, ◌^◌, ◌∷◌, ◌++◌, [], OnOk};
-ghost use Rattle.std.specs.Int.{w16, w64, to_be_bytes};
-ghost use Rattle.seata_types.specs.Statuses.{code_of, branch_code_of};
-ghost use Rattle.byte_fields.specs.Layout.{FitsKeys, keys_bytes, ticket_bytes};
-ghost use Rattle.byte_fields.specs.Parts.{kind_code, xid_bytes, branch_bytes, joined};
+ghost use Rattle.std.specs.Prelude.{◌≡◌, ◌<◌, ◌++◌, OnOk};
 ghost use Rattle.frame_codec.specs.Parts.{FitsRegistered, FitsHeld, FitsStmtError, FitsWhy, FitsAnswer, registered_bytes, held_bytes, stmt_error_bytes, why_bytes, answer_bytes};
-ghost use Rattle.frame_codec.specs.Messages.{FitsMessage, type_code, fields_bytes};
-ghost use Rattle.frame_codec.specs.Frames.{body_bytes};
 
 use byte_fields::{put_key, put_keys, put_ticket, put_u8, put_u16, put_u64};
 use seata_types::{

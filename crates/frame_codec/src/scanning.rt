@@ -1,5 +1,5 @@
 //! The frames at the front of bytes.
-ghost use Rattle.std.specs.Prelude.{◌≡◌, ◌+◌, ◌<◌, ◌^◌, ◌++◌, ◌∷◌, [], IfOk, IfErr, drop, length, Err};
+ghost use Rattle.std.specs.Prelude.{◌≡◌, ◌+◌, ◌<◌, ◌^◌, ◌++◌, ◌∷◌, [], IfOk, IfErr, length, Err};
 ghost use Rattle.frame_codec.specs.Frames.{decoded};
 ghost use Rattle.frame_codec.specs.Feeding.{Finds, Scans};
 

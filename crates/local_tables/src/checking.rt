@@ -1,7 +1,7 @@
 //! What is asked of a statement by its table's definition alone, whatever the rows are.
 ghost use Rattle.std.specs.Prelude.{◌≡◌, map, Some};
 ghost use Rattle.std.specs.List.{list_all, list_any};
-ghost use Rattle.local_tables.specs.Checks.{table_of, passes, is_column, knows_term, knows_part, knows_set, knows_condition, knows_columns, times, is_once, name_of, has_length, set_name, fills_columns, is_among, is_key_column, sets_key, leaves_key};
+ghost use Rattle.local_tables.specs.Checks.{table_of, passes, is_column, knows_term, knows_part, knows_set, knows_condition, knows_columns, is_once, name_of, has_length, set_name, fills_columns, is_among, is_key_column, sets_key, leaves_key};
 
 use crate::conditions::place_of;
 use crate::schemas::{ColType, TableDef};

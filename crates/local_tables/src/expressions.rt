@@ -1,7 +1,7 @@
 //! What an expression is in a row, and the row that an UPDATE makes of it.
 ghost use Rattle.std.specs.Prelude.{◌≡◌, IfOk};
 ghost use Rattle.std.specs.Option.{option_copied};
-ghost use Rattle.local_tables.specs.Sums.{joined, term_value, number, term_number, sum_from, sum_value, expr_value, set_at, set_cells, updated};
+ghost use Rattle.local_tables.specs.Sums.{joined, term_value, number, term_number, sum_from, expr_value, set_at, updated};
 
 use crate::conditions::{cell, place_of};
 use crate::maps::copied;

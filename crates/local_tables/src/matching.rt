@@ -1,13 +1,11 @@
 //! The rows of a table of which a condition holds, under the changes of a call so far.
-ghost use Rattle.std.specs.Prelude.{◌≡◌, map, option_and_then, IfOk, OnOk, OnErr};
+ghost use Rattle.std.specs.Prelude.{◌≡◌, map, option_and_then, IfOk, OnOk};
 ghost use Rattle.local_tables.specs.Cells.{place_of};
 ghost use Rattle.local_tables.specs.Checks.{is_place};
 ghost use Rattle.std.specs.Option.{option_copied};
-ghost use Rattle.seata_types.specs.Orders.{key_cmp};
 ghost use Rattle.local_tables.specs.Rows.{is_in, key_in, row_at, put, put_all, IsMap};
 ghost use Rattle.local_tables.specs.Touches.{is_matched, matched};
-ghost use Rattle.local_tables.specs.Calls.{insert_all};
-ghost use Rattle.local_tables.specs.Lookups.{IsRising, HasKeysOf, over, change_at, kept, is_equality, literal_at, key_literals, key_above, is_before, Passes, only};
+ghost use Rattle.local_tables.specs.Lookups.{IsRising, HasKeysOf, over, change_at, kept, is_equality, literal_at, key_literals, key_above, is_before, only};
 
 use crate::conditions::{place_of, selects};
 use crate::maps::{insert, key_in, present};

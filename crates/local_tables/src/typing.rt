@@ -1,7 +1,7 @@
 //! Whether literals, inserted values, set expressions and the values of rows have their column's type.
 ghost use Rattle.std.specs.Prelude.{◌≡◌, zip, Some};
 ghost use Rattle.std.specs.List.{list_all};
-ghost use Rattle.local_tables.specs.Checks.{passes, type_of, column_type, same_type, fits_column, term_type, is_number, is_number_part, sum_fits, fits_set, fits_condition, fits_named, fits_tuple, has_types};
+ghost use Rattle.local_tables.specs.Checks.{passes, type_of, column_type, same_type, fits_column, term_type, is_number, is_number_part, sum_fits, fits_set, fits_condition, fits_tuple, has_types};
 ghost use Rattle.local_tables.specs.Rows.{fits_cell, fits_row};
 
 use crate::schemas::{ColType, TableDef};

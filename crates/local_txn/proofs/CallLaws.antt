@@ -1,6 +1,5 @@
 -- What the calls leave, as the model's value: each over what was open before.
-use Rattle.std.proofs.Common.{◌≡◌, ◌+◌, ◌-◌, ◌≤◌, ◌||◌, not, ℕ, Bool, true, false, cond, List, [], ◌∷◌, map, Option, Some, None, is_some, option_map, Result, Ok, Err, refl, ap, sym, subst, ◌∙◌, arith}
-use Rattle.std.specs.Prelude.{OnErr}
+use Rattle.std.proofs.Common.{◌≡◌, ◌+◌, ◌-◌, ◌≤◌, not, ℕ, true, cond, List, [], ◌∷◌, Option, Some, None, is_some, option_map, Result, Ok, Err, refl, ap, sym, subst, ◌∙◌, arith}
 use Rattle.seata_types.specs.declared.errors.StmtError.{StmtError}
 use Rattle.seata_types.specs.declared.ids.Ticket.{Ticket}
 use Rattle.seata_types.specs.declared.rows.Image.{Image}
@@ -8,14 +7,13 @@ use Rattle.seata_types.specs.declared.rows.ReadRow.{ReadRow}
 use Rattle.seata_types.specs.declared.rows.RowKey.{RowKey}
 use Rattle.local_tables.specs.declared.schemas.Effect.{Effect}
 use Rattle.durable_records.specs.Branches.{same_ticket}
-use Rattle.durable_records.specs.Locks.{has_key}
 use Rattle.durable_records.specs.ResourceOrder.{image_keys, read_keys}
 use Rattle.local_txn.specs.declared.transactions.ExecError.{ExecError}
 use Rattle.local_txn.specs.declared.transactions.ExecError.TheVariants as error
-use Rattle.local_txn.specs.OpenTickets.{Owner, Open, open_at, without, with_first, sent_again, counting, has_row, ticket_with, lesser_row, busy_row, opening_of}
-use Rattle.local_txn.specs.Answers.{Tickets, raised, counted, ticket_of, new_ticket, last_ticket, with_open, with_opens, taken_back, Executes, TellsBusy}
+use Rattle.local_txn.specs.OpenTickets.{Owner, Open, open_at, without, with_first, sent_again, lesser_row, busy_row, opening_of}
+use Rattle.local_txn.specs.Answers.{Tickets, raised, counted, new_ticket, last_ticket, with_open, with_opens, taken_back, Executes, TellsBusy}
 use Rattle.local_txn.specs.RowIndex.{Index, at, first_at, has_either, IsIndex, AreApart, KeepsRows}
-use Rattle.local_txn.proofs.Tests.{false_true, none_some, ticket_itself, cond_false}
+use Rattle.local_txn.proofs.Tests.{false_true, ticket_itself}
 use Rattle.local_txn.proofs.OpenLaws.{found_counted, found_ticket, without_none, apart_counting, rows_counting, apart_back}
 use Rattle.local_txn.proofs.IndexLaws.{least_is_busy}
 

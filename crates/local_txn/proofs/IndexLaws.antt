@@ -1,5 +1,5 @@
 -- The index of rows: what it finds is what the open tickets have.
-use Rattle.std.proofs.Common.{◌≡◌, ◌+◌, ◌||◌, ℕ, Bool, true, false, cond, List, [], ◌∷◌, Option, Some, None, option_map, refl, ap, sym, subst, ◌∙◌}
+use Rattle.std.proofs.Common.{◌≡◌, ◌+◌, ◌||◌, ℕ, Bool, true, false, cond, List, [], ◌∷◌, Option, Some, None, option_map, refl, ap, sym, ◌∙◌}
 use Rattle.std.specs.Ordering.{is_lt}
 use Rattle.seata_types.specs.Orders.{key_cmp}
 use Rattle.seata_types.specs.declared.ids.Ticket.{Ticket}
@@ -11,8 +11,8 @@ use Rattle.durable_records.specs.Locks.{has_key}
 use Rattle.durable_records.specs.ResourceOrder.{image_keys, read_keys}
 use Rattle.local_txn.specs.OpenTickets.{Open, open_at, without, has_row, ticket_with, with_ticket, busy_in, lesser_row, busy_row}
 use Rattle.local_txn.specs.Answers.{ticket_of}
-use Rattle.local_txn.specs.RowIndex.{Index, at, first_with, first_at, IsIndex, AreApart, KeepsRows}
-use Rattle.local_txn.proofs.Tests.{false_true, none_some, cond_true, cond_false}
+use Rattle.local_txn.specs.RowIndex.{Index, at, first_with, first_at, IsIndex, KeepsRows}
+use Rattle.local_txn.proofs.Tests.{false_true, none_some}
 use Rattle.local_txn.proofs.OpenLaws.{rows_left, apart_left, apart_again, rows_again, apart_opened}
 
 -- ---- what is busy

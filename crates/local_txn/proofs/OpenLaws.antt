@@ -1,13 +1,12 @@
 -- Open tickets that are apart: what is left without one of them, with one that stands first, and with a count.
-use Rattle.std.proofs.Common.{◌≡◌, ◌≢◌, ◌+◌, ◌-◌, ◌≤◌, ◌<◌, not, ℕ, Bool, true, false, cond, List, [], ◌∷◌, map, filter, find, Option, Some, None, option_map, refl, ap, sym, subst, ◌∙◌, arith}
-use Rattle.std.specs.Prelude.{min, ◌^◌}
+use Rattle.std.proofs.Common.{◌≡◌, ◌≢◌, ◌+◌, ◌-◌, ◌≤◌, not, ℕ, Bool, true, false, cond, List, [], ◌∷◌, map, find, Option, Some, None, option_map, refl, ap, sym, subst, ◌∙◌, arith}
 use Rattle.seata_types.specs.declared.ids.Ticket.{Ticket}
 use Rattle.seata_types.specs.declared.rows.RowKey.{RowKey}
 use Rattle.durable_records.specs.Branches.{same_ticket}
-use Rattle.local_txn.specs.OpenTickets.{AreDistinct, Open, open_at, last_of, without, with_first, counting, has_row, ticket_with}
+use Rattle.local_txn.specs.OpenTickets.{AreDistinct, Open, open_at, last_of, without, counting, has_row, ticket_with}
 use Rattle.local_txn.specs.Answers.{ticket_of}
 use Rattle.local_txn.specs.RowIndex.{IsCounted, AreApart, without_first}
-use Rattle.local_txn.proofs.Tests.{false_true, true_false, none_some, one_ticket, ticket_itself, cond_true, cond_false}
+use Rattle.local_txn.proofs.Tests.{true_false, none_some, one_ticket, ticket_itself, cond_true, cond_false}
 
 -- ---- a ticket that is found
 

@@ -1,6 +1,6 @@
 -- The place of a ticket: what stands there, what is left without it, and with a count.
-use Rattle.std.proofs.Common.{◌≡◌, ◌+◌, ◌-◌, ◌^◌, ◌==◌, ◌&&◌, ◌<◌, ℕ, zero, suc, Bool, true, false, cond, List, [], ◌∷◌, map, length, Option, Some, None, option_map, refl, ap, sym, subst, ◌∙◌, arith, take, drop, ◌++◌}
-use Rattle.std.specs.Prelude.{slice_get, slice_set, slice_index_or, min, OnSome}
+use Rattle.std.proofs.Common.{◌≡◌, ◌+◌, ◌-◌, ◌==◌, ◌&&◌, ◌<◌, ℕ, zero, suc, Bool, true, false, cond, List, [], ◌∷◌, map, length, Option, Some, None, option_map, refl, ap, sym, subst, ◌∙◌, arith}
+use Rattle.std.specs.Prelude.{slice_get, slice_set, slice_index_or, OnSome}
 use Rattle.std.specs.List.{remove}
 use Rattle.std.proofs.lemmas.Bool.Decides.{nat_tests}
 use Rattle.seata_types.specs.declared.ids.Ticket.{Ticket}
@@ -9,7 +9,7 @@ use Rattle.local_txn.specs.declared.transactions.OpenTxn.{OpenTxn}
 use Rattle.local_txn.specs.OpenTickets.{AreDistinct, Open, open_at, counting, last_of}
 use Rattle.local_txn.specs.Answers.{open_of, is_for, owner_by, raised, counted}
 use Rattle.local_txn.specs.RowIndex.{place_from, with_count, Raises, without_first}
-use Rattle.local_txn.proofs.Tests.{true_false, none_some, one_ticket, cond_true, cond_false}
+use Rattle.local_txn.proofs.Tests.{none_some, one_ticket, cond_true, cond_false}
 
 not_zero : (y : ℕ) → (suc y == 0) ≡ false
 not_zero y = grind (arith, nat_tests)

@@ -1,5 +1,5 @@
 -- One row put into the index or taken out of it, among others.
-use Rattle.std.proofs.Common.{◌≡◌, ◌||◌, Bool, true, false, cond, List, [], ◌∷◌, Option, Some, None, refl, ap, sym, ◌∙◌}
+use Rattle.std.proofs.Common.{◌≡◌, ◌||◌, Bool, true, false, cond, List, ◌∷◌, Option, refl, ap, sym, ◌∙◌}
 use Rattle.seata_types.specs.declared.ids.Ticket.{Ticket}
 use Rattle.seata_types.specs.declared.rows.RowKey.{RowKey}
 use Rattle.local_tables.specs.Rows.{is_key}

@@ -1,15 +1,14 @@
 -- What the code's open transactions are in the words of the rules, and what its calls answer.
-use Rattle.std.specs.Prelude.{◌≡◌, ℕ, zero, suc, ◌+◌, ◌-◌, ◌^◌, min, Bool, List, [], ◌∷◌, map, find, Option, Some, None, option_map, Result, Ok, Err}
+use Rattle.std.specs.Prelude.{◌≡◌, ℕ, zero, suc, ◌+◌, ◌-◌, ◌^◌, min, Bool, List, [], ◌∷◌, map, Option, Some, None, Result, Ok, Err}
 use Rattle.seata_types.specs.declared.copies.NoMemory.{NoMemory}
 use Rattle.seata_types.specs.declared.errors.StmtError.{StmtError}
 use Rattle.seata_types.specs.declared.ids.Ticket.{Ticket}
-use Rattle.seata_types.specs.declared.ids.Xid.{Xid}
 use Rattle.seata_types.specs.declared.rows.RowKey.{RowKey}
 use Rattle.seata_types.specs.declared.statements.Work.{Work}
 use Rattle.local_tables.specs.declared.schemas.Effect.{Effect}
 use Rattle.local_tables.specs.declared.schemas.EffectError.{EffectError}
 use Rattle.local_tables.specs.declared.schemas.EffectError.TheVariants as fault
-use Rattle.local_txn.specs.OpenTickets.{Owner, OfCall, OfLocal, Open, open_at, without, sent_again, counting, is_for_call, is_for_local, no_effect, opening_of, busy_row}
+use Rattle.local_txn.specs.OpenTickets.{Owner, OfCall, OfLocal, Open, without, counting, is_for_call, is_for_local, no_effect, opening_of, busy_row}
 use Rattle.local_txn.specs.declared.transactions.ExecError.{ExecError}
 use Rattle.local_txn.specs.declared.transactions.ExecError.TheVariants as error
 use Rattle.local_txn.specs.declared.transactions.OpenTxn.{OpenTxn}

@@ -1,6 +1,6 @@
 -- The local transactions that a resource has open, each under its ticket. Lists of them stand in the order of their last
 -- sending, the one that was sent last first.
-use Rattle.std.specs.Prelude.{◌≡◌, ℕ, zero, suc, ◌+◌, ◌==◌, ◌&&◌, ◌||◌, not, Bool, false, if◌then◌else◌, List, [], ◌∷◌, filter, find, Option, Some, None}
+use Rattle.std.specs.Prelude.{◌≡◌, ℕ, ◌==◌, ◌&&◌, ◌||◌, not, Bool, false, if◌then◌else◌, List, [], ◌∷◌, filter, find, Option, Some, None}
 use Rattle.std.specs.Ordering.{is_lt}
 use Rattle.seata_types.specs.Orders.{key_cmp}
 use Rattle.seata_types.specs.declared.ids.Ticket.{Ticket}

@@ -10,7 +10,7 @@ use Rattle.durable_records.specs.Branches.{same_ticket}
 use Rattle.durable_records.specs.Locks.{has_key}
 use Rattle.durable_records.specs.ResourceOrder.{image_keys, read_keys}
 use Rattle.local_txn.specs.OpenTickets.{Open, open_at, has_row, ticket_with}
-use Rattle.local_txn.specs.Answers.{Tickets, ticket_of}
+use Rattle.local_txn.specs.Answers.{ticket_of}
 use Rattle.local_txn.specs.declared.transactions.OpenTxn.{OpenTxn}
 
 -- rows, each with the ticket that has it

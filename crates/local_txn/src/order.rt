@@ -1,5 +1,5 @@
 //! Open local transactions in the order of their last sending, the one that was sent last first.
-ghost use Rattle.std.specs.Prelude.{◌≡◌, ◌<◌, is_some, true, map, find, option_map, option_and_then, IsSome};
+ghost use Rattle.std.specs.Prelude.{◌≡◌, ◌<◌, map, find, option_map, IsSome};
 ghost use Rattle.std.specs.Option.{option_copied};
 ghost use Rattle.std.specs.VecDeque.{deque_len, deque_capacity};
 ghost use Rattle.local_txn.specs.OpenTickets.{AreDistinct, open_at, last_of};

@@ -1,9 +1,9 @@
 -- Names and places of which no two are the same, and what is looked up by them.
-use Rattle.std.proofs.Common.{◌≡◌, ◌≤◌, ◌<◌, ◌+◌, ◌⊎◌, inl, inr, ℕ, zero, suc, Bool, true, false, ◌||◌, nat_lt, List, [], ◌∷◌, ◌++◌, length, map, Option, Some, None, refl, ap, sym, ◌∙◌, subst, arith}
+use Rattle.std.proofs.Common.{◌≡◌, ◌<◌, ◌+◌, ◌⊎◌, inl, inr, ℕ, zero, suc, Bool, true, false, ◌||◌, nat_lt, List, [], ◌∷◌, ◌++◌, length, map, Some, refl, ap, sym, ◌∙◌, subst, arith}
 use Rattle.std.proofs.lemmas.Bool.Decides.{nat_tests}
 use Rattle.std.proofs.lemmas.Cmp.{nat_list_eq_equiv}
 use Rattle.std.proofs.lemmas.Option.{cond_some}
-use Rattle.std.specs.List.{IsDistinct, AllByRecursion, list_any, position, position_or_len, find, slice_get}
+use Rattle.std.specs.List.{IsDistinct, AllByRecursion, list_any, position, position_or_len, slice_get}
 use Rattle.seata_types.specs.Orders.{same_text}
 
 pub same_text_flips : (a b : List ℕ) → same_text a b ≡ same_text b a

@@ -1,21 +1,20 @@
 -- The text under which a scenario is kept reads as that scenario, but for its schedule and its stops.
-use Rattle.std.proofs.Common.{◌≡◌, ◌≤◌, ℕ, Bool, true, false, true≢false, ◌&&◌, List, [], ◌∷◌, Ordering, Less, Equal, Greater, nat_cmp, length, Option, Some, None, Ok, Err, refl, ap, sym, ◌∙◌, subst}
+use Rattle.std.proofs.Common.{◌≡◌, ◌≤◌, ℕ, Bool, true, false, ◌&&◌, List, [], ◌∷◌, Ordering, Less, Equal, Greater, nat_cmp, length, Option, Some, None, Ok, Err, refl, ap, sym, ◌∙◌, subst}
 use Rattle.std.specs.Cmp.Lexicographic.{slice_cmp}
 use Rattle.std.specs.Ordering.{match_ordering}
-use Rattle.std.specs.Prelude.{codes, IsUtf8}
+use Rattle.std.specs.Prelude.{codes}
 use Rattle.serde_json.proofs.Views.{get_member-put, get_member-put_other}
 use Rattle.serde_json.specs.Data.{Data, null, boolean, number, string, array, object, no_items, Members, no_members, member as entry, put}
 use Rattle.serde_json.specs.Find.{get, get_member}
 use Rattle.serde_json.specs.Read.{read}
 use Rattle.seata_types.specs.Orders.{same_text}
-use Rattle.local_tables.proofs.KeyLaws.{same_text_itself}
 use Rattle.scenario_reader.specs.declared.errors.ScenarioError.TheVariants as fault
 use Rattle.scenario_reader.specs.declared.scenarios.ManagerDef.{ManagerDef}
 use Rattle.scenario_reader.specs.declared.scenarios.ResourceDef.{ResourceDef}
 use Rattle.scenario_reader.specs.declared.scenarios.Scenario.{Scenario}
 use Rattle.scenario_reader.specs.Bases.{kept, without, IsTextOf}
 use Rattle.scenario_reader.specs.Calls.{locals}
-use Rattle.scenario_reader.specs.Faults.{Outcome, ◌>>=◌, is_known, are_known, an_object, only, only_by, only_in, list, member, to_member, within}
+use Rattle.scenario_reader.specs.Faults.{Outcome, ◌>>=◌, is_known, are_known, an_object, only, only_by, list, member, to_member, within}
 use Rattle.scenario_reader.specs.Form as form
 use Rattle.scenario_reader.specs.Managers.{managers}
 use Rattle.scenario_reader.specs.Nodes.{stops}

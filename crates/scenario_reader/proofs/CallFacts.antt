@@ -1,9 +1,9 @@
 -- What is known of statements, calls and locals once they are read.
-use Rattle.std.proofs.Common.{◌≡◌, ◌≤◌, ◌<◌, ◌+◌, ℕ, suc, add-one, Bool, true, false, cond, nat_le, List, [], ◌∷◌, ◌++◌, length, Option, Some, None, Result, Ok, Err, refl, ap, sym, ◌∙◌, subst, arith}
+use Rattle.std.proofs.Common.{◌≡◌, ◌≤◌, ◌+◌, ℕ, add-one, Bool, true, false, cond, List, [], ◌∷◌, length, Option, Some, None, Result, Ok, Err, refl, ap, ◌∙◌, subst, arith}
 use Rattle.std.specs.List.{position, find, slice_get}
 use Rattle.std.specs.Prelude.{if◌then◌else◌, All, codes}
 use Rattle.std.proofs.lemmas.List.Elements.{All-nil}
-use Rattle.serde_json.specs.Data.{Data, Items}
+use Rattle.serde_json.specs.Data.{Data}
 use Rattle.serde_json.specs.Find.{get, as_str}
 use Rattle.seata_types.specs.Orders.{same_text}
 use Rattle.seata_types.specs.declared.limits.TheConstants.{CALLS, LOCALS, STATEMENTS, STATEMENT_BYTES}
@@ -20,7 +20,7 @@ use Rattle.local_tables.specs.declared.schemas.Schema.{Schema}
 use Rattle.local_tables.specs.declared.schemas.TableDef.{TableDef}
 use Rattle.scenario_reader.specs.declared.scenarios.ResourceDef.{ResourceDef}
 use Rattle.scenario_reader.specs.Contents.{IsStatement, AreStatements, IsWork, resource_numbered, IsCall, IsLocal}
-use Rattle.scenario_reader.specs.Faults.{Outcome, ◌>>=◌, within, each, list, text, text_by, member, an_object, only, to_member}
+use Rattle.scenario_reader.specs.Faults.{◌>>=◌, each, list, text, text_by, member, an_object, only, to_member}
 use Rattle.scenario_reader.specs.Names.{is_resource_named}
 use Rattle.scenario_reader.specs.Tables.{is_table_named}
 use Rattle.scenario_reader.specs.Calls as form

@@ -1,7 +1,6 @@
 -- That an input is a scenario or has a fault, and not both, and what the bytes that were read say of a longer input.
-use Rattle.std.proofs.Common.{◌≡◌, ◌≤◌, ◌⊎◌, inl, inr, ℕ, List, length, Some, None, Ok, Err, ap, sym, subst, ◌∙◌, arith}
+use Rattle.std.proofs.Common.{◌≡◌, ◌≤◌, inl, inr, ℕ, List, length, Some, None, ap, sym, subst, ◌∙◌, arith}
 use Rattle.std.proofs.lemmas.Option.{same_Some}
-use Rattle.serde_json.specs.Data.{Data}
 use Rattle.scenario_reader.specs.Form.{scenario_of}
 use Rattle.scenario_reader.specs.Reading.{IsScenario, IsScenarioOf, IsFault, IsJson, IsNoJson, IsTooLong, IsNotJson, IsOtherForm}
 use Rattle.scenario_reader.specs.declared.errors.ScenarioError.{ScenarioError}

@@ -1,5 +1,5 @@
 -- Facts on the data under which a scenario is kept.
-use Rattle.std.proofs.Common.{◌≡◌, ℕ, List, [], ◌∷◌, Ordering, Less, Equal, Greater, nat_cmp, is_eq, cond, string_bytes, refl, ap, ◌∙◌, ◌≤◌, max, codes, arith}
+use Rattle.std.proofs.Common.{◌≡◌, ℕ, List, [], ◌∷◌, Ordering, Less, Equal, Greater, nat_cmp, is_eq, cond, string_bytes, refl, ap, ◌≤◌, max, codes, arith}
 use Rattle.std.specs.BTreeMap.{is_at}
 use Rattle.std.specs.Cmp.Lexicographic.{slice_cmp}
 use Rattle.std.specs.Map.{remove_entry}

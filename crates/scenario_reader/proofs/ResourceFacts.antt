@@ -1,11 +1,11 @@
 -- What is known of resources and of their rows at the opening once they are read.
-use Rattle.std.proofs.Common.{◌≡◌, ◌≤◌, ◌<◌, ◌+◌, ◌⊎◌, inl, inr, ℕ, suc, zero, Bool, true, false, cond, ◌||◌, true≢false, ap₂, List, [], ◌∷◌, ◌++◌, length, map, Option, Some, None, is_some, option_map, Ok, Err, refl, ap, sym, ◌∙◌, subst, arith}
+use Rattle.std.proofs.Common.{◌≡◌, ◌≤◌, ◌<◌, ◌+◌, ◌⊎◌, inl, inr, ℕ, suc, Bool, true, false, cond, ◌||◌, true≢false, ap₂, List, [], ◌∷◌, ◌++◌, length, map, Option, Some, None, is_some, option_map, Ok, refl, ap, sym, ◌∙◌, subst, arith}
 use Rattle.std.proofs.lemmas.Cmp.{eq_by_cmp_equiv, lists_total}
 use Rattle.std.proofs.lemmas.List.{append-nil, append_assoc, length-append}
 use Rattle.std.proofs.lemmas.List.Elements.{All-append, All-cons, All-head, All-map, All-nil, All-push, All-tail, All-weaker, filter_map-append}
 use Rattle.std.proofs.lemmas.List.Folds.{find-append}
-use Rattle.std.proofs.lemmas.Option.{same_Some, slice_get_within}
-use Rattle.std.specs.List.{IsDistinct, AllByRecursion, cons_option, list_any, find, filter_map, slice_get}
+use Rattle.std.proofs.lemmas.Option.{same_Some}
+use Rattle.std.specs.List.{IsDistinct, AllByRecursion, cons_option, list_any, find, slice_get}
 use Rattle.std.specs.Map.{keys_of}
 use Rattle.std.specs.Prelude.{All, IsSome, codes}
 use Rattle.std.specs.Option.{option_or}
@@ -18,17 +18,17 @@ use Rattle.seata_types.specs.declared.rows.Row.{Row}
 use Rattle.seata_types.specs.declared.rows.RowKey.{RowKey}
 use Rattle.seata_types.specs.declared.rows.Value.{Value}
 use Rattle.seata_types.specs.declared.rows.Value.TheVariants as value
-use Rattle.local_tables.proofs.KeyLaws.{same_key, same_text_same, same_text_itself}
+use Rattle.local_tables.proofs.KeyLaws.{same_key, same_text_itself}
 use Rattle.local_tables.proofs.RowFitLaws.{own_types_fit}
 use Rattle.local_tables.specs.Checks.{type_of}
-use Rattle.local_tables.specs.Rows.{IsOpening, fits_row, is_key, key_in, key_values, keyed, keyed_row, opening_entry, opening_rows, with_key, each_of, is_named, table_named}
+use Rattle.local_tables.specs.Rows.{fits_row, is_key, key_in, key_values, keyed, keyed_row, opening_entry, opening_rows, with_key, each_of, is_named, table_named}
 use Rattle.local_tables.specs.declared.schemas.ColType.{ColType}
 use Rattle.local_tables.specs.declared.schemas.ColType.TheVariants as type
 use Rattle.local_tables.specs.declared.schemas.Schema.{Schema}
 use Rattle.local_tables.specs.declared.schemas.TableDef.{TableDef}
 use Rattle.scenario_reader.specs.declared.scenarios.ResourceDef.{ResourceDef}
-use Rattle.scenario_reader.specs.Contents.{IsNodeName, AreDifferent, FitsColumn, IsTable, IsSchema, IsRow, IsOpeningRow, IsResource, table_name}
-use Rattle.scenario_reader.specs.Faults.{Outcome, ◌>>=◌, within, to_item, to_member, each, items_length, list, member, an_object, only}
+use Rattle.scenario_reader.specs.Contents.{AreDifferent, FitsColumn, IsTable, IsRow, IsOpeningRow, IsResource, table_name}
+use Rattle.scenario_reader.specs.Faults.{◌>>=◌, within, to_item, to_member, each, items_length, list, member, an_object, only}
 use Rattle.scenario_reader.specs.Names.{new_node, is_node, is_resource_named}
 use Rattle.scenario_reader.specs.Resources as form
 use Rattle.scenario_reader.specs.Runnable.{resource_name}
@@ -37,7 +37,7 @@ use Rattle.scenario_reader.specs.Tables as tables
 use Rattle.scenario_reader.proofs.Apart.{different_push, stands_within}
 use Rattle.scenario_reader.proofs.CallFacts.{find_named}
 use Rattle.scenario_reader.proofs.Inverses.{bind_ok, within_ok, same_ok, list_ok, each_all, each_few, each_keeps}
-use Rattle.scenario_reader.proofs.TableFacts.{AreRows, IsRead, table_ok}
+use Rattle.scenario_reader.proofs.TableFacts.{IsRead, table_ok}
 use Rattle.scenario_reader.proofs.WholeFacts.{new_node_ok}
 
 abbrev schema_of : List TableDef → Schema

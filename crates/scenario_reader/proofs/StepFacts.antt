@@ -1,10 +1,10 @@
 -- What is known of managers, stops and steps once they are read.
-use Rattle.std.proofs.Common.{◌≡◌, ◌≤◌, ◌<◌, ◌+◌, ℕ, Bool, true, false, ◌&&◌, nat_le, List, [], ◌∷◌, ◌++◌, length, map, Option, Some, None, Ok, Err, refl, ap, sym, ◌∙◌, subst, arith}
+use Rattle.std.proofs.Common.{◌≡◌, ◌≤◌, ◌+◌, ℕ, Bool, true, false, ◌&&◌, List, [], ◌∷◌, ◌++◌, length, Option, Some, None, Ok, refl, subst, arith}
 use Rattle.std.proofs.lemmas.List.Elements.{All-nil, All-push}
-use Rattle.std.specs.List.{position, list_any}
+use Rattle.std.specs.List.{position}
 use Rattle.std.specs.Prelude.{if◌then◌else◌, All, codes}
-use Rattle.serde_json.specs.Data.{Data, Items}
-use Rattle.serde_json.specs.Find.{get, as_str}
+use Rattle.serde_json.specs.Data.{Data}
+use Rattle.serde_json.specs.Find.{as_str}
 use Rattle.disk_model.specs.declared.disk.TheConstants.{LAST_PICK}
 use Rattle.seata_types.specs.Orders.{same_text}
 use Rattle.seata_types.specs.declared.ids.Place.{Place}
@@ -15,10 +15,10 @@ use Rattle.scenario_reader.specs.declared.scenarios.ResourceDef.{ResourceDef}
 use Rattle.scenario_reader.specs.declared.scenarios.ScheduleItem.{ScheduleItem}
 use Rattle.scenario_reader.specs.declared.scenarios.ScheduleItem.TheVariants as step
 use Rattle.scenario_reader.specs.Contents.{IsBetween}
-use Rattle.scenario_reader.specs.Faults.{Outcome, ◌>>=◌, wrong_name, wrong_shape, within, to_item, each, list, any_list, triple, text_by}
-use Rattle.scenario_reader.specs.Names.{is_word, is_resource_named, is_manager_named}
+use Rattle.scenario_reader.specs.Faults.{Outcome, ◌>>=◌, wrong_name, wrong_shape, within, to_item, list, any_list, triple, text_by}
+use Rattle.scenario_reader.specs.Names.{is_resource_named, is_manager_named}
 use Rattle.scenario_reader.specs.Nodes as form
-use Rattle.scenario_reader.specs.Numbers.{is_plain, number_of_text, number_in, plain_number}
+use Rattle.scenario_reader.specs.Numbers.{number_of_text, number_in, plain_number}
 use Rattle.scenario_reader.specs.Runnable.{IsServerAmong, IsPlaceAmong, IsStop, FitsNodes}
 use Rattle.scenario_reader.specs.Steps as steps
 use Rattle.scenario_reader.proofs.Apart.{position_within}

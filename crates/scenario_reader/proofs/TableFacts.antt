@@ -1,16 +1,15 @@
 -- What is known of a table and of its rows once it is read.
-use Rattle.std.proofs.Common.{◌≡◌, ◌≤◌, ◌<◌, ◌+◌, ◌⊎◌, inl, inr, ℕ, suc, Bool, true, false, ◌||◌, cond, nat_le, List, [], ◌∷◌, ◌++◌, length, map, Option, Some, None, option_and_then, Ok, Err, refl, ap, sym, ◌∙◌, subst, arith}
+use Rattle.std.proofs.Common.{◌≡◌, ◌≤◌, ◌<◌, ◌+◌, inl, inr, ℕ, Bool, true, false, ◌||◌, cond, List, [], ◌∷◌, ◌++◌, length, map, Option, Some, None, option_and_then, Ok, refl, ap, sym, ◌∙◌, subst, arith}
 use Rattle.std.proofs.lemmas.Bool.Decides.{nat_tests}
 use Rattle.std.proofs.lemmas.Cmp.{nat_eq_equiv, eq_by_cmp_equiv, lists_total}
 use Rattle.std.proofs.lemmas.List.Elements.{All-push, All-nil, All-map, All-cons}
 use Rattle.std.proofs.lemmas.Option.{same_Some}
-use Rattle.std.specs.List.{IsDistinct, list_any, list_all, position, slice_get}
-use Rattle.std.specs.Prelude.{if◌then◌else◌, ℤ, All, ◌==◌, nat_eq, codes}
-use Rattle.serde_json.specs.Data.{Data, Items, no_items, item}
+use Rattle.std.specs.List.{IsDistinct, list_any, position, slice_get}
+use Rattle.std.specs.Prelude.{ℤ, All, ◌==◌, nat_eq, codes}
+use Rattle.serde_json.specs.Data.{Data, Items}
 use Rattle.serde_json.specs.Find.{get, as_number, as_u64, as_i64, as_str, as_array}
-use Rattle.seata_types.specs.Orders.{same_text}
 use Rattle.seata_types.specs.ValueOrder.{value_cmp_total}
-use Rattle.seata_types.specs.declared.limits.TheConstants.{COLUMNS, KEY_PARTS, NAME_BYTES, RESOURCE_ROWS, TEXT_BYTES}
+use Rattle.seata_types.specs.declared.limits.TheConstants.{COLUMNS, KEY_PARTS, RESOURCE_ROWS}
 use Rattle.seata_types.specs.declared.rows.Row.{Row}
 use Rattle.seata_types.specs.declared.rows.Value.{Value}
 use Rattle.seata_types.specs.declared.rows.Value.TheVariants as value
@@ -18,10 +17,9 @@ use Rattle.seata_types.specs.declared.statuses.BranchKind.{BranchKind}
 use Rattle.local_tables.specs.declared.schemas.ColType.{ColType}
 use Rattle.local_tables.specs.declared.schemas.ColType.TheVariants as type
 use Rattle.local_tables.specs.declared.schemas.TableDef.{TableDef}
-use Rattle.scenario_reader.specs.declared.errors.ScenarioError.{ScenarioError}
 use Rattle.scenario_reader.specs.Contents.{IsBetween, IsTableName, AreDifferent, column_name, IsTable, FitsColumn, IsRow}
-use Rattle.scenario_reader.specs.Faults.{Outcome, ◌>>=◌, within, to_item, each, items_length, text, text_by, list, pair, member, an_object, only, to_member}
-use Rattle.scenario_reader.specs.Names.{new_name, is_table_name}
+use Rattle.scenario_reader.specs.Faults.{◌>>=◌, within, to_item, each, items_length, text, text_by, list, pair, member, an_object, only, to_member}
+use Rattle.scenario_reader.specs.Names.{new_name}
 use Rattle.scenario_reader.specs.Tables as form
 use Rattle.scenario_reader.proofs.Apart.{distinct_push, different_push, map_push, position_within, get_push}
 use Rattle.scenario_reader.proofs.Inverses.{bind_ok, within_ok, if_ok, unless_ok, same_ok, le_of, each_keeps, each_all, each_few, each_length}

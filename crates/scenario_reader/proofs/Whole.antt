@@ -1,5 +1,5 @@
 -- The data of a scenario without its stops has all other parts.
-use Rattle.std.proofs.Common.{◌≡◌, Bool, true, false, true≢false, ◌&&◌, List, ℕ, Option, Ordering, Less, Equal, Greater, Ok, Err, refl, ap, sym, ◌∙◌}
+use Rattle.std.proofs.Common.{◌≡◌, true, false, true≢false, ◌&&◌, List, ℕ, Option, Ordering, Less, Equal, Greater, Ok, Err, refl, ap, sym, ◌∙◌}
 use Rattle.std.specs.Ordering.{match_ordering}
 use Rattle.std.specs.Prelude.{codes}
 use Rattle.serde_json.specs.Data.{Data, null, boolean, number, string, array, object, Members, no_members, member as entry}

@@ -1,5 +1,5 @@
 -- The text under which a scenario is kept.
-use Rattle.std.specs.Prelude.{◌≡◌, ◌≤◌, ℕ, List, [], ◌∷◌, Some, false, IsUtf8, codes}
+use Rattle.std.specs.Prelude.{◌≡◌, ℕ, List, Some, false, IsUtf8, codes}
 use Rattle.std.specs.Cmp.Lexicographic.{slice_cmp}
 use Rattle.std.specs.Ordering.{nat_cmp, match_ordering}
 use Rattle.serde_json.specs.Data.{Data, object, array, no_items, Members, no_members, member, put}

@@ -3,7 +3,6 @@ use Rattle.std.specs.Prelude.{ℕ, ◌+◌, ◌&&◌, ◌||◌, not, nat_le, Boo
 use Rattle.serde_json.specs.Data.{Data}
 use Rattle.serde_json.specs.Find.{as_str}
 use Rattle.seata_types.specs.declared.limits.TheConstants.{CALLS, LOCALS, STATEMENTS, STATEMENT_BYTES}
-use Rattle.seata_types.specs.declared.statements.Action.{Action}
 use Rattle.seata_types.specs.declared.statements.Stmt.{Stmt}
 use Rattle.seata_types.specs.declared.statements.Stmt.TheVariants as stmt
 use Rattle.seata_types.specs.declared.statements.Work.{Work}

@@ -2,7 +2,7 @@
 use Rattle.std.specs.Prelude.{◌≡◌, ◌≤◌, ◌<◌, nat_eq, ℕ, zero, suc, true, List, length, map, All, slice_get, Option, Some, None, Ok}
 use Rattle.std.specs.List.{IsDistinct, list_all}
 use Rattle.seata_types.specs.Orders.{same_text}
-use Rattle.seata_types.specs.declared.limits.TheConstants.{CALLS, COLUMNS, KEY_PARTS, NAME_BYTES, NODE_NAME_BYTES, RESOURCE_ROWS, STATEMENTS, STATEMENT_BYTES, TABLES, TEXT_BYTES}
+use Rattle.seata_types.specs.declared.limits.TheConstants.{COLUMNS, KEY_PARTS, NAME_BYTES, NODE_NAME_BYTES, RESOURCE_ROWS, STATEMENTS, STATEMENT_BYTES, TABLES, TEXT_BYTES}
 use Rattle.seata_types.specs.declared.rows.Row.{Row}
 use Rattle.seata_types.specs.declared.rows.Value.{Value}
 use Rattle.seata_types.specs.declared.rows.Value.TheVariants as value

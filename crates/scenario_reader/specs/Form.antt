@@ -13,7 +13,7 @@
 --   locals      | optional list of at, do                                            | Calls
 --   stops       | optional list of node, calls, pick                                 | Nodes
 --   schedule    | list of texts                                                      | Steps
-use Rattle.std.specs.Prelude.{◌≡◌, ◌≢◌, ℕ, List, [], ◌∷◌, length, Option, Result, Ok, Err, codes}
+use Rattle.std.specs.Prelude.{◌≡◌, ◌≢◌, ℕ, List, [], ◌∷◌, length, Option, Ok, Err, codes}
 use Rattle.serde_json.specs.Data.{Data}
 use Rattle.serde_json.specs.Find.{get}
 use Rattle.seata_types.specs.declared.limits.TheConstants.{DEFAULT_DISK, DEFAULT_LOCK_TRIES, DEFAULT_RETRY, DEFAULT_TIMEOUT, DISK_LEAST, DISK_MOST, LOCK_TRIES, TICKS}

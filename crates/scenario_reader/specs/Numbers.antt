@@ -1,5 +1,5 @@
 -- Numbers of the form: members that are numbers, and numbers in the texts of the schedule.
-use Rattle.std.specs.Prelude.{ℕ, ◌+◌, ◌-◌, ◌*◌, ◌^◌, ◌==◌, ◌&&◌, ◌||◌, min, nat_le, nat_lt, Bool, false, if◌then◌else◌, ℤ, List, [], ◌∷◌, Option, Some, None, option_and_then, Ok}
+use Rattle.std.specs.Prelude.{ℕ, ◌+◌, ◌-◌, ◌*◌, ◌^◌, ◌&&◌, min, nat_le, nat_lt, Bool, false, if◌then◌else◌, ℤ, List, [], ◌∷◌, Option, Some, None, option_and_then, Ok}
 use Rattle.std.specs.List.{list_all}
 use Rattle.serde_json.specs.Data.{Data}
 use Rattle.serde_json.specs.Find.{as_number, as_u64, as_i64}

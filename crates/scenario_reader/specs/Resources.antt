@@ -3,7 +3,6 @@ use Rattle.std.specs.Prelude.{ℕ, List, [], ◌∷◌, ◌++◌, length, map, O
 use Rattle.serde_json.specs.Data.{Data, Items, no_items, item}
 use Rattle.seata_types.specs.declared.limits.TheConstants.{RESOURCES, TABLES}
 use Rattle.seata_types.specs.declared.rows.Row.{Row}
-use Rattle.local_tables.specs.declared.schemas.Schema.{Schema}
 use Rattle.local_tables.specs.declared.schemas.TableDef.{TableDef}
 use Rattle.scenario_reader.specs.declared.scenarios.ResourceDef.{ResourceDef}
 use Rattle.scenario_reader.specs.Faults.{Outcome, ◌>>=◌, member, within, to_item, each, list, an_object, only}

@@ -1,5 +1,5 @@
 -- What holds of every scenario that is read: a run of it finds each node, each table and each number that it names.
-use Rattle.std.specs.Prelude.{◌≡◌, ◌≤◌, ℕ, List, ◌++◌, length, map, All, Option, Some, None}
+use Rattle.std.specs.Prelude.{◌≤◌, ℕ, List, ◌++◌, length, map, All, Option, Some, None}
 use Rattle.disk_model.specs.declared.disk.TheConstants.{LAST_PICK}
 use Rattle.seata_types.specs.declared.ids.Place.{Place}
 use Rattle.seata_types.specs.declared.ids.Place.TheVariants as place

@@ -1,11 +1,10 @@
 -- The texts of the schedule.
-use Rattle.std.specs.Prelude.{ℕ, ◌+◌, ◌==◌, ◌&&◌, nat_le, Bool, true, false, if◌then◌else◌, List, [], ◌∷◌, length, Option, Some, None, Ok, codes}
+use Rattle.std.specs.Prelude.{ℕ, ◌+◌, ◌==◌, ◌&&◌, nat_le, Bool, if◌then◌else◌, List, [], ◌∷◌, Option, Some, None, Ok, codes}
 use Rattle.std.specs.List.{list_any, before_first, after_first}
 use Rattle.serde_json.specs.Data.{Data}
 use Rattle.serde_json.specs.Find.{as_str}
 use Rattle.disk_model.specs.declared.disk.TheConstants.{LAST_PICK}
 use Rattle.seata_types.specs.Orders.{same_text}
-use Rattle.seata_types.specs.declared.ids.Place.{Place}
 use Rattle.seata_types.specs.declared.limits.TheConstants.{SCHEDULE_MEMBERS, STEPS, STOP_CALLS, TICKS}
 use Rattle.scenario_reader.specs.declared.scenarios.ManagerDef.{ManagerDef}
 use Rattle.scenario_reader.specs.declared.scenarios.ResourceDef.{ResourceDef}

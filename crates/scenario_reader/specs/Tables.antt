@@ -1,5 +1,5 @@
 -- Tables: their columns, their keys and their rows.
-use Rattle.std.specs.Prelude.{◌≡◌, ℕ, ◌+◌, ◌^◌, ◌-◌, ◌==◌, ◌&&◌, cond, not, nat_le, Bool, true, false, if◌then◌else◌, ℤ, List, [], ◌∷◌, length, map, position, ◌++◌, slice_get, Option, Some, None, option_and_then, Ok, codes}
+use Rattle.std.specs.Prelude.{◌≡◌, ℕ, ◌+◌, ◌^◌, ◌-◌, ◌==◌, ◌&&◌, cond, not, nat_le, Bool, true, false, if◌then◌else◌, ℤ, List, [], ◌∷◌, length, position, ◌++◌, slice_get, Option, Some, None, option_and_then, Ok, codes}
 use Rattle.std.specs.List.{list_all, list_any}
 use Rattle.std.specs.Cmp.Lexicographic.{slice_cmp}
 use Rattle.std.specs.BTreeMap.{is_at}

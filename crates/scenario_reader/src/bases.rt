@@ -3,11 +3,15 @@ ghost use Rattle.std.specs.Prelude.{◌≡◌, ◌≤◌, codes, option_map, IfO
 ghost use Rattle.serde_json.specs.Data.{depth, put, array, no_items};
 ghost use Rattle.serde_json.specs.Find.{get, get_member};
 ghost use Rattle.serde_json.specs.View.{view, members_view};
+ghost use Rattle.scenario_reader.specs.declared.bases.TheConstants.{JSON_DEPTH};
 ghost use Rattle.scenario_reader.specs.Bases.{without, without_stops, without_steps, IsTextOf};
 
 use seata_types::{NoMemory, Text};
 use serde_json::{Map, Value};
 use std::alloc::Global;
+
+/// How deep the values of an input may stand in one another: deeper ones are no JSON to `serde_json`.
+pub const JSON_DEPTH: usize = 127;
 
 /// Takes the stops out of the members.
 #[tactic(auto, using(crate::proofs::Kept::members_view_without))]
@@ -60,7 +64,7 @@ fn kept_value(alloc: Global, value: Value) -> Result<Value, NoMemory>
 /// The compact text of a scenario's data with an empty schedule.
 #[tactic(auto, using(crate::proofs::Kept::without_steps_depth))]
 pub fn base_of(alloc: Global, value: Value) -> Result<Text, NoMemory>
-    requires { depth (view value) ≤ 127 }
+    requires { depth (view value) ≤ JSON_DEPTH }
     ensures { IfOk result (IsTextOf (without_steps (view value))) }
 {
     let value = kept_value(alloc, value)?;

@@ -9,7 +9,7 @@ use std::alloc::{AllocError, AllocFailed, Global};
 /// Why an input isn't a scenario. Paths are JSON pointers, with places counted from 0; the root is `.`.
 #[derive(Drop)]
 pub enum ScenarioError {
-    /// Not JSON of nesting at most 127.
+    /// Not JSON of nesting at most `JSON_DEPTH`.
     NotJson,
     /// Not the form.
     Shape { path: Text },

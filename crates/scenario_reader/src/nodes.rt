@@ -1,5 +1,5 @@
 //! The nodes that a step or a stop names, and the stops.
-ghost use Rattle.std.specs.Prelude.{◌≡◌, ◌≤◌, [], option_map, option_copied, length, IfOk};
+ghost use Rattle.std.specs.Prelude.{◌≤◌, [], option_map, option_copied, length};
 ghost use Rattle.seata_types.specs.declared.limits.TheConstants.{MANAGERS, RESOURCES};
 ghost use Rattle.serde_json.specs.View.{view, items_view};
 ghost use Rattle.scenario_reader.specs.Nodes as form;

@@ -3,6 +3,7 @@ ghost use Rattle.std.specs.Prelude.{◌≡◌, ◌≢◌, ◌≤◌, IfOk, IfErr
 ghost use Rattle.seata_types.specs.declared.limits.TheConstants.{INPUT_BYTES};
 ghost use Rattle.serde_json.specs.Data.{depth};
 ghost use Rattle.serde_json.specs.View.{view};
+ghost use Rattle.scenario_reader.specs.declared.bases.TheConstants.{JSON_DEPTH};
 ghost use Rattle.scenario_reader.specs.Reading.{IsJson, IsNoJson, IsScenario, IsScenarioOf, IsFault, IsTooLong};
 ghost use Rattle.scenario_reader.specs.Form.{scenario_of as form};
 ghost use Rattle.scenario_reader.specs.declared.errors.ScenarioError.TheVariants as fault;
@@ -18,10 +19,10 @@ use serde_json::Value;
 use serde_json::error::Category;
 use std::alloc::Global;
 
-/// The JSON of the bytes; none where they are no JSON of nesting at most 127.
+/// The JSON of the bytes; none where they are no JSON of nesting at most `JSON_DEPTH`.
 #[tactic(auto, unfolding(crate::specs::Reading::IsJson, crate::specs::Reading::IsNoJson))]
 fn json_of(alloc: Global, bytes: &[u8]) -> Result<Option<Value>, NoMemory>
-    ensures { IfOk result (λ found. MatchOption found (IsNoJson bytes.now) (λ value. IsJson bytes.now (view value) × (depth (view value) ≤ 127))) }
+    ensures { IfOk result (λ found. MatchOption found (IsNoJson bytes.now) (λ value. IsJson bytes.now (view value) × (depth (view value) ≤ JSON_DEPTH))) }
 {
     match Value::from_slice(alloc, bytes) {
         Ok(value) => Ok(Some(value)),
@@ -49,7 +50,7 @@ fn too_long(alloc: Global) -> ScenarioError
 /// The scenario of a JSON value, with the text under which it is kept.
 #[tactic(auto, using(crate::proofs::Kept::without_stops_depth, crate::proofs::Whole::scenario_apart), unfolding(crate::specs::Reading::IsScenarioOf))]
 fn kept_scenario(alloc: Global, value: Value) -> Result<Scenario, ScenarioError>
-    requires { depth (view value) ≤ 127 }
+    requires { depth (view value) ≤ JSON_DEPTH }
     ensures ok { IfOk result (IsScenarioOf (view value)) }
     ensures err { IfErr result (λ e. e ≢ ScenarioError.NoMemory → form (view value) ≡ Err e) }
 {

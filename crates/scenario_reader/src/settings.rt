@@ -1,5 +1,4 @@
 //! The numbers of a scenario.
-ghost use Rattle.std.specs.Prelude.{IfOk};
 ghost use Rattle.serde_json.specs.View.{view};
 ghost use Rattle.scenario_reader.specs.Faults.{Answers};
 ghost use Rattle.scenario_reader.specs.Form as form;

@@ -1,5 +1,5 @@
 //! The statements of calls and locals.
-ghost use Rattle.std.specs.Prelude.{◌≡◌, ◌≤◌, [], find, option_map, option_copied, length, IfOk};
+ghost use Rattle.std.specs.Prelude.{◌≡◌, [], find, option_map, option_copied};
 ghost use Rattle.serde_json.specs.View.{view, items_view};
 ghost use Rattle.scenario_reader.specs.Calls as form;
 ghost use Rattle.scenario_reader.specs.Tables.{is_table_named};

@@ -1,7 +1,7 @@
 //! Tables: their modes, their columns and their keys.
-ghost use Rattle.std.specs.Prelude.{◌≡◌, ◌≤◌, ◌+◌, ◌==◌, [], position, slice_get, option_map, option_copied, length, IfOk};
+ghost use Rattle.std.specs.Prelude.{◌≡◌, ◌≤◌, ◌+◌, ◌==◌, [], position, option_map, option_copied, length, IfOk};
 ghost use Rattle.std.specs.List.{list_any};
-ghost use Rattle.seata_types.specs.declared.limits.TheConstants.{RESOURCE_ROWS};
+ghost use Rattle.seata_types.specs.declared.limits.TheConstants.{COLUMNS, RESOURCE_ROWS};
 ghost use Rattle.serde_json.specs.Find.{as_str};
 ghost use Rattle.serde_json.specs.View.{view, items_view};
 ghost use Rattle.scenario_reader.specs.Tables as form;
@@ -124,7 +124,7 @@ fn each_column(alloc: Global, values: &[Value]) -> Result<Vec<(Text, ColType)>, 
 #[tactic(auto, unfolding(crate::specs::Tables::columns))]
 fn columns(alloc: Global, found: Option<&Value>) -> Result<List<(Text, ColType)>, ScenarioError>
     ensures exact { Answers (form.columns (option_map view (option_copied found.entry))) result }
-    ensures few { IfOk result (λ columns. length columns ≤ 8) }
+    ensures few { IfOk result (λ columns. length columns ≤ COLUMNS) }
 {
     let values = list(alloc, COLUMNS, found)?;
     let columns = each_column(alloc, values)?;
@@ -139,7 +139,7 @@ fn columns(alloc: Global, found: Option<&Value>) -> Result<List<(Text, ColType)>
 /// The place of the column of this name, counted from 0.
 #[tactic(auto, unfolding(crate::specs::Tables::key_column))]
 fn key_column(alloc: Global, columns: &[(Text, ColType)], name: &str) -> Result<u16, ScenarioError>
-    requires { length columns.now ≤ 8 }
+    requires { length columns.now ≤ COLUMNS }
     ensures { Answers (form.key_column columns.now name.now) result }
 {
     if !is_table_name(name) {
@@ -165,7 +165,7 @@ fn key_part(
     places: &[u16],
     value: &Value,
 ) -> Result<u16, ScenarioError>
-    requires { length columns.now ≤ 8 }
+    requires { length columns.now ≤ COLUMNS }
     ensures { Answers (form.key_part columns.now places.now (view value.now)) result }
 {
     let name = text_in(alloc, value)?;
@@ -181,7 +181,7 @@ fn each_key_part(
     columns: &[(Text, ColType)],
     values: &[Value],
 ) -> Result<Vec<u16>, ScenarioError>
-    requires { length columns.now ≤ 8 }
+    requires { length columns.now ≤ COLUMNS }
     ensures { AnswersAs vec_of (each (form.key_part columns.now) [] (items_view values.now)) result }
 {
     let mut places = Vec::new(alloc);
@@ -201,7 +201,7 @@ fn key_list(
     columns: &[(Text, ColType)],
     found: Option<&Value>,
 ) -> Result<List<u16>, ScenarioError>
-    requires { length columns.now ≤ 8 }
+    requires { length columns.now ≤ COLUMNS }
     ensures { Answers (form.key_list columns.now (option_map view (option_copied found.entry))) result }
 {
     let values = list(alloc, KEY_PARTS, found)?;
@@ -219,7 +219,7 @@ fn key(
     columns: &[(Text, ColType)],
     found: Option<&Value>,
 ) -> Result<List<u16>, ScenarioError>
-    requires { length columns.now ≤ 8 }
+    requires { length columns.now ≤ COLUMNS }
     ensures { Answers (form.key columns.now (option_map view (option_copied found.entry))) result }
 {
     match found.and_then(Value::as_str) {
@@ -245,7 +245,7 @@ fn heading(
     value: &Value,
 ) -> Result<(Text, BranchKind, List<(Text, ColType)>), ScenarioError>
     ensures exact { Answers (form.heading defs.now (view value.now)) result }
-    ensures few { IfOk result (λ head. length head.2 ≤ 8) }
+    ensures few { IfOk result (λ head. length head.2 ≤ COLUMNS) }
 {
     an_object(alloc, value)?;
     let name = table_name(alloc, defs, value.get("name")).map_err(|fault| fault.in_member(
@@ -267,7 +267,7 @@ fn content(
     value: &Value,
 ) -> Result<(List<u16>, List<Row>), ScenarioError>
     requires used { used ≤ RESOURCE_ROWS }
-    requires columns { length columns.now ≤ 8 }
+    requires columns { length columns.now ≤ COLUMNS }
     ensures exact { Answers (form.content used columns.now (view value.now)) result }
     ensures few { IfOk result (λ t. used + length t.1 ≤ RESOURCE_ROWS) }
 {

@@ -1,9 +1,8 @@
 -- Where no two AT branches have one ticket, the first transaction that has a branch of a ticket is the one of each such branch.
-use Rattle.std.proofs.Common.{◌≡◌, ◌==◌, ◌&&◌, ◌||◌, ℕ, not, Bool, true, false, cond, List, [], ◌∷◌, ◌++◌, Option, Some, None, refl, sym, ap, ◌∙◌}
+use Rattle.std.proofs.Common.{◌≡◌, ◌||◌, not, Bool, true, false, cond, List, [], ◌∷◌, ◌++◌, Option, Some, None, refl, sym, ap, ◌∙◌}
 use Rattle.std.specs.Prelude.{find, option_map}
 use Rattle.std.specs.List.{list_any, flat_map}
 use Rattle.seata_types.specs.declared.ids.Xid.{Xid}
-use Rattle.seata_types.specs.declared.ids.Ticket.{Ticket}
 use Rattle.seata_types.specs.declared.statuses.BranchKind.{BranchKind}
 use Rattle.seata_types.specs.declared.statuses.BranchKind.TheVariants as kind
 use Rattle.durable_records.specs.Branches.{is_at}
@@ -14,7 +13,7 @@ use Rattle.session_log.specs.declared.sessions.Snapshot.{Snapshot}
 use Rattle.session_log.specs.Soundness.{is_at_branch, differ_after, all_differ, same_ticket_key, ticket_of, branch_ticket, entry_tickets, tickets}
 use Rattle.session_memory.specs.Lookups.{or_else, leg_of, has_ticket}
 use Rattle.session_memory.specs.Order.{Each}
-use Rattle.session_memory.specs.Owners.{Owners, owner_of, IsOwned, EachOwned, AreOwned, leg_xid, first_owner, owner_among, Takes}
+use Rattle.session_memory.specs.Owners.{Owners, IsOwned, EachOwned, AreOwned, leg_xid, first_owner, owner_among, Takes}
 use Rattle.session_memory.proofs.Small.{and_left, and_right, not_true, false_true, true_false}
 use Rattle.session_memory.proofs.Lists.{each_all, each_same, each_pair, find_missing}
 use Rattle.session_memory.proofs.OwnerLaws.{has_key, has_own, same_keys, first_next}

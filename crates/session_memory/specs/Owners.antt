@@ -1,5 +1,5 @@
 -- Which transaction has the AT branch of a ticket.
-use Rattle.std.specs.Prelude.{◌≡◌, ℕ, ◌==◌, Bool, true, false, List, [], ◌∷◌, length, max, Option, Some, None, option_map}
+use Rattle.std.specs.Prelude.{◌≡◌, ℕ, ◌==◌, true, false, List, [], ◌∷◌, length, max, Option, Some, option_map}
 use Rattle.std.specs.BTreeMap.{is_at as is_at_key}
 use Rattle.std.specs.Map.{lookup}
 use Rattle.std.specs.declared.cmp.Ordering.{Ordering}

@@ -1,8 +1,7 @@
 //! The table of locks of a snapshot.
-ghost use Rattle.std.specs.Prelude.{◌≡◌, ◌∷◌, []};
-ghost use Rattle.lock_table.specs.Locks.{first_held};
+ghost use Rattle.std.specs.Prelude.{◌∷◌, []};
 ghost use Rattle.session_memory.specs.Holding.{keeps_rows, held_by_branches, held_by, held};
-ghost use Rattle.session_memory.specs.Loading.{TakesEach, are_taken, taken};
+ghost use Rattle.session_memory.specs.Loading.{TakesEach};
 
 use crate::errors::LoadError;
 use crate::statuses;

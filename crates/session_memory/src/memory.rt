@@ -1,8 +1,8 @@
 //! The memory of a coordinator.
-ghost use Rattle.std.specs.Prelude.{◌≡◌, ◌<◌, ◌≤◌, ◌+◌, ◌*◌, ◌^◌, ◌&&◌, ◌++◌, [], map, length, is_none, true, IfOk, IfErr, OnOk, OnErr, Some, None, Err, Ok};
+ghost use Rattle.std.specs.Prelude.{◌≡◌, ◌<◌, ◌≤◌, ◌+◌, ◌*◌, ◌^◌, ◌&&◌, [], map, length, is_none, true, IfOk, OnOk, OnErr, Some, None, Err, Ok};
 ghost use Rattle.std.specs.Option.{option_copied};
 ghost use Rattle.durable_records.specs.declared.coordinators.SessionRecord.TheVariants as log;
-ghost use Rattle.lock_table.specs.Locks.{HaveOneHolder, locks, TakesAtMost};
+ghost use Rattle.lock_table.specs.Locks.{locks, TakesAtMost};
 ghost use Rattle.lock_table.specs.Answers.{FindsConflict};
 ghost use Rattle.session_log.specs.SnapshotOf.{snapshot_of};
 ghost use Rattle.session_log.specs.Soundness.{all_differ, same_ticket_key, tickets};

@@ -1,5 +1,5 @@
 //! The transaction of each AT branch, by its ticket.
-ghost use Rattle.std.specs.Prelude.{◌≡◌, ◌∷◌, [], IfOk, OnOk, OnErr, Some, true, false};
+ghost use Rattle.std.specs.Prelude.{◌≡◌, ◌∷◌, [], IfOk, OnOk, OnErr, Some, false};
 ghost use Rattle.std.specs.BTreeMap.{insert_entry, is_at as is_at_key};
 ghost use Rattle.std.specs.Map.{remove_entry};
 ghost use Rattle.lock_table.specs.Locks.{is_holder};

@@ -16,7 +16,7 @@ use Rattle.sql_reader.specs.Spelling.{meaning, spelled}
 use Rattle.sql_reader.proofs.Ahead.{eat-ahead}
 use Rattle.sql_reader.proofs.Spelled.{spelled-reads}
 use Rattle.sql_reader.proofs.Uniform as u
-use Rattle.sql_reader.proofs.Uniform.{from_where, Passes, Uniform, leaves, longer}
+use Rattle.sql_reader.proofs.Uniform.{from_where, Passes, Uniform, leaves}
 
 -- The same tokens, or the same up to a WHERE, behind which one and two stand.
 record UpToWhere (one two ts us : List Token) : Type 0 where

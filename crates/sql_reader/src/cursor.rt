@@ -1,5 +1,5 @@
 //! A place in a list of tokens.
-ghost use Rattle.std.specs.Prelude.{◌≡◌, ◌≢◌, length, true, false};
+ghost use Rattle.std.specs.Prelude.{◌≡◌, length, true, false};
 ghost use Rattle.sql_reader.specs.Parsing as spec;
 ghost use Rattle.sql_reader.specs.Parsing.{Reads};
 

@@ -1,5 +1,4 @@
 //! Lists of a statement: an item, and more behind commas.
-ghost use Rattle.std.specs.Prelude.{◌≡◌};
 ghost use Rattle.sql_reader.specs.Parsing.{Parser, Reads};
 ghost use Rattle.sql_reader.specs.Grammar as spec;
 

@@ -1,5 +1,4 @@
 //! The four statements.
-ghost use Rattle.std.specs.Prelude.{◌≡◌};
 ghost use Rattle.sql_reader.specs.Parsing.{Reads};
 ghost use Rattle.sql_reader.specs.Grammar as spec;
 

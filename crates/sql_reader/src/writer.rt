@@ -1,6 +1,5 @@
 //! A text that grows piece by piece, with the spaces between.
-ghost use Rattle.std.specs.Prelude.{◌≡◌, ◌≢◌, ◌++◌, ◌∷◌, [], ◌||◌, OnOk, IfOk, string_bytes, true, false};
-ghost use Rattle.std.specs.Fmt.{signed_decimal};
+ghost use Rattle.std.specs.Prelude.{◌≡◌, ◌++◌, ◌∷◌, [], ◌||◌, OnOk, IfOk, string_bytes, true, false};
 ghost use Rattle.std.specs.Str.{byte};
 ghost use Rattle.sql_reader.specs.Canonical as spec;
 

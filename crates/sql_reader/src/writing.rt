@@ -1,8 +1,7 @@
 //! Writes statements.
-ghost use Rattle.std.specs.Prelude.{◌≡◌, ◌<◌, ◌≤◌, ◌+◌, ◌*◌, ◌∷◌, ◌++◌, [], ◌||◌, OnOk, IfOk, map, string_bytes, Ok};
+ghost use Rattle.std.specs.Prelude.{◌≡◌, ◌<◌, ◌≤◌, ◌+◌, ◌*◌, ◌∷◌, ◌++◌, [], ◌||◌, OnOk, IfOk, string_bytes, Ok};
 ghost use Rattle.seata_types.specs.Condition.{nodes};
 ghost use Rattle.sql_reader.specs.Pending.{stacked, turns};
-ghost use Rattle.std.specs.List.{flat_map};
 ghost use Rattle.sql_reader.specs.Canonical as spec;
 ghost use Rattle.sql_reader.specs.Canonical.{canonical_text, written};
 ghost use Rattle.sql_reader.specs.Answer.{reading};

@@ -1,4 +1,4 @@
-use Rattle.std.proofs.Common.{rules, ◌≡◌, ◌∙◌, ap, sym, Some, None, length, option_map, arith}
+use Rattle.std.proofs.Common.{rules, ◌≡◌, ap, sym, Some, length, option_map, arith}
 use Rattle.std.specs.VecDeque.{deque_len}
 use Rattle.local_txn.specs.Answers.{raised}
 use Rattle.local_txn.specs.RowIndex.{place_from}

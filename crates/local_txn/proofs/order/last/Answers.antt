@@ -1,5 +1,4 @@
-use Rattle.std.proofs.Common.{rules, ◌≡◌, ◌-◌, ◌<◌, length, ap, sym, ◌∙◌, option_map, arith}
-use Rattle.std.specs.Prelude.{slice_index_or}
+use Rattle.std.proofs.Common.{rules, ◌≡◌, ◌-◌, ◌<◌, length, ap, sym, option_map, arith}
 use Rattle.std.specs.VecDeque.{deque_len}
 use Rattle.local_txn.specs.Answers.{ticket_of}
 use Rattle.local_txn.proofs.PlaceLaws.{last_at}

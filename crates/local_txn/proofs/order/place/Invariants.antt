@@ -1,5 +1,4 @@
 use Rattle.std.proofs.Common.{◌≡◌, ◌+◌, length}
-use Rattle.std.specs.VecDeque.{deque_len}
 use Rattle.std.specs.VecDeque.Iter.{deque_iter_rest}
 use Rattle.local_txn.specs.RowIndex.{place_from}
 use Rattle.local_txn.proofs.order.place.Given as goal

@@ -1,7 +1,5 @@
-use Rattle.std.proofs.Common.{rules, ◌≡◌, ◌∙◌, ◌<◌, ap, sym, Some, map, length, option_map, arith}
+use Rattle.std.proofs.Common.{◌≡◌, sym, Some, arith}
 use Rattle.std.specs.List.{remove}
-use Rattle.std.proofs.lemmas.Grind.{common_steps}
-use Rattle.local_txn.specs.Answers.{open_of}
 use Rattle.local_txn.specs.RowIndex.{place_from}
 use Rattle.local_txn.proofs.PlaceLaws.{placed, no_place, taken_is, took}
 use Rattle.local_txn.proofs.order.take.Goals as goal

@@ -1,4 +1,4 @@
-use Rattle.std.proofs.Common.{◌≡◌, Some, rules, ap, arith}
+use Rattle.std.proofs.Common.{◌≡◌, Some, rules, arith}
 use Rattle.std.specs.Prelude.{option_map}
 use Rattle.std.specs.BTreeSet as sets
 use Rattle.std.proofs.lemmas.Grind.{common_steps}

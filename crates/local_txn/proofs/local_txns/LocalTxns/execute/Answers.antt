@@ -1,11 +1,11 @@
-use Rattle.std.proofs.Common.{◌≡◌, ◌∙◌, List, map, None, ap, sym, arith}
+use Rattle.std.proofs.Common.{◌≡◌, ◌∙◌, None, ap, sym, arith}
 use Rattle.std.proofs.lemmas.Grind.{common_steps}
 use Rattle.seata_types.specs.declared.statements.Work.TheVariants as work
 use Rattle.local_tables.specs.Calls.{effect}
 use Rattle.local_txn.specs.Answers.{open_of, owner_by, ticket_of}
-use Rattle.local_txn.specs.OpenTickets.{Open, has_row, busy_row, opening_of}
+use Rattle.local_txn.specs.OpenTickets.{has_row, busy_row, opening_of}
 use Rattle.local_txn.proofs.IndexLaws.{free_rows}
-use Rattle.local_txn.proofs.CallLaws.{told_busy, executed, busy_is, none_told}
+use Rattle.local_txn.proofs.CallLaws.{told_busy, executed, none_told}
 use Rattle.local_txn.proofs.local_txns.LocalTxns.execute.Goals as goal
 
 pub returns-in-Some : goal.returns-in-Some

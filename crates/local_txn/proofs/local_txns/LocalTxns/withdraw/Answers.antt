@@ -1,6 +1,6 @@
-use Rattle.std.proofs.Common.{◌≡◌, ◌∙◌, ◌-◌, List, map}
-use Rattle.local_txn.specs.Answers.{Tickets, open_of, with_opens}
-use Rattle.local_txn.specs.OpenTickets.{Open, without}
+use Rattle.std.proofs.Common.{◌∙◌, ◌-◌, List, map}
+use Rattle.local_txn.specs.Answers.{open_of}
+use Rattle.local_txn.specs.OpenTickets.{Open}
 use Rattle.local_txn.proofs.CallLaws.{tickets, last_counted, keeps_withdrawn, view_withdrawn, back}
 use Rattle.local_txn.proofs.local_txns.LocalTxns.withdraw.Goals as goal
 
