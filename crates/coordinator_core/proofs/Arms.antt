@@ -19,13 +19,12 @@ use Rattle.history_rules.specs.Devices.{is_down as down_by}
 use Rattle.history_rules.specs.CoordinatorMemory.{Times}
 use Rattle.history_rules.specs.Nodes.{Resource, Manager, happens}
 use Rattle.history_rules.specs.Nodes.{Coordinator as CoordinatorRole}
-use Rattle.history_text.specs.Durable.{SamePicks}
-use Rattle.history_text.specs.Promises.{Does, StaysItself, own_entry}
+use Rattle.history_text.specs.Promises.{Does, own_entry}
 use Rattle.coordinator_core.specs.declared.nodes.Coordinator.{Coordinator}
 use Rattle.coordinator_core.specs.Knowledge.{knowledge, times_in}
 use Rattle.coordinator_core.specs.Moving.{ArmsPair, ArmsSessions, Arms}
-use Rattle.coordinator_core.specs.Standing.{StandsAs, StandsOver, course, pair_of, disks_of, sessions_of, start_of, is_down, times_of, serves}
-use Rattle.coordinator_core.specs.Stepping.{stands_at}
+use Rattle.coordinator_core.specs.Standing.{StandsAs, StandsOver, course, pair_of, sessions_of, start_of, is_down, times_of}
+use Rattle.coordinator_core.specs.Stepping.{ArmsBy, CrashesBy}
 use Rattle.coordinator_core.specs.Tracks.{Follows}
 use Rattle.coordinator_core.proofs.Disks.{false_true, Moved, pair_on, same_kind, on_armed, on_crashed}
 use Rattle.coordinator_core.proofs.Stays.{Remains, stays_itself, same_picks}
@@ -151,6 +150,7 @@ module _ {D : Type 0} (state : D → DiskState) where
   remains_armed calls old new a = record {
     managers = a.opening.managers;
     resources = a.opening.resources;
+    found = a.opening.found;
     moved = record {
       own = omega (arith, a.pair.own);
       first_pick = ap (option_map (λ (c : Content). c.last_pick)) a.pair.first_content;
@@ -167,6 +167,7 @@ module _ {D : Type 0} (state : D → DiskState) where
   remains_fallen old new same opening = record {
     managers = opening.managers;
     resources = opening.resources;
+    found = opening.found;
     moved = subst (λ p. Moved (pair_of state old) p) (same_pair old new same) (record {
       own = omega arith;
       first_pick = refl;
@@ -192,7 +193,7 @@ module _ {D : Type 0} (state : D → DiskState) where
       same_knowledge : knowledge c.table ≡ knowledge c'.table
       same_knowledge = λ i. record { retry = sym a.rest.retry i; forget = sym a.rest.forget i; memory = sym a.sessions.known i; moments = sym a.moments i }
 
-      pub arm_does : (now : ℕ) → Does (StandsAs state) c c' (Stopped calls) now (still act.Armed)
+      arm_does : (now : ℕ) → Does (StandsAs state) c c' (Stopped calls) now (still act.Armed)
       arm_does now (CoordinatorRole times past) owns (same, s) = (
         armed_happens times past owns now calls (upon c past owns up s),
         (
@@ -208,22 +209,21 @@ module _ {D : Type 0} (state : D → DiskState) where
       arm_does now (Resource setup past) owns s = absurd s
       arm_does now (Manager settings) owns s = absurd s
 
-      pub arm_same : StaysItself stands_at serves (disks_of state) c c'
-      arm_same = stays_itself state c c' (remains_armed calls (sessions_of c) (sessions_of c') a.sessions)
-
-      pub arm_picks : SamePicks (disks_of state c) (disks_of state c')
-      arm_picks = same_picks state c c' (remains_armed calls (sessions_of c) (sessions_of c') a.sessions)
+      pub arms_by : ArmsBy state c c' calls
+      arms_by =
+          let remains = remains_armed calls (sessions_of c) (sessions_of c') a.sessions in record {
+            does = arm_does;
+            same = stays_itself state c c' remains;
+            picks = same_picks state c c' remains;
+            counted = a.rest.left;
+            up = a.sessions.down ∙ up;
+            found = remains.found;
+          }
 
     -- its sessions fell, and nothing was in flight
     module _ (disks : SameDisks (sessions_of c) (sessions_of c')) (opening : SameOpening (sessions_of c) (sessions_of c')) (down : is_down c' ≡ true) where
-      pub crash_same : StaysItself stands_at serves (disks_of state) c c'
-      crash_same = stays_itself state c c' (remains_fallen (sessions_of c) (sessions_of c') disks opening)
-
-      pub crash_picks : SamePicks (disks_of state c) (disks_of state c')
-      crash_picks = same_picks state c c' (remains_fallen (sessions_of c) (sessions_of c') disks opening)
-
       module _ (times : times_of c ≡ times_of c') (clock : start_of c' ≡ start_of c) (flight : c'.flight ≡ None) (count : c'.records ≡ (known (sessions_of c)).acts) where
-        pub crash_does : (now : ℕ) → Does (StandsAs state) c c' Crashed now (still (act.Down None None))
+        crash_does : (now : ℕ) → Does (StandsAs state) c c' Crashed now (still (act.Down None None))
         crash_does now (CoordinatorRole role past) owns (same, s) =
             let keeps = s.disks.keeps (upon c past owns up s) in
             let follows = s.follows (upon c past owns up s) in (
@@ -245,3 +245,14 @@ module _ {D : Type 0} (state : D → DiskState) where
             )
         crash_does now (Resource setup past) owns s = absurd s
         crash_does now (Manager settings) owns s = absurd s
+
+        pub crashes_by : c'.left ≡ c.left → CrashesBy state c c'
+        crashes_by left =
+            let remains = remains_fallen (sessions_of c) (sessions_of c') disks opening in record {
+              does = crash_does;
+              same = stays_itself state c c' remains;
+              picks = same_picks state c c' remains;
+              counted = left;
+              down = down;
+              found = remains.found;
+            }

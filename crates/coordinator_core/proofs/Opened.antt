@@ -1,14 +1,18 @@
 -- The coordinator after its opening.
-use Rattle.std.proofs.Common.{◌≡◌, ◌⊎◌, inl, inr, ◌≤◌, ℕ, true, false, List, [], ◌∷◌, Some, None, sym, ap, subst, ◌∙◌, arith}
+use Rattle.std.proofs.Common.{◌≡◌, ◌⊎◌, inl, inr, ◌*◌, ◌≤◌, ℕ, true, false, List, [], ◌∷◌, Some, None, sym, ap, subst, ◌∙◌, arith}
 use Rattle.std.specs.List.{list_all}
 use Rattle.std.proofs.lemmas.Bool.Decides.{nat_tests}
 use Rattle.disk_model.specs.Disk.{DiskState, HasCause, IsLawful, IsSettled, Rose, present}
 use Rattle.disk_model.specs.Stop.{below, stop_of, left_of, state_of}
 use Rattle.disk_model.specs.declared.stoppable.Stop.TheVariants.{Off}
 use Rattle.disk_model.specs.declared.stoppable.Stoppable.{Stoppable}
+use Rattle.disk_journal.specs.Keeping.{OnlyReads}
+use Rattle.disk_journal.specs.Reading.{row_length}
 use Rattle.seata_types.specs.declared.errors.OpenError.{OpenError}
 use Rattle.seata_types.specs.declared.errors.OpenError.TheVariants as open_error
 use Rattle.seata_types.specs.declared.limits.TheConstants.{MANAGERS, CALLS}
+use Rattle.journal_checkpoint.specs.declared.types.Found.{Found}
+use Rattle.journal_checkpoint.specs.Images.{PairStandsFor}
 use Rattle.journal_checkpoint.specs.Keeping.{active_disk, other_disk, first_disk, second_disk, is_second}
 use Rattle.memory_store.specs.Keeping.{FindsFirst, IsDamage, IsNotFull, IsOf}
 use Rattle.memory_store.specs.Settling.{RunsOn}
@@ -23,7 +27,7 @@ use Rattle.session_store.specs.Standing.{StandsForSessions}
 use Rattle.session_memory.proofs.Small.{and_left, and_right}
 use Rattle.coordinator_core.specs.declared.nodes.Coordinator.{Coordinator}
 use Rattle.seata_types.specs.declared.limits.TheConstants.{NODE_STEPS}
-use Rattle.coordinator_core.specs.Opening.{GoOnAs, HandsBack, IsOpened, IsOpenedDisk}
+use Rattle.coordinator_core.specs.Opening.{AreReadWhereShort, GoOnAs, HandsBack, IsOnlyRead, IsOpened, IsOpenedDisk}
 use Rattle.coordinator_core.specs.Standing.{StandsOver, pair_of, active_of, sessions_of, start_of, is_down, managers, resources}
 use Rattle.coordinator_core.specs.Starting.{started_on, no_moments, start_in}
 use Rattle.coordinator_core.specs.Tracks.{Tracks, IsSendable, AreSendable}
@@ -82,6 +86,13 @@ module _ {D : Type 0} (state : D → DiskState) (d : D) (s : Stoppable D) (same 
   pub told_below : (a : List ℕ) → present (state d) ≡ Some a → present (state_of state s) ≡ Some a
   told_below a told = ap (λ q. present (state q)) same ∙ told
 
+  -- a disk that was only read with its stop was only read below it
+  pub only_read : (s' : Stoppable D) → OnlyReads (state_of state s) (state_of state s') → IsOnlyRead (state d) (state (below s'))
+  only_read s' r = subst (λ q. IsOnlyRead (state q) (state (below s'))) same (record {
+    content = record { content = r.content.content; images = r.content.images; outcomes = r.content.outcomes };
+    images = record { now = r.images.now; later = r.images.later; since = r.images.since; kept = r.images.kept };
+  })
+
   module _ (s' : Stoppable D) (ran : RunsOn (state_of state s) (state_of state s')) where
     pub opened_disk : IsOpenedDisk (state d) (state (below s'))
     opened_disk = subst (λ q. IsOpenedDisk (state q) (state (below s'))) same (record {
@@ -111,11 +122,25 @@ module _ {D : Type 0} (state : D → DiskState) (law : (d : Stoppable D) → IsL
   of_told : (P : List ℕ → List ℕ → Type 0) → Told P → (a b : List ℕ) → present (state first) ≡ Some a → present (state second) ≡ Some b → P a b
   of_told P told a b is too = told a b (told_below state first s1 one a is) (told_below state second s2 two b too)
 
+  -- what the sessions say of disks with their stops that hold short records
+  abbrev pub ReadsWhereShort : (d1 d2 : Stoppable D) → Type 0
+  ReadsWhereShort d1 d2 =
+      (a b : List ℕ) (found : Found) → present (state_of state s1) ≡ Some a → present (state_of state s2) ≡ Some b → PairStandsFor found a b →
+      2 * row_length found.records ≤ (state_of state s1).size → 2 * row_length found.records ≤ (state_of state s2).size →
+      OnlyReads (state_of state s1) (state_of state d1) × OnlyReads (state_of state s2) (state_of state d2)
+
+  read_below : (d1 d2 : Stoppable D) → ReadsWhereShort d1 d2 → AreReadWhereShort (state first) (state second) (state (below d1)) (state (below d2))
+  read_below d1 d2 reads a b found is too stands short_first short_second =
+      let both = reads a b found (told_below state first s1 one a is) (told_below state second s2 two b too) stands
+      (subst (λ q. 2 * row_length found.records ≤ (state q).size) (sym one) short_first) (subst (λ q. 2 * row_length found.records ≤ (state q).size) (sym two) short_second) in
+      (only_read state first s1 one d1 both.0, only_read state second s2 two d2 both.1)
+
   module _ (few : manager_count ≤ MANAGERS) (c : Coordinator D)
       (keeps : (rs : List SessionRecord) → Told (λ a b. StandsForSessions manager_count resource_count rs a b → KeepsRecords (state_of state) rs (sessions_of c)))
       (place : Told (λ a b. FindsFirst a b (store_of (sessions_of c))))
       (settles : Told (λ a b. IsOf (state_of state) (meaning_of manager_count resource_count) a b (store_of (sessions_of c))))
       (images : GoOnAs manager_count resource_count (state_of state s1) (state_of state s2) (pair_of state (sessions_of c)).first (pair_of state (sessions_of c)).second)
+      (not_due : ReadsWhereShort (first_disk (twin (sessions_of c))) (second_disk (twin (sessions_of c))))
       (ran1 : RunsOn (state_of state s1) (pair_of state (sessions_of c)).first) (ran2 : RunsOn (state_of state s2) (pair_of state (sessions_of c)).second)
       (managers_are : managers c ≡ manager_count) (resources_are : resources c ≡ resource_count) (up : is_down c ≡ false)
       (starts_at : start_of c ≡ start_in (known (sessions_of c))) (moments : c.table.moments ≡ started_on (start_of c) (known (sessions_of c)).sessions no_moments)
@@ -134,6 +159,7 @@ module _ {D : Type 0} (state : D → DiskState) (law : (d : Stoppable D) → IsL
       place = of_told (λ a b. FindsFirst a b (store_of (sessions_of c))) place;
       settles = of_told (λ a b. IsOf (state_of state) (meaning_of manager_count resource_count) a b (store_of (sessions_of c))) settles;
       images = λ a b x y is too. images a b x y (told_below state first s1 one a is) (told_below state second s2 two b too);
+      not_due = read_below (first_disk (twin (sessions_of c))) (second_disk (twin (sessions_of c))) not_due;
       first_disk = opened_disk state first s1 one (first_disk (twin (sessions_of c))) ran1;
       second_disk = opened_disk state second s2 two (second_disk (twin (sessions_of c))) ran2;
       managers_are = managers_are;
@@ -143,7 +169,7 @@ module _ {D : Type 0} (state : D → DiskState) (law : (d : Stoppable D) → IsL
     }
 
   module _ (error : OpenError) (d1 d2 : Stoppable D) (images : GoOnAs manager_count resource_count (state_of state s1) (state_of state s2) (state_of state d1) (state_of state d2))
-      (ran1 : RunsOn (state_of state s1) (state_of state d1)) (ran2 : RunsOn (state_of state s2) (state_of state d2)) where
+      (not_due : ReadsWhereShort d1 d2) (ran1 : RunsOn (state_of state s1) (state_of state d1)) (ran2 : RunsOn (state_of state s2) (state_of state d2)) where
     pub hands_back : ((rs : List SessionRecord) → Told (λ a b. StandsForSessions manager_count resource_count rs a b → IsNoDamage error)) → Told (λ a b. IsDamage (meaning_of manager_count resource_count) a b error)
         → IsNotFull error
         → (error ≡ open_error.Failed → HasCause (state_of state s1).counts (state_of state d1).counts ⊎ HasCause (state_of state s2).counts (state_of state d2).counts)
@@ -154,6 +180,7 @@ module _ {D : Type 0} (state : D → DiskState) (law : (d : Stoppable D) → IsL
       not_full = not_full;
       cause = λ e. causes (failed e);
       images = λ a b x y is too. images a b x y (told_below state first s1 one a is) (told_below state second s2 two b too);
+      not_due = read_below d1 d2 not_due;
       first_disk = opened_disk state first s1 one d1 ran1;
       second_disk = opened_disk state second s2 two d2 ran2;
     }
@@ -171,6 +198,7 @@ module _ {D : Type 0} (state : D → DiskState) (law : (d : Stoppable D) → IsL
       not_full = tt;
       cause = λ e. absurd (let no : open_error.NoMemory ≡ open_error.Failed = e in cc);
       images = λ a b x y is too. images a b x y (told_below state first s1 one a is) (told_below state second s2 two b too);
+      not_due = read_below d1 d2 not_due;
       first_disk = opened_disk state first s1 one d1 ran1;
       second_disk = opened_disk state second s2 two d2 ran2;
     }

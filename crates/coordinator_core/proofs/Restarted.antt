@@ -18,7 +18,7 @@ use Rattle.seata_types.specs.declared.errors.OpenError.TheVariants as open_error
 use Rattle.durable_records.specs.declared.coordinators.SessionRecord.{SessionRecord}
 use Rattle.session_log.specs.declared.sessions.Snapshot.{Snapshot}
 use Rattle.session_store.specs.declared.sessions.Sessions.{Sessions}
-use Rattle.session_store.specs.Keeping.{known, twin, is_down as sessions_down, managers_of, resources_of, SameOpening, StandsFor, KeepsRecords, BringsBack, GoesOnAs, IsNoDamage}
+use Rattle.session_store.specs.Keeping.{known, twin, found_of, is_down as sessions_down, managers_of, resources_of, SameOpening, StandsFor, KeepsRecords, BringsBack, GoesOnAs, IsNoDamage}
 use Rattle.session_store.specs.Meaning.{meaning_of}
 use Rattle.session_store.proofs.SessionLaws.{came_back, not_damaged}
 use Rattle.history_rules.specs.Own.{Own, Left, Restarted, still, added, leaves, asked_act, kept_part}
@@ -357,6 +357,7 @@ module _ {D : Type 0} (state : D → DiskState) (law : (d : Stoppable D) → IsL
         (subst (λ q. SameKind (disks_of state c).second (pair_of state q).second) (sym is) up.second.kind);
     counted = rest.left;
     down = ap sessions_down is ∙ fell;
+    found = ap found_of is ∙ opening.found;
   }
     where
       failing : error ≡ open_error.Failed → DisksFail (disks_of state c) (disks_of state c')
@@ -381,6 +382,7 @@ module _ {D : Type 0} (state : D → DiskState) (law : (d : Stoppable D) → IsL
           same = same_by state c c' now_opening (subst (λ (p : Pair). SameKind (disks_of state c).first p.first) pair both.first.kind) (subst (λ (p : Pair). SameKind (disks_of state c).second p.second) pair both.second.kind);
           counted = beside.left;
           down = fell.down;
+          found = now_opening.found;
         }
       where
         over : {s t : Sessions (Stoppable D)} → SameOpening (sessions_of c) s → SameOpening s t → SameOpening (sessions_of c) t
@@ -417,6 +419,7 @@ module _ {D : Type 0} (state : D → DiskState) (law : (d : Stoppable D) → IsL
         same = same_by state c c' all_opening kind_first kind_second;
         counted = all_rest.left;
         down = armed.down ∙ up;
+        found = all_opening.found;
       })
         where
           sessions2 : sessions_of c2 ≡ s1

@@ -329,6 +329,7 @@ module _ {D : Type 0} (state : D → DiskState) (law : (d : Stoppable D) → IsL
         picks = same_picks state c c' remains;
         counted = counted;
         down = up_after step.act a.1;
+        found = remains.found;
       }
 
   -- it ends without an answer
@@ -345,6 +346,7 @@ module _ {D : Type 0} (state : D → DiskState) (law : (d : Stoppable D) → IsL
         picks = same_picks state c c' remains;
         counted = m.2;
         down = i.loses.down;
+        found = remains.found;
       }
   missed (error.Full full) i m =
       let remains = remains_same state (sessions_of c) (sessions_of c') i.sessions in record {
@@ -360,6 +362,7 @@ module _ {D : Type 0} (state : D → DiskState) (law : (d : Stoppable D) → IsL
         picks = same_picks state c c' remains;
         counted = omega (arith, m);
         down = ap sessions_down i.sessions ∙ up;
+        found = remains.found;
       }
   missed error.NoMemory i m =
       let remains = remains_same state (sessions_of c) (sessions_of c') i.1 in record {
@@ -372,6 +375,7 @@ module _ {D : Type 0} (state : D → DiskState) (law : (d : Stoppable D) → IsL
         picks = same_picks state c c' remains;
         counted = omega (arith, m);
         down = ap sessions_down i.1 ∙ up;
+        found = remains.found;
       }
 
   -- the same where the act in flight is kept after the table's answer

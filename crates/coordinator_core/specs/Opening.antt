@@ -1,9 +1,12 @@
 -- What an opening of the coordinator gives, or hands back.
-use Rattle.std.specs.Prelude.{◌≡◌, ◌⊎◌, ◌≤◌, ℕ, false, List, [], Some}
-use Rattle.disk_model.specs.Disk.{DiskState, KeepsRest, Rose, present}
+use Rattle.std.specs.Prelude.{◌≡◌, ◌⊎◌, ◌*◌, ◌≤◌, ℕ, false, List, [], Some}
+use Rattle.disk_model.specs.Disk.{DiskState, KeepsContent, KeepsRest, Leaves, Rose, present}
 use Rattle.disk_model.specs.Stop.{below, state_of}
 use Rattle.seata_types.specs.declared.errors.OpenError.{OpenError}
 use Rattle.seata_types.specs.declared.errors.OpenError.TheVariants as open_error
+use Rattle.disk_journal.specs.Reading.{row_length}
+use Rattle.journal_checkpoint.specs.declared.types.Found.{Found}
+use Rattle.journal_checkpoint.specs.Images.{PairStandsFor}
 use Rattle.journal_checkpoint.specs.Keeping.{first_disk, second_disk}
 use Rattle.memory_store.specs.Keeping.{IsDamage, IsNotFull, IsOf, FindsFirst}
 use Rattle.durable_records.specs.declared.coordinators.SessionRecord.{SessionRecord}
@@ -18,6 +21,17 @@ use Rattle.coordinator_core.specs.Standing.{StandsOver, is_down, managers, resou
 pub record IsOpenedDisk (old new : DiskState) : Type 0 where
   pub rest : KeepsRest old new
   pub faults : old.counts.faults ≤ new.counts.faults
+
+-- a disk that was only read: its content stays, and so does what a crash leaves of it, at each moment since
+pub record IsOnlyRead (old new : DiskState) : Type 0 where
+  pub content : KeepsContent old new
+  pub images : Leaves old new old.may_leave
+
+-- where the records take at most half of either disk no byte was changed
+abbrev pub AreReadWhereShort : (first second now_first now_second : DiskState) → Type 0
+AreReadWhereShort first second now_first now_second =
+    (a b : List ℕ) (found : Found) → present first ≡ Some a → present second ≡ Some b → PairStandsFor found a b →
+    2 * row_length found.records ≤ first.size → 2 * row_length found.records ≤ second.size → IsOnlyRead first now_first × IsOnlyRead second now_second
 
 -- a crash now leaves what stands for the same lists of records
 abbrev pub GoOnAs : (managers resources : ℕ) → (first second now_first now_second : DiskState) → Type 0
@@ -34,6 +48,7 @@ pub record IsOpened {D : Type 0} (state : D → DiskState) (first second : D) (m
   -- it knows what the bytes hold, with a snapshot in place of the records where one was due
   pub settles : (a b : List ℕ) → present (state first) ≡ Some a → present (state second) ≡ Some b → IsOf (state_of state) (meaning_of manager_count resource_count) a b (store_of (sessions_of c))
   pub images : GoOnAs manager_count resource_count (state first) (state second) (state (below (first_disk (twin (sessions_of c))))) (state (below (second_disk (twin (sessions_of c)))))
+  pub not_due : AreReadWhereShort (state first) (state second) (state (below (first_disk (twin (sessions_of c))))) (state (below (second_disk (twin (sessions_of c)))))
   pub first_disk : IsOpenedDisk (state first) (state (below (first_disk (twin (sessions_of c)))))
   pub second_disk : IsOpenedDisk (state second) (state (below (second_disk (twin (sessions_of c)))))
   pub managers_are : managers c ≡ manager_count
@@ -49,5 +64,6 @@ pub record HandsBack {D : Type 0} (state : D → DiskState) (first second : D) (
   pub not_full : IsNotFull failed.0
   pub cause : failed.0 ≡ open_error.Failed → Rose (state first).counts.faults (state failed.1).counts.faults ⊎ Rose (state second).counts.faults (state failed.2).counts.faults
   pub images : GoOnAs manager_count resource_count (state first) (state second) (state failed.1) (state failed.2)
+  pub not_due : AreReadWhereShort (state first) (state second) (state failed.1) (state failed.2)
   pub first_disk : IsOpenedDisk (state first) (state failed.1)
   pub second_disk : IsOpenedDisk (state second) (state failed.2)

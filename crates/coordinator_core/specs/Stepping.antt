@@ -1,8 +1,9 @@
--- What a step and a restart of the coordinator promise: all that `Node` promises of them.
-use Rattle.std.specs.Prelude.{◌≡◌, ◌+◌, ◌≤◌, ℕ, List, length, Option, Some, Result, Ok, Err, IfOk, IfErr, OnOk, OnErr}
+-- What the calls of the coordinator as a node promise: all that `Node` promises of them, and that what its opening found stays.
+use Rattle.std.specs.Prelude.{◌≡◌, ◌+◌, ◌≤◌, ℕ, true, false, List, length, Option, Some, None, Result, Ok, Err, IfOk, IfErr, OnOk, OnErr}
 use Rattle.disk_model.specs.Disk.{DiskState}
 use Rattle.disk_model.specs.Stop.{state_of}
 use Rattle.seata_types.specs.declared.acts.Act.{Act}
+use Rattle.seata_types.specs.declared.acts.Act.TheVariants as act
 use Rattle.seata_types.specs.declared.errors.NodeError.{NodeError}
 use Rattle.seata_types.specs.declared.errors.NodeError.TheVariants as error
 use Rattle.seata_types.specs.declared.errors.OpenError.{OpenError}
@@ -12,18 +13,22 @@ use Rattle.seata_types.specs.declared.ids.Place.TheVariants as place
 use Rattle.seata_types.specs.declared.messages.Input.{Input}
 use Rattle.seata_types.specs.declared.messages.Step.{Step}
 use Rattle.memory_store.specs.Keeping.{IsNotFull, StaysWhereShort}
-use Rattle.session_store.specs.Keeping.{BringsBack, twin}
-use Rattle.history_rules.specs.Own.{Own}
+use Rattle.session_store.specs.Keeping.{BringsBack, found_of, twin}
+use Rattle.history_rules.specs.Own.{Own, Stopped, Crashed, still}
 use Rattle.history_rules.specs.Nodes.{Role}
 use Rattle.history_text.specs.Durable.{SamePicks, HavePick}
 use Rattle.history_text.specs.Framing.{ComesFramable, SendsFramable}
-use Rattle.history_text.specs.Promises.{TakesStep, AfterError, HadPlace, DisksFail, StaysItself, goes_down, steps_of, AreTold, StandsAsBefore, asked_bytes, Restarts, IsRestartError, stays_down}
+use Rattle.history_text.specs.Promises.{Does, TakesStep, AfterError, HadPlace, DisksFail, StaysItself, goes_down, steps_of, AreTold, StandsAsBefore, asked_bytes, Restarts, IsRestartError, stays_down}
 use Rattle.coordinator_core.specs.declared.nodes.Coordinator.{Coordinator}
 use Rattle.coordinator_core.specs.Standing.{StandsAs, serves, sessions_of, disks_of, needs, size_of, steps_left, is_down}
 
 -- where it stands
 abbrev pub stands_at : {D : Type 0} → Coordinator D → Place
 stands_at c = place.Tc
+
+-- the first record that its opening found stays
+abbrev pub SameFound : {D : Type 0} → (old new : Coordinator D) → Type 0
+SameFound old new = found_of (sessions_of new) ≡ found_of (sessions_of old)
 
 -- the record that the rule's answer asks for, if it asks for one, ends within the active disk
 abbrev pub HasRoom : {D : Type 0} → (D → DiskState) → Coordinator D → Input → ℕ → Type 0
@@ -47,6 +52,23 @@ pub record StepsBy {D : Type 0} (state : D → DiskState) (old new : Coordinator
   pub picks : SamePicks (disks_of state old) (disks_of state new)
   pub counted : steps_left new + steps_of result ≡ steps_left old
   pub down : is_down new ≡ goes_down result
+  pub found : SameFound old new
+
+pub record ArmsBy {D : Type 0} (state : D → DiskState) (old new : Coordinator D) (calls : ℕ) : Type 0 where
+  pub does : (now : ℕ) → Does (StandsAs state) old new (Stopped calls) now (still act.Armed)
+  pub same : StaysItself stands_at serves (disks_of state) old new
+  pub picks : SamePicks (disks_of state old) (disks_of state new)
+  pub counted : steps_left new ≡ steps_left old
+  pub up : is_down new ≡ false
+  pub found : SameFound old new
+
+pub record CrashesBy {D : Type 0} (state : D → DiskState) (old new : Coordinator D) : Type 0 where
+  pub does : (now : ℕ) → Does (StandsAs state) old new Crashed now (still (act.Down None None))
+  pub same : StaysItself stands_at serves (disks_of state) old new
+  pub picks : SamePicks (disks_of state old) (disks_of state new)
+  pub counted : steps_left new ≡ steps_left old
+  pub down : is_down new ≡ true
+  pub found : SameFound old new
 
 pub record RestartsBy {D : Type 0} (state : D → DiskState) (old new : Coordinator D) (pick : ℕ) (calls : Option ℕ) (now : ℕ) (result : Result Act OpenError) : Type 0 where
   pub restarts : AreTold (disks_of state old) → IfOk result (Restarts (StandsAs state) (DisksFail (disks_of state old) (disks_of state new)) old new pick calls now)
@@ -63,3 +85,4 @@ pub record RestartsBy {D : Type 0} (state : D → DiskState) (old new : Coordina
   pub same : StaysItself stands_at serves (disks_of state) old new
   pub counted : steps_left new ≡ steps_left old
   pub down : is_down new ≡ stays_down result
+  pub found : SameFound old new

@@ -48,7 +48,7 @@ impl<D: Disk> Coordinator<D> {
     ghost use Rattle.seata_types.specs.declared.limits.TheConstants.{MANAGERS, LATEST_MOMENT};
     ghost use Rattle.coordinator_core.specs.Opening.{IsOpened, HandsBack};
     ghost use Rattle.coordinator_core.specs.Standing.{StandsOver, start_of, times_of, steps_left, serves, is_down, sessions_of, course, unended_sessions};
-    ghost use Rattle.coordinator_core.specs.Costs.{InputCosts};
+    ghost use Rattle.coordinator_core.specs.Costs.{InputCosts, InputPasses};
     ghost use Rattle.coordinator_core.specs.Moving.{kept_of, Misses, Arms, ArmsWith, ComesBack, LendsActive};
     ghost use Rattle.coordinator_core.specs.Stepping.{StepsBy, RestartsBy};
     ghost use Rattle.coordinator_core.specs.Tracks.{records};
@@ -160,8 +160,7 @@ impl<D: Disk> Coordinator<D> {
         (first.into_inner(), second.into_inner())
     }
 
-    /// Takes a step as `step` does, and counts the comparisons of keys, the look-ups of transactions and the branches that a
-    /// registration passes.
+    /// Takes a step as `step` does, and counts the comparisons of keys and the look-ups of transactions.
     pub fn step_counted<L: Ledger>(
         &mut self,
         alloc: Global,
@@ -177,8 +176,30 @@ impl<D: Disk> Coordinator<D> {
         ensures start { start_of self.new ≡ start_of self.old }
         ensures cost { InputCosts input (known (sessions_of self.old)) steps.old steps.new }
     {
+        self.step_with_passes::<L, Brand>(alloc, input, now, steps, Blank::new(1))
+    }
+
+    /// Takes a step as `step_counted` does, and counts apart how a registration's own branch is looked for: a pass for the
+    /// transaction in which it is looked for, and one for each branch that is passed.
+    pub fn step_counting_passes<L: Ledger, P: Ledger>(
+        &mut self,
+        alloc: Global,
+        input: Input,
+        now: u64,
+        steps: &mut Steps<L>,
+        passes: &mut Steps<P>,
+    ) -> Result<Step, NodeError>
+        requires up { is_down self.old ≡ false }
+        requires able { 0 < steps_left self.old }
+        requires moment { now ≤ LATEST_MOMENT }
+        requires served { serves self.old input }
+        ensures steps { StepsBy D.state self.old self.new input now result }
+        ensures start { start_of self.new ≡ start_of self.old }
+        ensures cost { InputCosts input (known (sessions_of self.old)) steps.old steps.new }
+        ensures passes { InputPasses input (known (sessions_of self.old)) passes.old passes.new }
+    {
         let records = self.table.sessions.records();
-        match self.table.answer(alloc, &input, now, steps) {
+        match self.table.answer(alloc, &input, now, steps, passes) {
             Ok(step) => {
                 drop(input);
                 self.left -= 1;
@@ -205,7 +226,31 @@ impl<D: Disk> Coordinator<D> {
         }
     }
 
-    // The same, where nobody asks for the count.
+    // A counted step, where nobody asks for the passes.
+    fn step_with_passes<L: Ledger, P: Ledger>(
+        &mut self,
+        alloc: Global,
+        input: Input,
+        now: u64,
+        steps: &mut Steps<L>,
+        blank: Blank,
+    ) -> Result<Step, NodeError>
+        requires name { blank.name ≡ P.name }
+        requires parts { blank.parts ≡ P.parts }
+        requires some { 0 < blank.parts }
+        requires up { is_down self.old ≡ false }
+        requires able { 0 < steps_left self.old }
+        requires moment { now ≤ LATEST_MOMENT }
+        requires served { serves self.old input }
+        ensures steps { StepsBy D.state self.old self.new input now result }
+        ensures start { start_of self.new ≡ start_of self.old }
+        ensures cost { InputCosts input (known (sessions_of self.old)) steps.old steps.new }
+    {
+        let mut passes = Steps::<P>::new(blank);
+        self.step_counting_passes(alloc, input, now, steps, &mut passes)
+    }
+
+    // A step, where nobody asks for the count.
     fn step_with<L: Ledger>(
         &mut self,
         alloc: Global,
@@ -305,11 +350,11 @@ impl<D: Disk> Coordinator<D> {
 }
 
 impl<D: Disk> Node for Coordinator<D> {
-    ghost use Rattle.std.specs.Prelude.{◌≡◌, ◌≤◌, ◌^◌, true};
+    ghost use Rattle.std.specs.Prelude.{◌≡◌, ◌<◌, ◌≤◌, ◌^◌, true, false};
     ghost use Rattle.seata_types.specs.declared.limits.TheConstants.{LATEST_MOMENT};
     ghost use Rattle.disk_model.specs.declared.disk.TheConstants.{LAST_PICK};
     ghost use Rattle.coordinator_core.specs.Standing.{StandsAs, serves, steps_left, is_down, disks_of, size_of};
-    ghost use Rattle.coordinator_core.specs.Stepping.{stands_at, RestartsBy};
+    ghost use Rattle.coordinator_core.specs.Stepping.{stands_at, StepsBy, ArmsBy, CrashesBy, RestartsBy};
     ghost use Rattle.coordinator_core.specs.NodeLaws as laws;
 
     ghost stands_for = { StandsAs D.state };
@@ -332,7 +377,14 @@ impl<D: Disk> Node for Coordinator<D> {
         Place::Tc
     }
 
-    fn step(&mut self, alloc: Global, input: Input, now: u64) -> Result<Step, NodeError> {
+    // What every node promises of its calls, and that what its opening found stays.
+    fn step(&mut self, alloc: Global, input: Input, now: u64) -> Result<Step, NodeError>
+        requires up { is_down self.old ≡ false }
+        requires able { 0 < steps_left self.old }
+        requires moment { now ≤ LATEST_MOMENT }
+        requires served { serves self.old input }
+        ensures { StepsBy D.state self.old self.new input now result }
+    {
         self.step_uncounted(alloc, input, now)
     }
 
@@ -344,17 +396,23 @@ impl<D: Disk> Node for Coordinator<D> {
         self.left
     }
 
-    fn arm(&mut self, calls: u32) {
+    fn arm(&mut self, calls: u32)
+        requires up { is_down self.old ≡ false }
+        ensures { ArmsBy D.state self.old self.new calls }
+    {
         self.arm_active(calls);
     }
 
-    fn crash(&mut self) {
+    fn crash(&mut self)
+        requires up { is_down self.old ≡ false }
+        ensures { CrashesBy D.state self.old self.new }
+    {
         self.flight = None;
         self.records = self.table.sessions.records();
         self.table.sessions.fall();
     }
 
-    // What every node promises of a restart, and that a snapshot comes in place of the records where one is due.
+    // And that a snapshot comes in place of the records where one is due.
     fn restart(
         &mut self,
         alloc: Global,

@@ -30,16 +30,16 @@ impl<D: Disk> Table<D> {
     ghost use Rattle.session_memory.specs.Lookups.{status_in, session_in};
     ghost use Rattle.coordinator_core.specs.Choices.{has_passed_in, leg_in, nobody};
     ghost use Rattle.coordinator_core.specs.Knowledge.{memory};
-    ghost use Rattle.coordinator_core.specs.Costs.{held_rows, passed, MessageCosts};
+    ghost use Rattle.coordinator_core.specs.Costs.{held_rows, passed, MessageCosts, MessagePasses};
     ghost use Rattle.coordinator_core.specs.Serving.{ServesMessage};
     ghost use Rattle.coordinator_core.specs.Steps.{held_step, IsFramableRow};
     ghost use Rattle.coordinator_core.specs.Refusing.{Refuses};
     ghost use Rattle.history_text.specs.Framing.{SendsFramable};
     ghost use Rattle.coordinator_core.specs.Answers.{Answers, Frames};
 
-    /// Answers a registration. It looks up the branch that was registered for it, its transaction's status and its timeout, and
-    /// the status of one holder of a row.
-    pub(crate) fn register<L: Ledger>(
+    /// Answers a registration. It looks for the branch that was registered for it, and looks up its transaction's status and
+    /// its timeout, and the status of one holder of a row.
+    pub(crate) fn register<L: Ledger, P: Ledger>(
         &mut self,
         alloc: Global,
         from: Place,
@@ -49,6 +49,7 @@ impl<D: Disk> Table<D> {
         check: &[RowKey],
         now: u64,
         steps: &mut Steps<L>,
+        passes: &mut Steps<P>,
     ) -> Result<Step, NodeError>
         requires up { is_down self.old.sessions ≡ false }
         requires moment { now ≤ LATEST_MOMENT }
@@ -56,8 +57,9 @@ impl<D: Disk> Table<D> {
         ensures answers { Answers D.state self.old self.new (input.Message from (message.Register xid place.resource place.call place.ticket place.kind hold.now check.now)) now result }
         ensures framable { Frames (input.Message from (message.Register xid place.resource place.call place.ticket place.kind hold.now check.now)) result }
         ensures cost { MessageCosts (message.Register xid place.resource place.call place.ticket place.kind hold.now check.now) (memory self.old) steps.old steps.new }
+        ensures passes { MessagePasses (message.Register xid place.resource place.call place.ticket place.kind hold.now check.now) (memory self.old) passes.old passes.new }
     {
-        if let Some(leg) = self.leg(xid, place, steps) {
+        if let Some(leg) = self.leg(xid, place, passes) {
             return Ok(regranted(place, leg));
         }
         let status = self.sessions.status(xid, steps);
@@ -71,17 +73,17 @@ impl<D: Disk> Table<D> {
     }
 
     // The branch that was registered for this, found by its ticket or its call among the branches of one transaction.
-    fn leg<L: Ledger>(&self, xid: Xid, place: RegisterPlace, steps: &mut Steps<L>) -> Option<Leg>
+    fn leg<P: Ledger>(&self, xid: Xid, place: RegisterPlace, passes: &mut Steps<P>) -> Option<Leg>
         ensures leg { result ≡ leg_in (memory self.now) xid place }
-        ensures cost { steps.new ≤ steps.old + 1 + passed (memory self.now) xid place.kind }
+        ensures cost { passes.new ≤ passes.old + 1 + passed (memory self.now) xid place.kind }
     {
         match place.kind {
             BranchKind::At => self
                 .sessions
-                .ticket_leg(place.resource, place.ticket, steps),
+                .ticket_leg(place.resource, place.ticket, passes),
             BranchKind::Tcc => self
                 .sessions
-                .call_leg(xid, place.resource, place.call, steps),
+                .call_leg(xid, place.resource, place.call, passes),
         }
     }
 

@@ -44,7 +44,7 @@ impl<D: Disk> Table<D> {
     ghost use Rattle.coordinator_core.specs.Changes.{PlansAgain};
     ghost use Rattle.coordinator_core.specs.Choices.{has_passed_in};
     ghost use Rattle.coordinator_core.specs.Knowledge.{memory, knowledge};
-    ghost use Rattle.coordinator_core.specs.Costs.{InputCosts, MessageCosts};
+    ghost use Rattle.coordinator_core.specs.Costs.{InputCosts, InputPasses, MessageCosts, MessagePasses};
     ghost use Rattle.coordinator_core.specs.Answers.{Answers, Frames, MakesOn, AddsOn};
     ghost use Rattle.coordinator_core.specs.Serving.{ServesInput, ServesMessage};
 
@@ -151,13 +151,15 @@ impl<D: Disk> Table<D> {
         choosing::has_passed_in(self.sessions.memory().find(xid), now)
     }
 
-    /// Answers an input. A step is a comparison of two keys, a look-up of a transaction, or a branch that is passed.
-    pub fn answer<L: Ledger>(
+    /// Answers an input. A step is a comparison of two keys or a look-up of a transaction; a pass is a transaction in which a
+    /// branch is looked for, or a branch of it that is passed.
+    pub fn answer<L: Ledger, P: Ledger>(
         &mut self,
         alloc: Global,
         input: &Input,
         now: u64,
         steps: &mut Steps<L>,
+        passes: &mut Steps<P>,
     ) -> Result<Step, NodeError>
         requires up { is_down self.old.sessions ≡ false }
         requires moment { now ≤ LATEST_MOMENT }
@@ -165,22 +167,26 @@ impl<D: Disk> Table<D> {
         ensures answers { Answers D.state self.old self.new input.now now result }
         ensures framable { Frames input.now result }
         ensures cost { InputCosts input.now (memory self.old) steps.old steps.new }
+        ensures passes { InputPasses input.now (memory self.old) passes.old passes.new }
     {
         match input {
             Input::Turn => self.turn(alloc, now),
-            Input::Message { from, message } => self.hear(alloc, *from, message, now, steps),
+            Input::Message { from, message } => self.hear(
+                alloc, *from, message, now, steps, passes,
+            ),
             Input::Local { .. } | Input::Outside { .. } => Ok(still(Act::Ignored)),
         }
     }
 
     // Answers a message.
-    fn hear<L: Ledger>(
+    fn hear<L: Ledger, P: Ledger>(
         &mut self,
         alloc: Global,
         from: Place,
         message: &Message,
         now: u64,
         steps: &mut Steps<L>,
+        passes: &mut Steps<P>,
     ) -> Result<Step, NodeError>
         requires up { is_down self.old.sessions ≡ false }
         requires moment { now ≤ LATEST_MOMENT }
@@ -188,6 +194,7 @@ impl<D: Disk> Table<D> {
         ensures answers { Answers D.state self.old self.new (input.Message from message.now) now result }
         ensures framable { Frames (input.Message from message.now) result }
         ensures cost { MessageCosts message.now (memory self.old) steps.old steps.new }
+        ensures passes { MessagePasses message.now (memory self.old) passes.old passes.new }
     {
         match message {
             Message::Begin { manager, timeout } => self.begin(alloc, from, *manager, *timeout, now),
@@ -218,6 +225,7 @@ impl<D: Disk> Table<D> {
                     check.as_slice(),
                     now,
                     steps,
+                    passes,
                 )
             }
             Message::LockQuery {

@@ -6,6 +6,8 @@ mod branches;
 #[cfg(test)]
 mod coordinator;
 #[cfg(test)]
+mod counted;
+#[cfg(test)]
 mod kept_bytes;
 #[cfg(test)]
 mod lines;

@@ -56,7 +56,7 @@ fn cut(at: Durable) -> Step {
 }
 
 /// The line of what a node answered.
-fn answer_line(
+pub fn answer_line(
     alloc: Global,
     place: Place,
     answer: Result<Step, NodeError>,

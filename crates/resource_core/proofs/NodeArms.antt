@@ -18,8 +18,7 @@ use Rattle.history_rules.specs.Devices.{is_down as down_by}
 use Rattle.history_rules.specs.ResourceMemory.{Setup, memory}
 use Rattle.history_rules.specs.Nodes.{Coordinator, Manager, happens}
 use Rattle.history_rules.specs.Nodes.{Resource as ResourceRole}
-use Rattle.history_text.specs.Durable.{SamePicks}
-use Rattle.history_text.specs.Promises.{Does, StaysItself, own_entry}
+use Rattle.history_text.specs.Promises.{Does, own_entry}
 use Rattle.resource_memory.specs.Known.{Known}
 use Rattle.resource_store.specs.declared.store.Store.{Store}
 use Rattle.resource_store.specs.Keeping.{twin, known, setting_of, is_down as store_is_down, BringsBack, KeepsRecords, with_disk}
@@ -28,10 +27,11 @@ use Rattle.record_places.specs.Within.{IsTableWithin}
 use Rattle.resource_core.specs.declared.nodes.Resource.{Resource}
 use Rattle.resource_core.specs.Holding.{Holds}
 use Rattle.resource_core.specs.NodeMoving.{ArmsPair, ArmsStore, with_store}
-use Rattle.resource_core.specs.NodeStanding.{IsSound, StandsAs, StandsOver, serves}
+use Rattle.resource_core.specs.NodeStanding.{IsSound, StandsAs, StandsOver}
+use Rattle.resource_core.specs.NodeStepping.{ArmsBy, CrashesBy}
 use Rattle.resource_core.specs.Ready.{AreTicketsWithin}
 use Rattle.resource_core.specs.Setups.{actions_of}
-use Rattle.resource_core.specs.Shown.{disks_of, is_down, pair_of, setup_in, stands_at, store_of}
+use Rattle.resource_core.specs.Shown.{disks_of, is_down, pair_of, setup_in, store_of}
 use Rattle.resource_core.proofs.NodeDisks.{Moved, false_true, keeps_images, moved_same, pair_on, same_kind, same_picks}
 use Rattle.resource_core.proofs.NodeStepped.{stays_itself}
 
@@ -206,16 +206,21 @@ module _ {D : Type 0} (state : D → DiskState) (law : (d : Stoppable D) → IsL
           fallen = λ e. false_true (sym (upon setup past owns s) ∙ e);
         }
 
-    pub arm_does : (now : ℕ) → Does (StandsAs state) r (with_store r s') (Stopped calls) now (still act.Armed)
+    arm_does : (now : ℕ) → Does (StandsAs state) r (with_store r s') (Stopped calls) now (still act.Armed)
     arm_does now (ResourceRole setup past) owns s = (armed_happens setup past owns now calls (upon setup past owns s), armed_so setup past owns now s)
     arm_does now (Coordinator times past) owns s = absurd s
     arm_does now (Manager settings) owns s = absurd s
 
-    pub arm_same : StaysItself stands_at serves (disks_of state) r (with_store r s')
-    arm_same = stays_itself state r (with_store r s') refl (sound_still r s' a.known a.setting a.down) (moved_armed (disks_of state r) (pair_of state s') a.pair).first_kind (moved_armed (disks_of state r) (pair_of state s') a.pair).second_kind
-
-    pub arm_picks : SamePicks (disks_of state r) (disks_of state (with_store r s'))
-    arm_picks = same_picks (disks_of state r) (pair_of state s') (moved_armed (disks_of state r) (pair_of state s') a.pair)
+    pub arms_by : ArmsBy state r (with_store r s') calls
+    arms_by =
+        let moved = moved_armed (disks_of state r) (pair_of state s') a.pair in record {
+          does = arm_does;
+          same = stays_itself state r (with_store r s') refl (sound_still r s' a.known a.setting a.down) moved.first_kind moved.second_kind;
+          picks = same_picks (disks_of state r) (pair_of state s') moved;
+          counted = refl;
+          up = up;
+          found = a.found;
+        }
 
   -- ---- a crash, over so many records
 
@@ -241,7 +246,7 @@ module _ {D : Type 0} (state : D → DiskState) (law : (d : Stoppable D) → IsL
           fallen = λ e. record { flight = refl; count = counts ∙ ap (λ (k : Known). k.acts) h.keeps.knows; closed = refl };
         }
 
-    pub crash_does : (now : ℕ) → Does (StandsAs state) r crashed Crashed now (still (act.Down None None))
+    crash_does : (now : ℕ) → Does (StandsAs state) r crashed Crashed now (still (act.Down None None))
     crash_does now (ResourceRole setup past) owns s = (crashed_happens setup past owns now (upon setup past owns s), crashed_so setup past owns now s)
     crash_does now (Coordinator times past) owns s = absurd s
     crash_does now (Manager settings) owns s = absurd s
@@ -260,8 +265,12 @@ module _ {D : Type 0} (state : D → DiskState) (law : (d : Stoppable D) → IsL
       tickets = λ e. false_true (sym e);
     }
 
-    pub crash_same : StaysItself stands_at serves (disks_of state) r crashed
-    crash_same = stays_itself state r crashed refl sound_crashed (same_kind (disks_of state r).first) (same_kind (disks_of state r).second)
-
-    pub crash_picks : SamePicks (disks_of state r) (disks_of state crashed)
-    crash_picks = same_picks (disks_of state r) (disks_of state r) (moved_same (disks_of state r))
+    pub crashes_by : CrashesBy state r crashed
+    crashes_by = record {
+      does = crash_does;
+      same = stays_itself state r crashed refl sound_crashed (same_kind (disks_of state r).first) (same_kind (disks_of state r).second);
+      picks = same_picks (disks_of state r) (disks_of state r) (moved_same (disks_of state r));
+      counted = refl;
+      down = refl;
+      found = refl;
+    }

@@ -34,7 +34,7 @@ use Rattle.resource_log.specs.Records.{fields_bytes, record_bytes}
 use Rattle.resource_memory.specs.Changes.{after}
 use Rattle.resource_memory.specs.Known.{Known}
 use Rattle.resource_store.specs.declared.store.Store.{Store}
-use Rattle.resource_store.specs.Keeping.{BringsBack, Changes, GoesOnAs, IsNoDamage, KeepsRecords, StandsAlways, boot_record, is_down as store_is_down, known, setting_of, twin}
+use Rattle.resource_store.specs.Keeping.{BringsBack, Changes, GoesOnAs, IsNoDamage, KeepsRecords, StandsAlways, boot_record, found_of, is_down as store_is_down, known, setting_of, twin}
 use Rattle.resource_store.specs.Meaning.{IsOf, Opens, Setting, meaning_of}
 use Rattle.resource_store.specs.Standing.{StandsForRecords}
 use Rattle.resource_store.proofs.OpeningLaws.{boot_sound, came_back}
@@ -120,6 +120,7 @@ pub record Rearmed {D : Type 0} (state : D → DiskState) (calls : Option ℕ) (
   pub pair : ArmsPair (pair_of state old) (pair_of state new)
   pub known : known new ≡ known old
   pub setting : setting_of new ≡ setting_of old
+  pub found : found_of new ≡ found_of old
   pub down : store_is_down new ≡ store_is_down old
 
 module _ {D : Type 0} (state : D → DiskState) where
@@ -131,6 +132,7 @@ module _ {D : Type 0} (state : D → DiskState) where
     pair = record { own = refl; first_content = refl; second_content = refl; first_size = refl; second_size = refl; first_moments = refl; second_moments = refl; first_leaves = λ c e. e; second_leaves = λ c e. e };
     known = refl;
     setting = refl;
+    found = refl;
     down = refl;
   }
 
@@ -143,6 +145,7 @@ module _ {D : Type 0} (state : D → DiskState) where
     pair = a.store.pair;
     known = a.store.known;
     setting = a.store.setting;
+    found = a.store.found;
     down = a.store.down;
   }
 
@@ -240,7 +243,7 @@ never_error : {X : Type 0} (a : Act) (e : OpenError) → act_done a ≡ act_erro
 never_error a e same = absurd cc
 
 module _ {D : Type 0} (state : D → DiskState) (law : (d : Stoppable D) → IsLawful (state_of state d)) (r : Resource D) (s1 : Store (Stoppable D)) (pick now : ℕ) (calls : Option ℕ) (down : is_down r ≡ true)
-    (setting : setting_of s1 ≡ setting_of (store_of r)) (go_on : GoOn (setting_of (store_of r)) (disks_of state r) (pair_of state s1)) (stays : StaysWhereShort (state_of state) (twin (store_of r)) (twin s1)) where
+    (setting : setting_of s1 ≡ setting_of (store_of r)) (found : found_of s1 ≡ found_of (store_of r)) (go_on : GoOn (setting_of (store_of r)) (disks_of state r) (pair_of state s1)) (stays : StaysWhereShort (state_of state) (twin (store_of r)) (twin s1)) where
   -- its disks weren't brought back
   pub not_back : (e : OpenError) → ComeUp false pick (disks_of state r) (pair_of state s1)
       → (AreTold (disks_of state r) → StandsAlways (state_of state) (setting_of (store_of r)) (twin (store_of r)) → IsNoDamage e)
@@ -257,6 +260,7 @@ module _ {D : Type 0} (state : D → DiskState) (law : (d : Stoppable D) → IsL
     same = stays_itself state r (with_store r s1) refl (sound_down state r s1 down setting) up.first.kind up.second.kind;
     counted = refl;
     down = down;
+    found = found;
   }
     where
       failing : e ≡ open_error.Failed → DisksFail (disks_of state r) (pair_of state s1)
@@ -275,6 +279,9 @@ module _ {D : Type 0} (state : D → DiskState) (law : (d : Stoppable D) → IsL
 
     setting2 : setting_of s2 ≡ setting_of (store_of r)
     setting2 = armed.setting ∙ setting
+
+    found2 : found_of s2 ≡ found_of (store_of r)
+    found2 = armed.found ∙ found
 
     grown2 : own_faults (disks_of state r) ≤ own_faults (pair_of state s2)
     grown2 = let own = armed.pair.own in let grown = up_grown true pick (disks_of state r) (pair_of state s1) both in omega (arith, own, grown)
@@ -442,6 +449,7 @@ module _ {D : Type 0} (state : D → DiskState) (law : (d : Stoppable D) → IsL
               (kind_of (disks_of state r).second (pair_of state s2).second (pair_of state s3).second second2 moved3.second_kind);
           counted = refl;
           down = refl;
+          found = made.found ∙ found2;
         }
 
       -- ---- the disks failed at the boot
@@ -527,6 +535,7 @@ module _ {D : Type 0} (state : D → DiskState) (law : (d : Stoppable D) → IsL
               (kind_of (disks_of state r).second (pair_of state s2).second (pair_of state s3).second second2 moved_lost.second_kind);
           counted = refl;
           down = down;
+          found = lost.found ∙ found2;
         }
 
     -- ---- the boot isn't made, and nothing more changed
@@ -545,6 +554,7 @@ module _ {D : Type 0} (state : D → DiskState) (law : (d : Stoppable D) → IsL
       same = stays_itself state r r2 refl (sound_down state r s2 down setting2) first2 second2;
       counted = refl;
       down = down;
+      found = found2;
     }
 
     -- a boot that doesn't fit

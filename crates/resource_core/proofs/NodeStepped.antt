@@ -34,7 +34,7 @@ use Rattle.resource_log.specs.Records.{record_bytes}
 use Rattle.resource_memory.specs.Known.{Known}
 use Rattle.resource_store.specs.declared.store.Store.{Store}
 use Rattle.resource_store.specs.Answers.{Does, Leaves, outcome}
-use Rattle.resource_store.specs.Keeping.{Changes, Makes, HasRoom as HasRecordRoom, is_down as store_is_down, known, setting_of, twin}
+use Rattle.resource_store.specs.Keeping.{Changes, Makes, HasRoom as HasRecordRoom, is_down as store_is_down, found_of, known, setting_of, twin}
 use Rattle.resource_store.specs.Meaning.{IsOf, Opens, Setting}
 use Rattle.record_places.specs.Within.{IsTableWithin}
 use Rattle.resource_core.specs.declared.branches.Branches.{Branches}
@@ -369,6 +369,10 @@ left_moved state result old new l =
     ⊎_elim (λ same. subst (λ (k : Store (Stoppable _)). Moved (pair_of state old) (pair_of state k)) (sym same) (moved_same (pair_of state old)))
     (λ made. moved state old new (outcome result) made.2.disks) l.changes
 
+-- what its first opening found stays
+left_found : {A D : Type 0} (state : D → DiskState) (result : Result A StoreError) (old new : Store D) → Leaves state result old new → found_of new ≡ found_of old
+left_found state result old new l = ⊎_elim (λ same. ap found_of same) (λ made. made.2.found) l.changes
+
 module _ {D : Type 0} (state : D → DiskState) (law : (d : Stoppable D) → IsLawful (state_of state d)) (r : Resource D) (given : Input) (now : ℕ) (up : is_down r ≡ false) (able : 0 < r.left) (served : serves r given) where
   ready : IsReady r.branches
   ready = ready_by r served.0 up able
@@ -395,6 +399,7 @@ module _ {D : Type 0} (state : D → DiskState) (law : (d : Stoppable D) → IsL
         picks = same_picks (disks_of state r) (disks_of state r') moves;
         counted = counted;
         down = down ∙ up;
+        found = left_found (state_of state) (made_as (Ok step)) (store_of r) (store_of r') a.leaves;
       }
 
   -- nothing changed
@@ -411,6 +416,7 @@ module _ {D : Type 0} (state : D → DiskState) (law : (d : Stoppable D) → IsL
     picks = same_picks (disks_of state r) (disks_of state r) (moved_same (disks_of state r));
     counted = omega (arith, none);
     down = up ∙ sym not;
+    found = refl;
   }
 
   as_before : (b' : Branches (Stoppable D)) (r' : Resource D) (e : NodeError) → r' ≡ record r { branches = b' } → b' ≡ r.branches → StepsBy state r r given now (Err e) → StepsBy state r r' given now (Err e)
@@ -438,6 +444,7 @@ module _ {D : Type 0} (state : D → DiskState) (law : (d : Stoppable D) → IsL
         picks = same_picks (disks_of state r) (disks_of state r') moves;
         counted = counted;
         down = m.1;
+        found = left_found (state_of state) (made_as (Err (error.Failed flight))) (store_of r) (store_of r') a'.leaves;
       }
   missed b' r' count counts (error.Full full) a m =
       as_before b' r' (error.Full full) m

@@ -1,5 +1,5 @@
--- What a step and a restart of a resource promise: all that `Node` promises of them.
-use Rattle.std.specs.Prelude.{◌≡◌, ◌+◌, ◌≤◌, ℕ, List, length, Option, Some, Result, Ok, Err, IfOk, IfErr, OnOk, OnErr}
+-- What the calls of a resource as a node promise: all that `Node` promises of them, and that what its first opening found stays.
+use Rattle.std.specs.Prelude.{◌≡◌, ◌+◌, ◌≤◌, ℕ, true, false, List, length, Option, Some, None, Result, Ok, Err, IfOk, IfErr, OnOk, OnErr}
 use Rattle.disk_model.specs.Disk.{DiskState}
 use Rattle.disk_model.specs.Stop.{state_of}
 use Rattle.disk_model.specs.declared.stoppable.Stoppable.{Stoppable}
@@ -13,17 +13,21 @@ use Rattle.seata_types.specs.declared.errors.StoreError.{StoreError}
 use Rattle.seata_types.specs.declared.errors.StoreError.TheVariants as store_error
 use Rattle.seata_types.specs.declared.messages.Input.{Input}
 use Rattle.seata_types.specs.declared.messages.Step.{Step}
-use Rattle.history_rules.specs.Own.{Own}
+use Rattle.history_rules.specs.Own.{Own, Stopped, Crashed, still}
 use Rattle.history_rules.specs.Nodes.{Role}
 use Rattle.history_text.specs.Durable.{SamePicks, HavePick}
 use Rattle.history_text.specs.Framing.{ComesFramable, SendsFramable}
-use Rattle.history_text.specs.Promises.{TakesStep, AfterError, HadPlace, DisksFail, StaysItself, goes_down, steps_of, AreTold, StandsAsBefore, asked_bytes, Restarts, IsRestartError, stays_down}
+use Rattle.history_text.specs.Promises.{Does, TakesStep, AfterError, HadPlace, DisksFail, StaysItself, goes_down, steps_of, AreTold, StandsAsBefore, asked_bytes, Restarts, IsRestartError, stays_down}
 use Rattle.memory_store.specs.Keeping.{StaysWhereShort}
 use Rattle.resource_store.specs.declared.store.Store.{Store}
-use Rattle.resource_store.specs.Keeping.{BringsBack, Changes, boot_record, known, setting_of, twin}
+use Rattle.resource_store.specs.Keeping.{BringsBack, Changes, boot_record, found_of, known, setting_of, twin}
 use Rattle.resource_core.specs.declared.nodes.Resource.{Resource}
 use Rattle.resource_core.specs.NodeStanding.{StandsAs, serves}
 use Rattle.resource_core.specs.Shown.{stands_at, store_of, disks_of, needs, size_of, steps_left, is_down}
+
+-- the first record that its first opening found stays
+abbrev pub SameFound : {D : Type 0} → (old new : Resource D) → Type 0
+SameFound old new = found_of (store_of new) ≡ found_of (store_of old)
 
 -- the record that the rule's answer asks for, if it asks for one, ends within the active disk
 abbrev pub HasRoom : {D : Type 0} → (D → DiskState) → Resource D → Input → ℕ → Type 0
@@ -47,6 +51,23 @@ pub record StepsBy {D : Type 0} (state : D → DiskState) (old new : Resource D)
   pub picks : SamePicks (disks_of state old) (disks_of state new)
   pub counted : steps_left new + steps_of result ≡ steps_left old
   pub down : is_down new ≡ goes_down result
+  pub found : SameFound old new
+
+pub record ArmsBy {D : Type 0} (state : D → DiskState) (old new : Resource D) (calls : ℕ) : Type 0 where
+  pub does : (now : ℕ) → Does (StandsAs state) old new (Stopped calls) now (still act.Armed)
+  pub same : StaysItself stands_at serves (disks_of state) old new
+  pub picks : SamePicks (disks_of state old) (disks_of state new)
+  pub counted : steps_left new ≡ steps_left old
+  pub up : is_down new ≡ false
+  pub found : SameFound old new
+
+pub record CrashesBy {D : Type 0} (state : D → DiskState) (old new : Resource D) : Type 0 where
+  pub does : (now : ℕ) → Does (StandsAs state) old new Crashed now (still (act.Down None None))
+  pub same : StaysItself stands_at serves (disks_of state) old new
+  pub picks : SamePicks (disks_of state old) (disks_of state new)
+  pub counted : steps_left new ≡ steps_left old
+  pub down : is_down new ≡ true
+  pub found : SameFound old new
 
 -- what became of the boot of a restart that ended with this act
 abbrev pub boot_made : Act → Result (Unit {0}) StoreError
@@ -76,3 +97,4 @@ pub record RestartsBy {D : Type 0} (state : D → DiskState) (old new : Resource
   pub same : StaysItself stands_at serves (disks_of state) old new
   pub counted : steps_left new ≡ steps_left old
   pub down : is_down new ≡ stays_down result
+  pub found : SameFound old new

@@ -247,10 +247,10 @@ impl<D: Disk> Resource<D> {
 }
 
 impl<D: Disk> Node for Resource<D> {
-    ghost use Rattle.std.specs.Prelude.{◌≡◌, ◌≤◌, true};
+    ghost use Rattle.std.specs.Prelude.{◌≡◌, ◌<◌, ◌≤◌, true, false};
     ghost use Rattle.disk_model.specs.declared.disk.TheConstants.{LAST_PICK};
     ghost use Rattle.resource_core.specs.NodeStanding.{StandsAs, serves};
-    ghost use Rattle.resource_core.specs.NodeStepping.{RestartsBy};
+    ghost use Rattle.resource_core.specs.NodeStepping.{StepsBy, ArmsBy, CrashesBy, RestartsBy};
     ghost use Rattle.resource_core.specs.NodeLaws as laws;
     ghost use Rattle.resource_core.specs.Shown.{stands_at, steps_left, is_down, disks_of, size_of};
 
@@ -274,7 +274,13 @@ impl<D: Disk> Node for Resource<D> {
         Place::Res(self.branches.number)
     }
 
-    fn step(&mut self, alloc: Global, input: Input, now: u64) -> Result<Step, NodeError> {
+    // What every node promises of its calls, and that what its first opening found stays.
+    fn step(&mut self, alloc: Global, input: Input, now: u64) -> Result<Step, NodeError>
+        requires up { is_down self.old ≡ false }
+        requires able { 0 < steps_left self.old }
+        requires served { serves self.old input }
+        ensures { StepsBy D.state self.old self.new input now result }
+    {
         self.answer(alloc, input, now)
     }
 
@@ -286,17 +292,23 @@ impl<D: Disk> Node for Resource<D> {
         self.left
     }
 
-    fn arm(&mut self, calls: u32) {
+    fn arm(&mut self, calls: u32)
+        requires up { is_down self.old ≡ false }
+        ensures { ArmsBy D.state self.old self.new calls }
+    {
         self.arm_active(calls);
     }
 
-    fn crash(&mut self) {
+    fn crash(&mut self)
+        requires up { is_down self.old ≡ false }
+        ensures { CrashesBy D.state self.old self.new }
+    {
         self.down = true;
         self.flight = None;
         self.records = self.branches.store.records();
     }
 
-    // What every node promises of a restart, and that a snapshot comes in place of the records where one is due before its boot.
+    // And that a snapshot comes in place of the records where one is due before its boot.
     fn restart(
         &mut self,
         alloc: Global,

@@ -7,7 +7,7 @@ use Rattle.resource_core.proofs.nodes.Resource.restart_in_place.Goals as goal
 pub returns-in-Err : goal.returns-in-Err
 returns-in-Err g c =
     let e = c.in-Err.ensures in
-    not_back g.D.Disk.state (stopped g.D.Disk.state g.met.D.Disk.lawful) c.args.self.now c.restart.new.self c.args.pick c.args.now c.args.calls c.requires.down e.setting e.images e.not_due c.in-Err.error
+    not_back g.D.Disk.state (stopped g.D.Disk.state g.met.D.Disk.lawful) c.args.self.now c.restart.new.self c.args.pick c.args.now c.args.calls c.requires.down e.setting e.found e.images e.not_due c.in-Err.error
     (record { first = e.first; second = e.second }) (λ told always. e.recovers told.first told.second always) (λ same. e.failed (ap unit_error same))
 
 pub boot-requires-clause-ready : goal.boot-requires-clause-ready
@@ -16,5 +16,5 @@ boot-requires-clause-ready g c = up_armed g.D.Disk.state c.args.calls (with_stor
 pub returns : goal.returns
 returns g c =
     let e = c.in_default.ensures in
-    restarted_by g.D.Disk.state (stopped g.D.Disk.state g.met.D.Disk.lawful) c.args.self.now c.restart.new.self c.args.pick c.args.now c.args.calls c.requires.down e.setting e.images e.not_due
+    restarted_by g.D.Disk.state (stopped g.D.Disk.state g.met.D.Disk.lawful) c.args.self.now c.restart.new.self c.args.pick c.args.now c.args.calls c.requires.down e.setting e.found e.images e.not_due
     (record { first = e.first; second = e.second }) e.up (λ told. e.back told.first told.second) e.sound c.arm_with.new.self c.boot.new.self c.arm_with.ensures c.kept-kept.result c.kept-kept.ensures c.boot.result c.boot.ensures

@@ -1,7 +1,7 @@
 use Rattle.std.proofs.Common.{refl, arith}
 use Rattle.coordinator_core.proofs.Disks.{stopped}
 use Rattle.coordinator_core.proofs.Stepped.{stepped, missed_after}
-use Rattle.coordinator_core.proofs.nodes.Coordinator.step_counted.Goals as goal
+use Rattle.coordinator_core.proofs.nodes.Coordinator.step_counting_passes.Goals as goal
 
 pub returns-in-Ok-clause-steps : goal.returns-in-Ok-clause-steps
 returns-in-Ok-clause-steps g c =

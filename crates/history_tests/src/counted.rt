@@ -1,0 +1,97 @@
+//! A registration whose steps and passes are counted. What a count says is in clauses: it takes no bytes when it runs.
+ghost use Rattle.std.specs.Prelude.{◌≡◌, ◌+◌, ◌^◌, ◌<◌, ◌≤◌, ℕ, false, [], length};
+ghost use Rattle.seata_types.specs.declared.ids.Place.TheVariants as place;
+ghost use Rattle.seata_types.specs.declared.messages.Input.TheVariants as input;
+ghost use Rattle.seata_types.specs.declared.messages.Message.TheVariants as message;
+ghost use Rattle.seata_types.specs.declared.statuses.BranchKind.TheVariants as kind;
+ghost use Rattle.session_memory.specs.Lookups.{branches_in};
+ghost use Rattle.session_store.specs.Keeping.{known};
+ghost use Rattle.coordinator_core.specs.Costs.{held_rows};
+ghost use Rattle.coordinator_core.specs.Standing.{is_down, sessions_of, steps_left};
+ghost use Rattle.history_tests.specs.Served.{Serves};
+
+use crate::served;
+use crate::steps::{answer_line, is_line};
+use coordinator_core::Coordinator;
+use disk_model::MemDisk;
+use history_text::Node;
+use lock_table::Steps;
+use seata_types::{BranchKind, Input, List, Message, NodeError, Place, Step, Ticket, Xid};
+use std::alloc::Global;
+use std::marker::Brand;
+use std::sync::ledger::{Blank, Ledger};
+use std::test::Fail;
+
+/// The registration of transaction 1's first call, of TCC mode and without rows.
+fn registration(alloc: Global) -> Input
+    ensures { result ≡ input.Message (place.Res 1) (message.Register (record { 0 = 1 }) 1 1 (record { boot = 1; seq = 1 }) kind.Tcc [] []) }
+{
+    let message = Message::Register {
+        xid: Xid(1),
+        resource: 1,
+        call: 1,
+        ticket: Ticket { boot: 1, seq: 1 },
+        kind: BranchKind::Tcc,
+        hold: List::of(Vec::new(alloc)),
+        check: List::of(Vec::new(alloc)),
+    };
+    Input::Message {
+        from: Place::Res(1),
+        message,
+    }
+}
+
+/// Registers it, which takes three look-ups, one pass for transaction 1 and one for each of its branches.
+fn register<L: Ledger, P: Ledger>(
+    alloc: Global,
+    tc: &mut Coordinator<MemDisk>,
+    steps: &mut Steps<L>,
+    passes: &mut Steps<P>,
+) -> Result<Step, NodeError>
+    requires serves { Serves tc.old }
+    requires up { is_down tc.old ≡ false }
+    requires able { 0 < steps_left tc.old }
+    ensures steps { (d : ℕ) → held_rows (known (sessions_of tc.old)) < 2 ^ d → steps.new ≤ steps.old + 3 }
+    ensures passes { passes.new ≤ passes.old + 1 + length (branches_in (known (sessions_of tc.old)) 1) }
+{
+    tc.step_counting_passes(alloc, registration(alloc), 0, steps, passes)
+}
+
+/// Whether transaction 1 begins, and its branch is registered.
+fn registers<L: Ledger, P: Ledger>(
+    alloc: Global,
+    tc: &mut Coordinator<MemDisk>,
+    steps: Blank,
+    passes: Blank,
+) -> Result<bool, Fail>
+    requires serves { Serves tc.old }
+    requires steps_name { steps.name ≡ L.name }
+    requires steps_parts { steps.parts ≡ L.parts }
+    requires steps_some { 0 < steps.parts }
+    requires passes_name { passes.name ≡ P.name }
+    requires passes_parts { passes.parts ≡ P.parts }
+    requires passes_some { 0 < passes.parts }
+{
+    let mut steps = Steps::<L>::new(steps);
+    let mut passes = Steps::<P>::new(passes);
+    let begin = served::begin(1, 60000)?;
+    let begun = served::line(alloc, tc, begin, 0)?;
+    if tc.is_down() || tc.steps_left() == 0 {
+        return Err(Fail::from("no step is left"));
+    }
+    let answer = register(alloc, tc, &mut steps, &mut passes);
+    let line = answer_line(alloc, Place::Tc, answer);
+    let granted = is_line(
+        line,
+        "1 tc 0 turn | granted tc:1 b1 | granted t1.1 tc:1 b1 to r1",
+    )?;
+    Ok(granted && begun.as_str() == "1 tc 0 turn | begun tc:1 | begun tc:1 to m1")
+}
+
+#[test]
+fn counts_a_registration(rt: HostRuntime) -> Result<(), Fail> {
+    let mut tc = served::open(rt.alloc())?;
+    let good = registers::<Brand, Brand>(rt.alloc(), &mut tc, Blank::new(1), Blank::new(1))?;
+    assert!(rt; good);
+    Ok(())
+}
