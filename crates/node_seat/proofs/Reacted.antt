@@ -1,5 +1,5 @@
 -- What a node does at an event.
-use Rattle.std.proofs.Common.{◌≡◌, ℕ, Bool, true, false, List, ◌∷◌, Result, Ok, Err, IfOk, OnOk, Option, Some, None, refl, ap, sym, subst, ◌∙◌}
+use Rattle.std.proofs.Common.{◌≡◌, ℕ, Bool, true, false, List, ◌∷◌, Result, Ok, Err, IfOk, OnOk, Option, refl, ap, sym, subst, ◌∙◌}
 use Rattle.std.proofs.lemmas.Bool.{false≢true}
 use Rattle.journal_checkpoint.specs.Images.{Pair}
 use Rattle.seata_types.specs.declared.acts.Act.TheVariants as act
@@ -9,16 +9,14 @@ use Rattle.seata_types.specs.declared.errors.NodeError.TheVariants as error
 use Rattle.seata_types.specs.declared.ids.Place.{Place}
 use Rattle.seata_types.specs.declared.messages.Input.{Input}
 use Rattle.seata_types.specs.declared.messages.Step.{Step}
-use Rattle.history_rules.specs.Own.{Event, Given, Stopped, Crashed, Restarted, Own, still}
+use Rattle.history_rules.specs.Own.{Event, Given, Stopped, Crashed, Own, still}
 use Rattle.history_rules.specs.Devices.{is_down, last_pick}
 use Rattle.history_rules.specs.Nodes.{Role, Coordinator, Resource, Manager, ComesTo, Happens, happens}
 use Rattle.history_text.specs.Durable.{HavePick, SamePicks}
-use Rattle.history_text.specs.declared.entries.Cause.{Cause}
-use Rattle.history_text.specs.declared.entries.Cause.TheVariants as cause
 use Rattle.history_text.specs.Promises as promises
 use Rattle.history_text.specs.Promises.{AfterError, cut, has_disks, own_entry}
 use Rattle.node_seat.specs.declared.faults.RunFault.{RunFault}
-use Rattle.node_seat.specs.Entering.{Does, HadPlace, HaveLast, IsStepOf, event_by}
+use Rattle.node_seat.specs.Entering.{Does, HadPlaceFor, HaveLast, IsStepOf}
 
 tells_same : (pick : ℕ) (old new : Pair) → SamePicks old new → HavePick pick old → HavePick pick new
 tells_same pick old new same have = (λ told e. have.0 told (sym same.first ∙ e), λ told e. have.1 told (sym same.second ∙ e))
@@ -89,16 +87,10 @@ module _ {N : Type 0} (stands_for : N → Role → List Own → Type 0) (disks :
 
 -- ---- the place of a record
 
-none_some : {A X : Type 0} (a : A) → None ≡ Some a → X
-none_some a e = absurd cc
-
-some_is : {A : Type 0} (a b : A) → Some a ≡ Some b → a ≡ b
-some_is a b e = cc
-
 module _ {N : Type 0} (stands_for : N → Role → List Own → Type 0) (disks : N → Pair) (size : N → ℕ) where
   -- of a step that was answered, or at which the disks failed
   pub step_room : (at : Place) (old : N) (given : Input) (now : ℕ) (e : NodeError) (r : Result Step RunFault) → promises.HadPlace stands_for (disks old) (size old) old given now (Err e) → IsStepOf at e r
-      → OnOk r (HadPlace stands_for disks size old (Given given) now)
+      → OnOk r (HadPlaceFor stands_for disks size old (Given given) now)
   step_room at old given now (error.Failed flight) (Ok step) fits is = λ role os st up bytes e. fits role os st bytes e
   step_room at old given now (error.Full full) (Ok step) fits is = absurd cc
   step_room at old given now error.NoMemory (Ok step) fits is = absurd cc
@@ -106,12 +98,5 @@ module _ {N : Type 0} (stands_for : N → Role → List Own → Type 0) (disks :
 
   -- a node that is down asks for none
   pub down_room : (down : N → Bool) → ((n : N) (role : Role) (os : List Own) → stands_for n role os → down n ≡ is_down os) → (n : N) (given : Input) (now : ℕ) → down n ≡ true
-      → HadPlace stands_for disks size n (Given given) now
+      → HadPlaceFor stands_for disks size n (Given given) now
   down_room down downs n given now is_down role os st up bytes e = absurd (false≢true (sym up ∙ sym (downs n role os st) ∙ is_down))
-
-  -- what happens to disks is no input
-  pub disks_room : (n : N) (why : Cause) (event : Event) (now : ℕ) → event_by why None ≡ Some event → HadPlace stands_for disks size n event now
-  disks_room n (cause.Stop calls) event now is = subst (λ e. HadPlace stands_for disks size n e now) (some_is (Stopped calls) event is) (λ role os st. tt)
-  disks_room n cause.Crash event now is = subst (λ e. HadPlace stands_for disks size n e now) (some_is Crashed event is) (λ role os st. tt)
-  disks_room n (cause.Restart pick calls) event now is = subst (λ e. HadPlace stands_for disks size n e now) (some_is (Restarted pick calls) event is) (λ role os st. tt)
-  disks_room n _ event now is = none_some event is

@@ -19,7 +19,7 @@ use Rattle.history_text.specs.declared.entries.Entry.{Entry}
 use Rattle.history_text.specs.Durable.{HavePick}
 use Rattle.history_text.specs.Notes.{sent_of}
 use Rattle.history_text.specs.Promises.{AreTold, StandsAsBefore, own_entry}
-use Rattle.node_seat.specs.Faults.{Blames, Fits}
+use Rattle.node_seat.specs.Faults.{Blames, EventFits}
 use Rattle.node_seat.specs.declared.faults.RunFault.{RunFault}
 use Rattle.node_seat.specs.declared.faults.RunFault.TheVariants as fault
 
@@ -69,8 +69,8 @@ pub record Does {N : Type 0} (stands_for : N → Role → List Own → Type 0) (
       HaveLast (last_pick owns) (disks old) → HaveLast (last_pick (own_entry event now step ∷ owns)) (disks new)
 
 -- said of each role, and each list of own entries, that the node stood for: the record that an event asked for had a place on its disks
-abbrev pub HadPlace : {N : Type 0} → (N → Role → List Own → Type 0) → (N → Pair) → (N → ℕ) → N → Event → ℕ → Type 0
-HadPlace stands_for disks size old event now = (role : Role) (owns : List Own) → stands_for old role owns → Fits (disks old) (size old) role owns now event
+abbrev pub HadPlaceFor : {N : Type 0} → (N → Role → List Own → Type 0) → (N → Pair) → (N → ℕ) → N → Event → ℕ → Type 0
+HadPlaceFor stands_for disks size old event now = (role : Role) (owns : List Own) → stands_for old role owns → EventFits (disks old) (size old) role owns now event
 
 -- nothing happened to a node, by this fault
 pub record Misses {N : Type 0} (stands_for : N → Role → List Own → Type 0) (at : N → Place) (disks : N → Pair) (size : N → ℕ) (old new : N) (event : Event) (now : ℕ) (missed : RunFault) : Type 0 where
@@ -99,7 +99,7 @@ packet_at stamp out = record { message = out.message; stamp = stamp }
 pub record Enters {N : Type 0} (stands_for : N → Role → List Own → Type 0) (at : N → Place) (disks : N → Pair) (size : N → ℕ) (old new : N) (trace traced : List Entry)
     (stamp now : ℕ) (why : Cause) (event : Event) (step : Step) (result : Result (Option Sent) RunFault) : Type 0 where
   pub does : Does stands_for disks old new event now step
-  pub room : HadPlace stands_for disks size old event now
+  pub room : HadPlaceFor stands_for disks size old event now
   pub printed : traced ≡ trace ++ entry_at stamp (at old) now why step ∷ []
   pub packed : IfOk result (λ packet. packet ≡ option_map (packet_at stamp) step.sent)
 

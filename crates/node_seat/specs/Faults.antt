@@ -35,10 +35,10 @@ Overflows disks size role owns now _ full = ⊥
 
 -- The record that an input asks for, if it asks for one, has a place behind those that the disks hold. This is said of a node that is up:
 -- a node that is down loses its input. Of a boot nothing is said.
-abbrev pub Fits : (disks : Pair) → (size : ℕ) → Role → List Own → ℕ → Event → Type 0
-Fits disks size role owns now (Given given) =
+abbrev pub EventFits : (disks : Pair) → (size : ℕ) → Role → List Own → ℕ → Event → Type 0
+EventFits disks size role owns now (Given given) =
     is_down owns ≡ false → (bytes : List ℕ) → asked_bytes role owns now given ≡ Some bytes → HasPlace disks size (length bytes)
-Fits disks size role owns now _ = Unit {0}
+EventFits disks size role owns now _ = Unit {0}
 
 -- Why an entry of the node at a place wasn't made after these own entries, as its two disks of so many bytes show it now. They failed
 -- in a restart, while it was down: a fault more was counted than entries were taken down by faults, up to the end of the

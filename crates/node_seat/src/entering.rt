@@ -1,5 +1,5 @@
 //! One entry of a node.
-ghost use Rattle.std.specs.Prelude.{◌≡◌, ◌<◌, ◌≤◌, ◌+◌, ◌++◌, ◌∷◌, [], ◌^◌, ℕ, Some, IfOk, IfErr, IfSome, option_map, vec_len, vec_capacity};
+ghost use Rattle.std.specs.Prelude.{◌≡◌, ◌<◌, ◌≤◌, ◌+◌, ◌++◌, ◌∷◌, [], Some, IfOk, IfErr, IfSome, option_map, vec_len, vec_capacity};
 ghost use Rattle.seata_types.specs.declared.limits.TheConstants.{LATEST_MOMENT};
 ghost use Rattle.history_rules.specs.Own.{Event};
 ghost use Rattle.history_text.specs.Notes as notes;

@@ -1,11 +1,11 @@
 //! What a node does at an event.
-ghost use Rattle.std.specs.Prelude.{◌≡◌, ◌<◌, ◌≤◌, ◌+◌, ◌^◌, ℕ, true, false, Some, IfOk, IfErr, IfSome, OnOk};
+ghost use Rattle.std.specs.Prelude.{◌≡◌, ◌<◌, ◌≤◌, ◌+◌, ℕ, true, false, Some, IfOk, IfErr, IfSome, OnOk};
 ghost use Rattle.seata_types.specs.declared.limits.TheConstants.{LATEST_MOMENT};
 ghost use Rattle.history_rules.specs.Own.{Event, Given, Stopped, Crashed, Restarted};
 ghost use Rattle.history_text.specs.Framing.{ComesFramable, SendsFramable};
 ghost use Rattle.history_text.specs.Promises.{StaysItself};
 ghost use Rattle.disk_model.specs.declared.disk.TheConstants.{LAST_PICK};
-ghost use Rattle.node_seat.specs.Entering.{event_by, IsOfDisks, CanReact, Does, HadPlace, Misses, IsStepOf};
+ghost use Rattle.node_seat.specs.Entering.{event_by, IsOfDisks, CanReact, Does, HadPlaceFor, Misses, IsStepOf};
 
 use crate::faults::{RunFault, open_fault};
 use history_text::{Cause, Node, still};
@@ -34,7 +34,7 @@ fn step<N: Node>(node: &mut N, alloc: Global, now: u64, input: Input) -> Result<
     requires moment { now ≤ LATEST_MOMENT }
     requires served { N.serves node.old input }
     ensures does { IfOk result (Does N.stands_for N.disks node.old node.new (Given input) now) }
-    ensures room { OnOk result (HadPlace N.stands_for N.disks N.size node.old (Given input) now) }
+    ensures room { OnOk result (HadPlaceFor N.stands_for N.disks N.size node.old (Given input) now) }
     ensures missed { IfErr result (Misses N.stands_for N.stands_at N.disks N.size node.old node.new (Given input) now) }
     ensures framable { ComesFramable input → IfOk result SendsFramable }
     ensures same { StaysItself N.stands_at N.serves N.disks node.old node.new }
@@ -53,7 +53,7 @@ fn give<N: Node>(node: &mut N, alloc: Global, now: u64, input: Input) -> Result<
     requires moment { now ≤ LATEST_MOMENT }
     requires served { N.serves node.old input }
     ensures does { IfOk result (Does N.stands_for N.disks node.old node.new (Given input) now) }
-    ensures room { OnOk result (HadPlace N.stands_for N.disks N.size node.old (Given input) now) }
+    ensures room { OnOk result (HadPlaceFor N.stands_for N.disks N.size node.old (Given input) now) }
     ensures missed { IfErr result (Misses N.stands_for N.stands_at N.disks N.size node.old node.new (Given input) now) }
     ensures framable { ComesFramable input → IfOk result SendsFramable }
     ensures same { StaysItself N.stands_at N.serves N.disks node.old node.new }
@@ -162,7 +162,7 @@ pub(crate) fn react<N: Node>(
     requires moment { now ≤ LATEST_MOMENT }
     requires framable { IfSome input ComesFramable }
     ensures does { (event : Event) → event_by cause input ≡ Some event → IfOk result (Does N.stands_for N.disks node.old node.new event now) }
-    ensures room { (event : Event) → event_by cause input ≡ Some event → OnOk result (HadPlace N.stands_for N.disks N.size node.old event now) }
+    ensures room { (event : Event) → event_by cause input ≡ Some event → OnOk result (HadPlaceFor N.stands_for N.disks N.size node.old event now) }
     ensures missed { (event : Event) → event_by cause input ≡ Some event → IfErr result (Misses N.stands_for N.stands_at N.disks N.size node.old node.new event now) }
     ensures framable { IfOk result SendsFramable }
     ensures same { StaysItself N.stands_at N.serves N.disks node.old node.new }

@@ -30,12 +30,11 @@ impl<N: Node, K: RunName> Model for Seat<N, K> {
 }
 
 impl<N: Node, K: RunName> Seat<N, K> {
-    ghost use Rattle.std.specs.Prelude.{◌≡◌, ◌≤◌, ◌+◌, ◌^◌, [], Some, IfSome};
+    ghost use Rattle.std.specs.Prelude.{◌≡◌, ◌≤◌, ◌+◌, [], Some, IfSome};
     ghost use Rattle.seata_types.specs.declared.limits.TheConstants.{LATEST_MOMENT};
     ghost use Rattle.history_rules.specs.Own.{Event};
-    ghost use Rattle.history_rules.specs.Nodes.{Role, role_at};
     ghost use Rattle.history_text.specs.Framing.{ComesFramable};
-    ghost use Rattle.history_text.specs.Promises.{StaysItself, place_of};
+    ghost use Rattle.history_text.specs.Promises.{StaysItself};
     ghost use Rattle.node_seat.specs.Entering.{event_by, CanReact, IsEntered};
     ghost use Rattle.node_seat.specs.Keeping.{IsNext, IsFresh};
 

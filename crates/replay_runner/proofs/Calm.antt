@@ -1,8 +1,8 @@
 -- How a replay ends where neither the shelf nor a disk fails.
-use Rattle.std.proofs.Common.{inl, inr, ◌≡◌, ◌⊎◌, ◌+◌, ◌-◌, ◌^◌, ◌<◌, ◌≤◌, ℕ, zero, suc, min, nat_lt, Bool, true, false, List, [], ◌∷◌, length, map, slice_get, Option, Some, None, Result, Ok, Err, IsTrue, refl, ap, sym, subst, ◌∙◌, arith}
+use Rattle.std.proofs.Common.{inl, inr, ◌≡◌, ◌-◌, ◌<◌, ◌≤◌, ℕ, zero, suc, nat_lt, Bool, true, false, List, [], ◌∷◌, length, map, Result, Ok, Err, refl, ap, ◌∙◌, arith}
 use Rattle.std.proofs.lemmas.Bool.Decides.{nat_tests}
 use Rattle.std.proofs.lemmas.List.{length-map}
-use Rattle.disk_model.specs.Disk.{DiskState, Rose}
+use Rattle.disk_model.specs.Disk.{DiskState}
 use Rattle.journal_checkpoint.specs.Images.{Pair}
 use Rattle.seata_types.specs.declared.ids.Place.{Place}
 use Rattle.seata_types.specs.declared.ids.Place.TheVariants as place
@@ -14,7 +14,7 @@ use Rattle.history_text.specs.Promises.{no_disks}
 use Rattle.node_seat.specs.declared.faults.RunFault.{RunFault}
 use Rattle.node_seat.specs.declared.faults.RunFault.TheVariants as fault
 use Rattle.scenario_nodes.specs.Shelves.{Showing, pair_of, second_name}
-use Rattle.replay_runner.specs.Leaving.{Broken, FirstGivenBack, GivesBack, IsCalmEnd, IsCalmShelf, Leaves, Replays, TakesNone, Unopened, disks_in, nth_pair, server_names}
+use Rattle.replay_runner.specs.Leaving.{FirstGivenBack, IsCalmEnd, IsCalmShelf, Leaves, Replays, disks_in, nth_pair, server_names}
 use Rattle.replay_runner.proofs.Lists.{member_at}
 use Rattle.replay_runner.proofs.Shown.{nth_map}
 
@@ -24,7 +24,7 @@ nth_past [] k past = refl
 nth_past (p ∷ ps) zero past = absurd (omega (arith, past))
 nth_past (p ∷ ps) (suc k) past = nth_past ps k (omega (arith, past))
 
-module _ {D : Type 0} (state : D → DiskState) (s : Scenario) (old new : Showing D) (calm : IsCalmShelf state old new) (disks : List (D × D)) (back : FirstGivenBack old.tells new.given_back s disks) where
+module _ {D : Type 0} (state : D → DiskState) (s : Scenario) (old new : Showing D) (calm : IsCalmShelf state s old new) (disks : List (D × D)) (back : FirstGivenBack old.tells new.given_back s disks) where
   -- the disks of one node
   none_there : (k : ℕ) → k < length disks → own_faults (nth_pair (map (pair_of state) disks) k) ≡ 0
   none_there k below =
@@ -33,8 +33,8 @@ module _ {D : Type 0} (state : D → DiskState) (s : Scenario) (old new : Showin
       let (name, named) = member_at (server_names s) k (omega (arith, below, few, size)) in
       let (d, here) = member_at disks k below in
       let given = back.each k name d named here in
-      let one = calm.disks name d.0 (given.first.given calm.tells) in
-      let two = calm.disks (second_name name) d.1 (given.second.given calm.tells) in
+      let one = calm.disks name d.0 (k, name, named, inl refl) (given.first.given calm.tells) in
+      let two = calm.disks (second_name name) d.1 (k, name, named, inr refl) (given.second.given calm.tells) in
       ap own_faults (nth_map state disks k d here) ∙ (let none : own_faults (pair_of state d) ≡ 0 = omega (arith, one, two) in none)
 
   none_of : (k : ℕ) → own_faults (nth_pair (map (pair_of state) disks) k) ≡ 0
@@ -73,7 +73,7 @@ not_other : (s : Scenario) (disks : List Pair) → Leaves s disks (Err fault.Oth
 not_other s disks (inl b) = b.cause.blames
 not_other s disks (inr u) = u.cause
 
-pub ends_calmly : {D : Type 0} (state : D → DiskState) (s : Scenario) (old new : Showing D) (result : Result (List Entry) RunFault) → Replays state old new s result → IsCalmShelf state old new → IsCalmEnd result
+pub ends_calmly : {D : Type 0} (state : D → DiskState) (s : Scenario) (old new : Showing D) (result : Result (List Entry) RunFault) → Replays state old new s result → IsCalmShelf state s old new → IsCalmEnd result
 ends_calmly state s old new (Ok es) r calm = tt
 ends_calmly state s old new (Err (fault.Full q full)) r calm = tt
 ends_calmly state s old new (Err fault.NoMemory) r calm = tt

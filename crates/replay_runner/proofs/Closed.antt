@@ -21,7 +21,7 @@ use Rattle.replay_runner.specs.Leaving.{FirstGivenBack, server_names}
 use Rattle.replay_runner.specs.Opened.{AreDefsApart, AreReturned, HaveBoth, IsOfNone, member_pair, server_disks}
 use Rattle.replay_runner.proofs.Gathered.{AreTaken, all_taken, none_taken, one_taken}
 use Rattle.replay_runner.proofs.Lists.{drop_all, drop_below, drop_first, drop_next, snoc_below, snoc_end}
-use Rattle.replay_runner.proofs.Names.{coordinator_apart, coordinator_of_none, next_of_none}
+use Rattle.replay_runner.proofs.Names.{coordinator_of_none}
 use Rattle.replay_runner.proofs.Roles.{from_map}
 
 -- ---- disks that stay where they are
@@ -256,12 +256,3 @@ module _ {D K : Type 0} (old new : Showing D) (defs : List ResourceDef) (resourc
 
   pub traces_taken : kept ≡ true → AreTracesOf resources traces
   traces_taken told = all_taken resources left traces (c.taken told) none
-
--- the disks of a resource behind the first ones stay where they are while those of these nodes are given back
-pub next_stays : {D : Type 0} (s : Scenario) → IsRunnable s → (count : ℕ) (before after : List ℕ → D → Type 0)
-    → ((n : List ℕ) → n ≢ coordinator_name → n ≢ second_name coordinator_name → IsOfNone s.resources count n → SameUnder n before after)
-    → (def : ResourceDef) → slice_get s.resources count ≡ Some def → SameUnder def.name before after × SameUnder (second_name def.name) before after
-next_stays s runs count before after others def here =
-    let apart = coordinator_apart s runs count def here in
-    let none = next_of_none s runs count def here in
-    (others def.name (λ e. apart.firsts (sym e)) (λ e. apart.second (sym e)) none.0, others (second_name def.name) (λ e. apart.other (sym e)) (λ e. apart.seconds (sym e)) none.1)

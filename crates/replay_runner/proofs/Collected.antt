@@ -1,9 +1,9 @@
 -- The history out of its traces.
-use Rattle.std.proofs.Common.{inl, inr, ◌≡◌, ◌≢◌, ◌⊎◌, ◌+◌, ◌-◌, ◌<◌, ◌≤◌, ◌==◌, ℕ, zero, suc, Bool, true, false, List, [], ◌∷◌, ◌++◌, drop, get_or, take, map, reverse, length, set, slice_get, is_some, IsSome, Option, Some, None, option_map, Result, Ok, Err, OnOk, refl, ap, sym, subst, ◌∙◌, arith, length-append}
+use Rattle.std.proofs.Common.{inl, inr, ◌≡◌, ◌≢◌, ◌⊎◌, ◌+◌, ◌-◌, ◌<◌, ◌≤◌, ◌==◌, ℕ, zero, suc, Bool, true, false, List, [], ◌∷◌, ◌++◌, drop, take, map, reverse, length, slice_get, is_some, IsSome, Option, Some, None, option_map, Result, Ok, Err, OnOk, refl, ap, sym, subst, ◌∙◌, arith, length-append}
 use Rattle.std.specs.Result.{is_ok}
 use Rattle.std.proofs.lemmas.Bool.{false≢true}
 use Rattle.std.proofs.lemmas.List.{drop_more, map_more, reverse-append, take_all}
-use Rattle.std.proofs.lemmas.Option.{get_or_from_slice_get, same_Some, slice_get_read}
+use Rattle.std.proofs.lemmas.Option.{get_or_from_slice_get, same_Some}
 use Rattle.std.specs.Prelude.{Vec}
 use Rattle.std.specs.declared.alloc.Global.{Global}
 use Rattle.std.proofs.lemmas.Bool.Decides.{nat_tests}
@@ -17,7 +17,7 @@ use Rattle.replay_runner.specs.declared.collecting.Traces.{Traces}
 use Rattle.replay_runner.specs.Collecting.{AreTraces, HaveTraces, IsShortened, items_of, trace_among, trace_at}
 use Rattle.replay_runner.specs.Traces.{at, places_of}
 use Rattle.replay_runner.proofs.Printed.{length-places, printed_here, printed_there}
-use Rattle.replay_runner.proofs.Lists.{get_past, member_at, slice_get-set_other, slice_get-set_same, snoc_below, snoc_end}
+use Rattle.replay_runner.proofs.Lists.{get_past, member_at, snoc_below, snoc_end}
 
 -- ---- the newest entry of a place is taken out
 
@@ -114,29 +114,6 @@ module _ (old new : Traces) (taken : Option Entry) where
       others rest (place.Man k) e = rest k e
 
 -- ---- the trace at a number
-
--- the one at a number was replaced by its front
-pub shortened : (old new : List (Vec Entry Global)) (n : ℕ) (trace left : Vec Entry Global) (taken : Option Entry) → 1 ≤ n → n ≤ length old → trace ≡ get_or old (n - 1) trace → new ≡ set old (n - 1) left
-    → ((front : List Entry) (e : Entry) → trace.items ≡ front ++ e ∷ [] → (taken ≡ Some e) × (left.items ≡ front))
-    → (front : List Entry) (e : Entry) → trace_among old n ≡ Some (front ++ e ∷ []) → (taken ≡ Some e) × IsShortened old new n front
-shortened old new zero trace left taken least most read changed out front e is = absurd (omega (arith, least))
-shortened old new (suc k) trace left taken least most read changed out front e is =
-    let number : suc k - 1 ≡ k = omega arith in
-    let there : slice_get old k ≡ Some trace = slice_get_read old _ k trace refl (omega (arith, most)) (read ∙ ap (λ i. get_or old i trace) number) in
-    let made : new ≡ set old k left = changed ∙ ap (λ i. set old i left) number in
-    let (got, rest) = out front e (same_Some trace.items (front ++ e ∷ []) (sym (ap (option_map items_of) there) ∙ is)) in (
-      got,
-      record {
-        here = ap (λ vs. option_map items_of (slice_get vs k)) made ∙ ap (option_map items_of) (slice_get-set_same old k left trace there) ∙ ap Some rest;
-        others = λ j away. others made j away;
-      },
-    )
-  where
-    others : new ≡ set old k left → (j : ℕ) → (j == suc k) ≡ false → trace_among new j ≡ trace_among old j
-    others made zero away = refl
-    others made (suc j) away =
-        let apart : j ≢ k = grind (arith, nat_tests) in
-        ap (λ vs. option_map items_of (slice_get vs j)) made ∙ ap (option_map items_of) (slice_get-set_other old k j left apart)
 
 -- where there is none
 pub none_there : {A : Type 0} (old : List (Vec Entry Global)) (n : ℕ) → (n ≡ 0) ⊎ (length old < n) → (es : List Entry) → trace_among old n ≡ Some es → A

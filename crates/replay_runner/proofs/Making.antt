@@ -26,7 +26,7 @@ use Rattle.resource_core.specs.Shown as shown
 use Rattle.manager_core.specs.declared.nodes.Manager.{Manager}
 use Rattle.manager_core.specs.Standing as manager
 use Rattle.node_seat.specs.Entering.{IsTold, event_by}
-use Rattle.node_seat.specs.Faults.{Blames, Fits}
+use Rattle.node_seat.specs.Faults.{Blames, EventFits}
 use Rattle.node_seat.specs.declared.faults.RunFault.{RunFault}
 use Rattle.node_seat.specs.declared.faults.RunFault.TheVariants as fault
 use Rattle.node_seat.proofs.Kept.{told_all}
@@ -55,7 +55,7 @@ module _ {N D K : Type 0} (state : D → DiskState) (stands_for : N → Role →
     (here : place_at before.seat.node ≡ p) (stood : stands_for before.seat.node c.role (own p c.ms)) (told : IsTold (disks before.seat.node) c.event)
     (entered : (step : Step) (letter : Option Letter) → Makes stands_for place_at disks size before after (length c.ms + 1) now (cause_of c.why) c.event step (Ok letter) → AreNodes state c.s new (moment_by p now c step ∷ c.ms))
     (stand : (os : List Moment) → ((q : Place) → same_place q p ≡ false → own q os ≡ own q c.ms) → stands_for after.seat.node c.role (own p os) → AllStand state c.s new os)
-    (fits_by : Fits (disks before.seat.node) (size before.seat.node) c.role (own p c.ms) now c.event → Fits (disks_at state old p) c.s.disk c.role (own p c.ms) now c.event)
+    (fits_by : EventFits (disks before.seat.node) (size before.seat.node) c.role (own p c.ms) now c.event → EventFits (disks_at state old p) c.s.disk c.role (own p c.ms) now c.event)
     (missed_by : (missed : RunFault) → Blames p c.role (own p c.ms) now c.event (disks after.seat.node) (size after.seat.node) missed → Missed p now c (disks_at state new p) missed) where
   entered_by : (r : Result (Option Letter) RunFault) → IsMade stands_for place_at disks size before after (length c.ms + 1) now (cause_of c.why) c.event r → Entered state old new stamp now p printed given c r
   entered_by (Ok letter) (step, e) = record {
@@ -102,7 +102,7 @@ module _ {D K : Type 0} (state : D → DiskState) (old : Nodes D K) (after : Mem
       (λ step letter e. nodes_coordinator state c.s old after c.role c.there c.ms (moment_by place.Tc now c step) refl c.nodes
       (server_enters (coordinator.StandsAs state) (coordinator.disks_of state) place.Tc c.role c.s.disk stepping.stands_at (coordinator.size_of state) coordinator.serves old.coordinator after c.ms now c.why c.event step letter is refl same e))
       (λ os elsewhere stands. stand_coordinator state c.s old after c.role c.there c.ms os elsewhere c.nodes (record { stands = stands; sized = sized }))
-      (λ fits. subst (λ n. Fits (coordinator.disks_of state old.coordinator.seat.node) n c.role (own place.Tc c.ms) now c.event) (size_coordinator state c.s.disk old.coordinator.seat.node is.sized) fits)
+      (λ fits. subst (λ n. EventFits (coordinator.disks_of state old.coordinator.seat.node) n c.role (own place.Tc c.ms) now c.event) (size_coordinator state c.s.disk old.coordinator.seat.node is.sized) fits)
       (λ missed b. inr (subst (λ n. Blames place.Tc c.role (own place.Tc c.ms) now c.event (coordinator.disks_of state after.seat.node) n missed) (size_coordinator state c.s.disk after.seat.node sized) b)) r made
 
   pub entered_coordinator : (p : Place) → p ≡ place.Tc → ((event : Event) → event_by printed given ≡ Some event → CoordinatorMade event)
@@ -131,8 +131,8 @@ module _ {D K : Type 0} (state : D → DiskState) (old : Nodes D K) (n : ℕ) (b
       (λ step letter e. nodes_resource state c.s old n before after resources placed changed c.role c.there c.ms (moment_by (place.Res n) now c step) refl c.nodes
       (server_enters (resource.StandsAs state) (shown.disks_of state) (place.Res n) c.role c.s.disk shown.stands_at (shown.size_of state) resource.serves before after c.ms now c.why c.event step letter is stands_here same e))
       (λ os elsewhere stands. stand_resource state c.s old n before after resources placed changed c.role c.there c.ms os elsewhere c.nodes (record { stands = stands; sized = sized }))
-      (λ fits. subst (λ (o : Option (Member (Resource D) K)). Fits (member_disks state o) c.s.disk c.role (own (place.Res n) c.ms) now c.event) (sym placed)
-      (subst (λ k. Fits (shown.disks_of state before.seat.node) k c.role (own (place.Res n) c.ms) now c.event) (size_resource state c.s.disk before.seat.node is.sized) fits))
+      (λ fits. subst (λ (o : Option (Member (Resource D) K)). EventFits (member_disks state o) c.s.disk c.role (own (place.Res n) c.ms) now c.event) (sym placed)
+      (subst (λ k. EventFits (shown.disks_of state before.seat.node) k c.role (own (place.Res n) c.ms) now c.event) (size_resource state c.s.disk before.seat.node is.sized) fits))
       (λ missed b. inr (subst (λ (o : Option (Member (Resource D) K)). Blames (place.Res n) c.role (own (place.Res n) c.ms) now c.event (member_disks state o) c.s.disk missed) (sym there)
       (subst (λ k. Blames (place.Res n) c.role (own (place.Res n) c.ms) now c.event (shown.disks_of state after.seat.node) k missed) (size_resource state c.s.disk after.seat.node sized) b))) r made
 
@@ -164,7 +164,7 @@ only_memory m at owns now Crashed disks size missed fits b = absurd fits
 only_memory m at owns now (Restarted pick calls) disks size missed fits b = absurd fits
 
 -- it asks for no record
-asks_none : (m : Settings) (owns : List Own) (now : ℕ) (event : Event) (disks : Pair) (size : ℕ) → Fits disks size (ManagerRole m) owns now event
+asks_none : (m : Settings) (owns : List Own) (now : ℕ) (event : Event) (disks : Pair) (size : ℕ) → EventFits disks size (ManagerRole m) owns now event
 asks_none m owns now (Given given) disks size = λ up bytes e. absurd (let no : None ≡ Some bytes = e in cc)
 asks_none m owns now (Stopped calls) disks size = tt
 asks_none m owns now Crashed disks size = tt
@@ -196,7 +196,7 @@ module _ {D K : Type 0} (state : D → DiskState) (old : Nodes D K) (n : ℕ) (b
       (λ step letter e. nodes_manager state c.s old n before after managers placed changed c.role c.there c.ms (moment_by (place.Man n) now c step) refl c.nodes
       (member_enters manager.StandsAs (place.Man n) c.role manager_at manager_disks manager_size before after c.ms now c.why c.event step letter is stands_here told e))
       (λ os elsewhere stands. stand_manager state c.s old n before after managers placed changed c.role c.there c.ms os elsewhere c.nodes stands)
-      (λ fits. subst (λ role. Fits no_disks c.s.disk role (own (place.Man n) c.ms) now c.event) (sym role_is) (asks_none settings (own (place.Man n) c.ms) now c.event no_disks c.s.disk))
+      (λ fits. subst (λ role. EventFits no_disks c.s.disk role (own (place.Man n) c.ms) now c.event) (sym role_is) (asks_none settings (own (place.Man n) c.ms) now c.event no_disks c.s.disk))
       (λ missed b. inl (only_memory settings (place.Man n) (own (place.Man n) c.ms) now c.event no_disks 0 missed fits
       (subst (λ role. Blames (place.Man n) role (own (place.Man n) c.ms) now c.event no_disks 0 missed) role_is b)))
       r made

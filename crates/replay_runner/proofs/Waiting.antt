@@ -9,7 +9,7 @@ use Rattle.history_rules.specs.Histories.{Moment, Cause, Turn, Deliver, Missing,
 use Rattle.history_rules.specs.Schedules.{Follows, Item, is_taken, oldest_waiting, or_waiting, takes}
 use Rattle.replay_runner.specs.declared.messages.Letter.{Letter}
 use Rattle.replay_runner.specs.declared.messages.Messages.{Messages}
-use Rattle.replay_runner.specs.Letters.{AreMessages, is_marked, letter_from, letter_of, letters, the_letter, waits}
+use Rattle.replay_runner.specs.Letters.{AreMessages, letter_from, letter_of, letters, the_letter, waits}
 use Rattle.replay_runner.proofs.Histories.{length-letters, step_stamp}
 use Rattle.replay_runner.proofs.Lists.{slice_get-set_other, slice_get-set_same, snoc_below, snoc_end}
 
@@ -37,9 +37,6 @@ module _ (w : World) (schedule : List Item) where
   none_taken (m ∷ ms) legal follows k later =
       let stamp = step_stamp w schedule _ ms m follows.1 in
       taken_before k m ms (takes_not m.cause m.stamp k legal.1.receives_later (omega (arith, stamp, later))) ∙ none_taken ms legal.0 follows.0 k (omega (arith, later))
-
-marked_is : (o : Option Bool) (b : Bool) → o ≡ Some b → is_marked o ≡ b
-marked_is o b e = ap is_marked e
 
 waits_alike : (sent sent' : List (Option Letter)) (taken taken' : List Bool) (k : ℕ) → slice_get sent' k ≡ slice_get sent k → slice_get taken' k ≡ slice_get taken k
     → waits sent' taken' k ≡ waits sent taken k

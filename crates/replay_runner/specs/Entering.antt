@@ -15,7 +15,7 @@ use Rattle.history_text.specs.declared.entries.Cause.{Cause}
 use Rattle.history_text.specs.History.{cause_of}
 use Rattle.history_text.specs.Worlds.{world_of}
 use Rattle.node_seat.specs.Entering.{event_by}
-use Rattle.node_seat.specs.Faults.{Blames, Fits}
+use Rattle.node_seat.specs.Faults.{Blames, EventFits}
 use Rattle.node_seat.specs.declared.faults.RunFault.{RunFault}
 use Rattle.node_seat.specs.declared.faults.RunFault.TheVariants as fault
 use Rattle.replay_runner.specs.declared.messages.Letter.{Letter}
@@ -52,14 +52,14 @@ pub record Unsent {D K : Type 0} (state : D → DiskState) (s : Scenario) (old n
   pub memory : missed ≡ fault.NoMemory
   pub step : Step
   pub happens : Happens role (own at os) now event step
-  pub room : Fits (disks_at state old at) s.disk role (own at os) now event
+  pub room : EventFits (disks_at state old at) s.disk role (own at os) now event
   pub stands : AllStand state s new (moment step ∷ os)
 
 -- the node did what may happen there, with a place for its record, all nodes stand for the history with that moment, and this is the message that it sent
 pub record IsEntered {D K : Type 0} (state : D → DiskState) (s : Scenario) (old new : Nodes D K) (role : Role) (os : List Moment) (at : Place) (now : ℕ) (event : Event) (moment : Step → Moment) (letter : Option Letter) : Type 0 where
   pub step : Step
   pub happens : Happens role (own at os) now event step
-  pub room : Fits (disks_at state old at) s.disk role (own at os) now event
+  pub room : EventFits (disks_at state old at) s.disk role (own at os) now event
   pub nodes : AreNodes state s new (moment step ∷ os)
   pub sent : letter ≡ letter_of (moment step)
 

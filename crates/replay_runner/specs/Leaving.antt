@@ -19,7 +19,7 @@ use Rattle.node_seat.specs.declared.faults.RunFault.{RunFault}
 use Rattle.node_seat.specs.declared.faults.RunFault.TheVariants as fault
 use Rattle.scenario_nodes.specs.Nodes.{HaveSize}
 use Rattle.scenario_nodes.specs.Opening.{HaveNoEntry, IsOpenFault, IsShelfFault}
-use Rattle.scenario_nodes.specs.Shelves.{AllTell, AreGivenBack, HasBoth, Showing, coordinator_name, pair_of, second_name}
+use Rattle.scenario_nodes.specs.Shelves.{AllTell, AreGivenBack, HasBoth, IsDiskName, Showing, coordinator_name, pair_of, second_name}
 use Rattle.replay_runner.specs.Ends.{IsCause}
 
 -- ---- the nodes with disks, in order: the coordinator, and the resources
@@ -142,13 +142,17 @@ Replays state old new s result = GivesBack state old.has_place new.has_place old
 
 -- ---- where nothing fails
 
--- The shelf tells what was given back to it, and its disks their bytes. In a call it didn't fail, and no disk that was given back to it
--- has counted a fault.
-pub record IsCalmShelf {D : Type 0} (state : D → DiskState) (old new : Showing D) : Type 0 where
+-- the name of a disk of one of these nodes
+abbrev pub IsServerDisk : Scenario → List ℕ → Type 0
+IsServerDisk s name = (k : ℕ) × (node : List ℕ) × (slice_get (server_names s) k ≡ Some node) × IsDiskName node name
+
+-- The shelf tells what was given back to it, and its disks their bytes. In a call it didn't fail, and no disk of a node of the scenario
+-- that was given back to it has counted a fault.
+pub record IsCalmShelf {D : Type 0} (state : D → DiskState) (s : Scenario) (old new : Showing D) : Type 0 where
   pub tells : IsTrue old.tells
   pub told : AllTell state
   pub shelf : ¬ Rose old.faults new.faults
-  pub disks : (name : List ℕ) (disk : D) → new.given_back name disk → (state disk).counts.faults ≡ 0
+  pub disks : (name : List ℕ) (disk : D) → IsServerDisk s name → new.given_back name disk → (state disk).counts.faults ≡ 0
 
 -- how a replay ends then: it is done, a record doesn't fit, or memory was refused
 abbrev pub IsCalmEnd : Result (List Entry) RunFault → Type 0

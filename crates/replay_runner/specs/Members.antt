@@ -10,7 +10,7 @@ use Rattle.history_rules.specs.Schedules.{last_turn}
 use Rattle.history_text.specs.declared.entries.Cause.{Cause}
 use Rattle.history_text.specs.declared.entries.Cause.TheVariants as cause
 use Rattle.history_text.specs.History.{entries}
-use Rattle.node_seat.specs.Entering.{Does, HadPlace, Stays, entry_at}
+use Rattle.node_seat.specs.Entering.{Does, HadPlaceFor, Stays, entry_at}
 use Rattle.node_seat.specs.declared.faults.RunFault.{RunFault}
 use Rattle.node_seat.specs.declared.faults.RunFault.TheVariants as fault
 use Rattle.replay_runner.specs.declared.members.Member.{Member}
@@ -28,7 +28,7 @@ turned_by _ stamp before = before
 pub record Makes {N K : Type 0} (stands_for : N → Role → List Own → Type 0) (place : N → Place) (disks : N → Pair) (size : N → ℕ) (old new : Member N K)
     (stamp now : ℕ) (why : Cause) (event : Event) (step : Step) (result : Result (Option Letter) RunFault) : Type 0 where
   pub does : Does stands_for disks old.seat.node new.seat.node event now step
-  pub room : HadPlace stands_for disks size old.seat.node event now
+  pub room : HadPlaceFor stands_for disks size old.seat.node event now
   pub printed : new.seat.trace ≡ old.seat.trace ++ entry_at stamp (place old.seat.node) now why step ∷ []
   pub turned : IfOk result (λ letter. new.turned ≡ turned_by why stamp old.turned)
   pub sent : IfOk result (λ letter. letter ≡ option_map (letter_from (place old.seat.node) stamp) step.sent)

@@ -115,8 +115,8 @@ fn replay_named<H: Shelf, K: RunName>(
 
 /// Replays the schedule of a scenario, step by step, with the coordinator and each resource on two disks of the shelf, which
 /// are given back however it ends: the entries of its history, or why it ended early. Where the disks tell their bytes,
-/// `Damaged` and `Other` never come: blank disks are no other scenario's, and each message fits a node. `Store` comes only
-/// by a fault that the shelf or a disk counted.
+/// `Damaged` and `Other` never come: blank disks are no other scenario's, and each message fits a node. `Store` then comes
+/// only by a fault that the shelf or a disk counted.
 pub fn replay<H: Shelf>(
     alloc: Global,
     scenario: &Scenario,
@@ -124,7 +124,7 @@ pub fn replay<H: Shelf>(
 ) -> Result<List<Entry>, RunFault>
     requires runnable { IsRunnable scenario.now }
     ensures replays { Replays H.D.state (showing H.has_place H.given_back H.faults H.tells shelf.old) (showing H.has_place H.given_back H.faults H.tells shelf.new) scenario.now result }
-    ensures calm { IsCalmShelf H.D.state (showing H.has_place H.given_back H.faults H.tells shelf.old) (showing H.has_place H.given_back H.faults H.tells shelf.new) → IsCalmEnd result }
+    ensures calm { IsCalmShelf H.D.state scenario.now (showing H.has_place H.given_back H.faults H.tells shelf.old) (showing H.has_place H.given_back H.faults H.tells shelf.new) → IsCalmEnd result }
     ensures returned { ReturnsAll (H.tells shelf.old) (H.has_place shelf.old) (H.has_place shelf.new) (H.given_back shelf.old) (H.given_back shelf.new) }
 {
     replay_named::<H, Brand>(alloc, scenario, shelf)

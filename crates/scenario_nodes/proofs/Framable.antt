@@ -19,7 +19,7 @@ use Rattle.resource_core.specs.Ready.{IsActionWithin}
 use Rattle.resource_core.specs.Ready.{AreStmtsWithin as HavePlaces}
 use Rattle.resource_core.proofs.StatementLaws.{stmts_within}
 use Rattle.scenario_nodes.proofs.Tables.{plain_text}
-use Rattle.scenario_nodes.specs.Calls.{AreFramable, AreRead, IsFramableAction, IsFramableWork, IsRead, IsReadAction, IsReadWork, action_here}
+use Rattle.scenario_nodes.specs.Calls.{AreFramable, AreRead, IsFramableAction, IsRead, IsReadAction, IsReadWork, action_here}
 
 -- ---- statements
 
@@ -44,17 +44,6 @@ framable stmts read utf8 = record {
   layout = record { count = let few = read.few in omega (arith, few); each = λ k d below. stmt_fits (get_or stmts k d) (read.each k d below) (utf8 k d below) };
   limits = record { count = read.few; each = λ k d below. stmt_short (get_or stmts k d) (read.each k d below) };
 }
-
--- ---- work
-
-pub work_framable : (action : Action) → IsFramableAction action → IsFramableWork (work.Tcc action)
-work_framable action is = record {
-  layout = (is.tries.layout, is.confirms.layout, is.cancels.layout);
-  limits = (is.tries.limits, is.confirms.limits, is.cancels.limits);
-}
-
-pub stmts_framable : (stmts : List Stmt) → AreFramable stmts → IsFramableWork (work.At stmts)
-stmts_framable stmts are = record { layout = are.layout; limits = are.limits }
 
 -- ---- what a resource takes
 

@@ -7,6 +7,5 @@ mod Passes
 mod ReadParts
 mod Tables
 mod Framable
-mod OnShelf
 mod SetupWithin
 pub mod Returned

@@ -5,8 +5,7 @@ use Rattle.seata_types.specs.declared.statements.Action.{Action}
 use Rattle.seata_types.specs.declared.statements.Stmt.{Stmt}
 use Rattle.seata_types.specs.declared.statements.Work.{Work}
 use Rattle.seata_types.specs.declared.statements.Work.TheVariants as work
-use Rattle.scenario_reader.specs.declared.scenarios.ManagerDef.{ManagerDef}
-use Rattle.history_text.specs.Worlds.{call_actions, actions_at, locals_at}
+use Rattle.history_text.specs.Worlds.{call_actions, locals_at}
 use Rattle.resource_core.specs.Setups.{action_entry, actions_of}
 use Rattle.scenario_nodes.specs.Calls.{action_here}
 
@@ -62,23 +61,6 @@ module _ (r m k : ℕ) (calls : List (ℕ × Work)) (call : ℕ × Work) (at : s
       → actions_of made ++ call_actions r m (k + 1 + 1) (drop (k + 1) calls) ≡ all
   call_passed made all is e = ap (λ (l : List ((ℕ × ℕ) × Action)). actions_of made ++ l) (sym (here None is)) ∙ e
 
-pub calls_ended : (r m k : ℕ) (calls : List (ℕ × Work)) (made all : List ((ℕ × ℕ) × Action)) → k ≡ length calls → made ++ call_actions r m (k + 1) (drop k calls) ≡ all → made ≡ all
-calls_ended r m k calls made all end e =
-    sym (append_nil made) ∙ ap (λ (l : List ((ℕ × ℕ) × Action)). made ++ l) (sym (ap (call_actions r m (k + 1)) (drop_end calls k end))) ∙ e
-
--- ---- all managers
-
-pub manager_taken : (r k : ℕ) (defs : List ManagerDef) (def : ManagerDef) (made more all : List ((ℕ × ℕ) × Action)) → slice_get defs k ≡ Some def → more ≡ made ++ call_actions r (k + 1) 1 def.calls
-    → made ++ actions_at r (k + 1) (drop k defs) ≡ all → more ++ actions_at r (k + 1 + 1) (drop (k + 1) defs) ≡ all
-manager_taken r k defs def made more all at is e =
-    ap (λ (l : List ((ℕ × ℕ) × Action)). l ++ actions_at r (k + 1 + 1) (drop (k + 1) defs)) is
-    ∙ append_assoc made (call_actions r (k + 1) 1 def.calls) (actions_at r (k + 1 + 1) (drop (k + 1) defs))
-    ∙ ap (λ (l : List ((ℕ × ℕ) × Action)). made ++ l) (sym (ap (actions_at r (k + 1)) (drop_at defs k def at))) ∙ e
-
-pub managers_ended : (r k : ℕ) (defs : List ManagerDef) (made all : List ((ℕ × ℕ) × Action)) → k ≡ length defs → made ++ actions_at r (k + 1) (drop k defs) ≡ all → made ≡ all
-managers_ended r k defs made all end e =
-    sym (append_nil made) ∙ ap (λ (l : List ((ℕ × ℕ) × Action)). made ++ l) (sym (ap (actions_at r (k + 1)) (drop_end defs k end))) ∙ e
-
 -- ---- locals
 
 first_local : (r k : ℕ) (one : ℕ × List Stmt) (locals : List (ℕ × List Stmt))
@@ -100,7 +82,3 @@ module _ (r k : ℕ) (locals : List (ℕ × List Stmt)) (one : ℕ × List Stmt)
   pub local_passed : (made all : List (ℕ × List Stmt)) → (one.0 == r) ≡ false → made ++ locals_at r (k + 1) (drop k locals) ≡ all
       → made ++ locals_at r (k + 1 + 1) (drop (k + 1) locals) ≡ all
   local_passed made all is e = ap (λ (l : List (ℕ × List Stmt)). made ++ l) (sym (local_here false is)) ∙ e
-
-pub locals_ended : (r k : ℕ) (locals made all : List (ℕ × List Stmt)) → k ≡ length locals → made ++ locals_at r (k + 1) (drop k locals) ≡ all → made ≡ all
-locals_ended r k locals made all end e =
-    sym (append_nil made) ∙ ap (λ (l : List (ℕ × List Stmt)). made ++ l) (sym (ap (locals_at r (k + 1)) (drop_end locals k end))) ∙ e

@@ -1,5 +1,5 @@
 //! The coordinator of a scenario on two disks of a shelf.
-ghost use Rattle.std.specs.Prelude.{◌≡◌, length, IfOk, IfErr, OnErr, OnOk};
+ghost use Rattle.std.specs.Prelude.{length, IfOk, IfErr, OnErr, OnOk};
 ghost use Rattle.scenario_reader.specs.Runnable.{IsRunnable};
 ghost use Rattle.scenario_nodes.specs.Shelves.{AreGivenBack, HasBoth, IsDiskName, KeepsOthers, ReturnsAll, ReturnsBut, SamePlaces, coordinator_name, showing};
 ghost use Rattle.scenario_nodes.specs.Nodes.{IsNewCoordinator, coordinator_disks, coordinator_role};

@@ -1,6 +1,5 @@
 //! A resource of a scenario on two disks of a shelf.
 ghost use Rattle.std.specs.Prelude.{◌≡◌, ◌-◌, Some, length, slice_get, IfOk, IfErr, OnErr, OnOk};
-ghost use Rattle.scenario_reader.specs.declared.scenarios.ResourceDef.{ResourceDef as TheDef};
 ghost use Rattle.scenario_reader.specs.Contents.{IsBetween};
 ghost use Rattle.scenario_reader.specs.Runnable.{IsRunnable};
 ghost use Rattle.scenario_nodes.specs.Shelves.{AreGivenBack, HasBoth, IsDiskName, KeepsOthers, ReturnsAll, ReturnsBut, SamePlaces, second_name, showing};

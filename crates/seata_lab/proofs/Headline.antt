@@ -1,5 +1,5 @@
 -- What status 0 of a replay says, where the shelf's disks tell their bytes.
-use Rattle.std.proofs.Common.{◌≡◌, inl, inr, ℕ, Bool, List, [], ◌∷◌, length, Result, Ok, Err, refl, ap, sym, ◌∙◌, arith, length-append}
+use Rattle.std.proofs.Common.{◌≡◌, inl, inr, ℕ, List, [], ◌∷◌, length, Result, Ok, Err, refl, ap, sym, ◌∙◌, arith, length-append}
 use Rattle.disk_model.specs.Disk.{DiskState}
 use Rattle.scenario_reader.specs.declared.scenarios.Scenario.{Scenario}
 use Rattle.scenario_reader.specs.Reading.{IsScenario}

@@ -77,22 +77,18 @@ fault_text (fault.Mode path) = codes "scenario: Mode " ++ path
 fault_text (fault.Name path) = codes "scenario: Name " ++ path
 fault_text fault.NoMemory = []
 
--- where a node's disks are told of
-abbrev pub node_text : Names → Place → List ℕ
-node_text names at = place_text names at
-
 -- the line of disks that failed
 abbrev pub store_text : Names → Place → List ℕ
-store_text names at = codes "store: " ++ node_text names at
+store_text names at = codes "store: " ++ place_text names at
 
 -- the line of a record that doesn't fit on a disk
 abbrev pub full_text : Names → Place → Full → List ℕ
-full_text names at full = codes "full: " ++ (node_text names at ++ (codes " needs " ++ (decimal full.needed ++ (codes " of " ++ decimal full.size))))
+full_text names at full = codes "full: " ++ (place_text names at ++ (codes " needs " ++ (decimal full.needed ++ (codes " of " ++ decimal full.size))))
 
 -- the name of one of two disks
 abbrev pub disk_text : Names → Place → (second : Bool) → List ℕ
-disk_text names at false = node_text names at
-disk_text names at true = node_text names at ++ codes ".2"
+disk_text names at false = place_text names at
+disk_text names at true = place_text names at ++ codes ".2"
 
 -- the line of bytes that are no journal
 abbrev pub damaged_text : Names → Place → (second : Bool) → ℕ → List ℕ

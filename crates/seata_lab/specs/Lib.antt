@@ -2,5 +2,6 @@ pub mod Streams
 pub mod FrameLines
 pub mod Listings
 pub mod Answers
+pub mod Once
 pub mod MemStreams
 pub mod StdStreams

@@ -1,14 +1,12 @@
 //! The calls at the top: one replay, and the program's words.
-ghost use Rattle.std.specs.Prelude.{◌≡◌, ◌≢◌, ◌⊎◌, ℕ, true, false, List as Items, ◌∷◌, Some, IfOk, IfErr, string_bytes};
+ghost use Rattle.std.specs.Prelude.{◌≡◌, ◌≢◌, ◌⊎◌, true, false, ◌∷◌, IfOk, IfErr, string_bytes};
 ghost use Rattle.std.specs.Io.KnownBytes.{Appends};
 ghost use Rattle.disk_model.specs.Disk.{Rose};
 ghost use Rattle.scenario_nodes.specs.Shelves.{ReturnsAll, showing};
-ghost use Rattle.scenario_reader.specs.declared.scenarios.Scenario.{Scenario as TheScenario};
-ghost use Rattle.scenario_reader.specs.Reading.{IsScenario};
-ghost use Rattle.replay_runner.specs.Leaving.{IsCalmShelf};
 ghost use Rattle.replay_runner.specs.Leaving.{Replays as Replayed};
-ghost use Rattle.seata_lab.specs.Answers.{Answers, Done, IsAnswerTo, IsFramesAnswer, Replays, TellsReplay, TellsShelf, TellsFrames, TellsUsage, TellsFaults, is_calm_end, is_replay, is_frames, replay_statuses, frames_statuses, with_failures};
-ghost use Rattle.seata_lab.specs.Streams.{GainsFront, IsCalm, devices};
+ghost use Rattle.seata_lab.specs.Answers.{Answers, IsAnswerTo, IsFramesAnswer, Replays, TellsShelf, TellsFrames, TellsUsage, TellsFaults, is_replay, is_frames, replay_statuses, frames_statuses, with_failures};
+ghost use Rattle.seata_lab.specs.Once.{ReplaysOnce};
+ghost use Rattle.seata_lab.specs.Streams.{GainsFront, devices};
 
 use crate::answers::{Answer, answer_to};
 use crate::frames::list_frames;
@@ -102,12 +100,12 @@ pub fn replay_once<S: Source, K: Sink, H: Shelf>(
     sink: &mut K,
     shelf: &mut H,
 ) -> u8
-    ensures replay { TellsReplay (Replayed H.D.state (showing H.has_place H.given_back H.faults H.tells shelf.old) (showing H.has_place H.given_back H.faults H.tells shelf.new)) (Done H.D.state (H.tells shelf.old) (H.given_back shelf.new)) result (devices S.left S.faults K.written K.faults source.old sink.old) (devices S.left S.faults K.written K.faults source.new sink.new) }
-    ensures done { result ≡ 0 → (input : Items ℕ) → S.left source.old ≡ Some input
-        → (r : Replays (Replayed H.D.state (showing H.has_place H.given_back H.faults H.tells shelf.old) (showing H.has_place H.given_back H.faults H.tells shelf.new)) 0 input (devices S.left S.faults K.written K.faults source.old sink.old) (devices S.left S.faults K.written K.faults source.new sink.new)) × Done H.D.state (H.tells shelf.old) (H.given_back shelf.new) r.scenario r.text }
-    ensures shelf { TellsShelf (Replayed H.D.state (showing H.has_place H.given_back H.faults H.tells shelf.old) (showing H.has_place H.given_back H.faults H.tells shelf.new)) (shelf.new ≡ shelf.old) result (S.left source.old) (S.left source.new) }
-    ensures calm { IsCalm (devices S.left S.faults K.written K.faults source.old sink.old) (devices S.left S.faults K.written K.faults source.new sink.new) → (input : Items ℕ) (scenario : TheScenario) → S.left source.old ≡ Some input → IsScenario input scenario
-        → IsCalmShelf H.D.state (showing H.has_place H.given_back H.faults H.tells shelf.old) (showing H.has_place H.given_back H.faults H.tells shelf.new) → is_calm_end result ≡ true }
+    ensures once { ReplaysOnce H.D.state
+        (showing H.has_place H.given_back H.faults H.tells shelf.old)
+        (showing H.has_place H.given_back H.faults H.tells shelf.new)
+        (shelf.new ≡ shelf.old) result
+        (devices S.left S.faults K.written K.faults source.old sink.old)
+        (devices S.left S.faults K.written K.faults source.new sink.new) }
     ensures returned { ReturnsAll (H.tells shelf.old) (H.has_place shelf.old) (H.has_place shelf.new) (H.given_back shelf.old) (H.given_back shelf.new) }
     ensures faults { TellsFaults (with_failures replay_statuses) result (devices S.left S.faults K.written K.faults source.old sink.old) (devices S.left S.faults K.written K.faults source.new sink.new) }
 {
@@ -141,14 +139,12 @@ pub fn top<S: Source, K: Sink, H: Shelf>(
     ensures unread { result ≡ 2 → source.new ≡ source.old }
     ensures usage { is_replay words.now ≡ false → is_frames words.now ≡ false
         → TellsUsage result (devices S.left S.faults K.written K.faults source.old sink.old) (devices S.left S.faults K.written K.faults source.new sink.new) }
-    ensures replay { is_replay words.now ≡ true
-        → TellsReplay (Replayed H.D.state (showing H.has_place H.given_back H.faults H.tells shelf.old) (showing H.has_place H.given_back H.faults H.tells shelf.new)) (Done H.D.state (H.tells shelf.old) (H.given_back shelf.new)) result (devices S.left S.faults K.written K.faults source.old sink.old) (devices S.left S.faults K.written K.faults source.new sink.new) }
-    ensures done { is_replay words.now ≡ true → result ≡ 0 → (input : Items ℕ) → S.left source.old ≡ Some input
-        → (r : Replays (Replayed H.D.state (showing H.has_place H.given_back H.faults H.tells shelf.old) (showing H.has_place H.given_back H.faults H.tells shelf.new)) 0 input (devices S.left S.faults K.written K.faults source.old sink.old) (devices S.left S.faults K.written K.faults source.new sink.new)) × Done H.D.state (H.tells shelf.old) (H.given_back shelf.new) r.scenario r.text }
-    ensures shelf { is_replay words.now ≡ true
-        → TellsShelf (Replayed H.D.state (showing H.has_place H.given_back H.faults H.tells shelf.old) (showing H.has_place H.given_back H.faults H.tells shelf.new)) (shelf.new ≡ shelf.old) result (S.left source.old) (S.left source.new) }
-    ensures calm { is_replay words.now ≡ true → IsCalm (devices S.left S.faults K.written K.faults source.old sink.old) (devices S.left S.faults K.written K.faults source.new sink.new) → (input : Items ℕ) (scenario : TheScenario) → S.left source.old ≡ Some input → IsScenario input scenario
-        → IsCalmShelf H.D.state (showing H.has_place H.given_back H.faults H.tells shelf.old) (showing H.has_place H.given_back H.faults H.tells shelf.new) → is_calm_end result ≡ true }
+    ensures replay { is_replay words.now ≡ true → ReplaysOnce H.D.state
+        (showing H.has_place H.given_back H.faults H.tells shelf.old)
+        (showing H.has_place H.given_back H.faults H.tells shelf.new)
+        (shelf.new ≡ shelf.old) result
+        (devices S.left S.faults K.written K.faults source.old sink.old)
+        (devices S.left S.faults K.written K.faults source.new sink.new) }
     ensures returned { ReturnsAll (H.tells shelf.old) (H.has_place shelf.old) (H.has_place shelf.new) (H.given_back shelf.old) (H.given_back shelf.new) }
     ensures untouched { is_replay words.now ≡ false → shelf.new ≡ shelf.old }
     ensures frames { is_frames words.now ≡ true

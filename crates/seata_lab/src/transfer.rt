@@ -1,13 +1,14 @@
 //! Reading a whole input and writing a whole text.
-ghost use Rattle.std.specs.Prelude.{◌≡◌, ◌<◌, ◌≤◌, ◌+◌, ℕ, vec_len, length, take, IfOk, IfErr, OnOk, OnErr};
+ghost use Rattle.std.specs.Prelude.{◌≡◌, ◌<◌, ◌≤◌, ◌+◌, length, take, IfOk, IfErr, OnOk, OnErr};
 ghost use Rattle.disk_model.specs.Disk.{Rose};
 ghost use Rattle.seata_lab.specs.Streams.{GainsFront};
 ghost use Rattle.seata_types.specs.declared.limits.TheConstants.{INPUT_BYTES};
 ghost use Rattle.std.specs.Io.KnownBytes.{Consumes, Appends, IsAtEnd};
 
 use crate::streams::{Failed, Sink, Source};
+use disk_model::zeros;
 use seata_types::limits::{INPUT_BYTES, PIECE_BYTES};
-use std::alloc::{AllocError, Global};
+use std::alloc::Global;
 
 /// Why an input wasn't read.
 pub enum ReadFault {
@@ -43,13 +44,6 @@ pub fn read_some<S: Source>(source: &mut S, buffer: &mut [u8], room: usize) -> R
     ensures counted { S.faults source.old ≤ S.faults source.new }
 {
     source.read(&mut buffer[..room])
-}
-
-/// So many zero bytes.
-pub fn zeros(alloc: Global, n: usize) -> Result<Vec<u8>, AllocError>
-    ensures { IfOk result (λ bytes. vec_len bytes ≡ n) }
-{
-    vec![in alloc; 0; n]
 }
 
 /// Reads to the end of the input, or one byte past the most that is taken.

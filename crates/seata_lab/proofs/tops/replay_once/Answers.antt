@@ -21,15 +21,17 @@ returns g c =
     c.write_answer.ensures.whole c.write_answer.ensures.front c.write_answer.ensures.nothing in
     let said = tells_replay ends c.write_answer.result old new t (Done g.H.D.Disk.state before.tells after.given_back) (answer_zero g.H.D.Disk.state before after) in
     record {
-      replay = said;
-      done = λ zero input told.
-          let r = subst (λ n. Replays ends n input old new) zero (said.replayed (rw zero refl) input told) in (
-            r,
-            status_zero g.H.D.Disk.state before after input old new r,
-          );
-      shelf = shelf_told ends (c.replay_input.new.shelf ≡ c.args.shelf.now) c.write_answer.result old new c.replay_input.result c.replay_input.ensures.answer c.replay_input.ensures.shelf c.replay_input.ensures.unanswered
-          c.write_answer.ensures.whole c.write_answer.ensures.nothing;
-      calm = λ still input s told is shelf. calm_status g.H.D.Disk.state before after c.write_answer.result old new input told s is said still shelf;
+      once = record {
+        tells = said;
+        done = λ zero input told.
+            let r = subst (λ n. Replays ends n input old new) zero (said.replayed (rw zero refl) input told) in (
+              r,
+              status_zero g.H.D.Disk.state before after input old new r,
+            );
+        shelf = shelf_told ends (c.replay_input.new.shelf ≡ c.args.shelf.now) c.write_answer.result old new c.replay_input.result c.replay_input.ensures.answer c.replay_input.ensures.shelf c.replay_input.ensures.unanswered
+            c.write_answer.ensures.whole c.write_answer.ensures.nothing;
+        calm = λ still input s told is shelf. calm_status g.H.D.Disk.state before after c.write_answer.result old new input told s is said still shelf;
+      };
       returned = c.replay_input.ensures.returned;
       faults = t.faults;
     }
