@@ -1,5 +1,5 @@
 -- What a stop and a crash leave of the coordinator.
-use Rattle.std.proofs.Common.{◌≡◌, ◌*◌, ◌≤◌, inl, inr, ℕ, Bool, true, false, List, ◌∷◌, Some, None, option_map, is_some, refl, sym, ap, subst, ◌∙◌, arith}
+use Rattle.std.proofs.Common.{◌≡◌, ◌*◌, ◌≤◌, inl, inr, ℕ, Bool, true, false, List, ◌∷◌, None, option_map, is_some, refl, sym, ap, subst, ◌∙◌, arith}
 use Rattle.disk_model.specs.Disk.{DiskState, Content, IsLawful, SameKind}
 use Rattle.disk_model.specs.Stop.{below, stop_of, failures_of, state_of}
 use Rattle.disk_model.specs.declared.stoppable.Stop.TheVariants.{Armed}
@@ -10,6 +10,7 @@ use Rattle.journal_checkpoint.specs.Keeping.{KeepsPair, active_disk, other_disk,
 use Rattle.journal_checkpoint.specs.Pairs.{chosen}
 use Rattle.memory_store.specs.Settling.{KeepsOrSettled, settled}
 use Rattle.seata_types.specs.declared.acts.Act.TheVariants as act
+use Rattle.seata_types.specs.declared.limits.TheConstants.{MANAGERS}
 use Rattle.durable_records.specs.declared.coordinators.SessionRecord.{SessionRecord}
 use Rattle.session_log.specs.declared.sessions.Snapshot.{Snapshot}
 use Rattle.session_store.specs.declared.sessions.Sessions.{Sessions}
@@ -148,9 +149,7 @@ module _ {D : Type 0} (state : D → DiskState) where
 
   pub remains_armed : (calls : ℕ) (old new : Sessions (Stoppable D)) → ArmsSessions state calls old new → Remains state old new
   remains_armed calls old new a = record {
-    managers = a.opening.managers;
-    resources = a.opening.resources;
-    found = a.opening.found;
+    opening = a.opening;
     moved = record {
       own = omega (arith, a.pair.own);
       first_pick = ap (option_map (λ (c : Content). c.last_pick)) a.pair.first_content;
@@ -165,9 +164,7 @@ module _ {D : Type 0} (state : D → DiskState) where
 
   pub remains_fallen : (old new : Sessions (Stoppable D)) → SameDisks old new → SameOpening old new → Remains state old new
   remains_fallen old new same opening = record {
-    managers = opening.managers;
-    resources = opening.resources;
-    found = opening.found;
+    opening = opening;
     moved = subst (λ p. Moved (pair_of state old) p) (same_pair old new same) (record {
       own = omega arith;
       first_pick = refl;
@@ -201,6 +198,7 @@ module _ {D : Type 0} (state : D → DiskState) where
           record {
             disks = on_armed state law (sessions_of c) (sessions_of c') past owns s.disks up now calls a.sessions;
             starts = a.rest.start ∙ s.starts;
+            few = subst (λ n. n ≤ MANAGERS) (sym a.sessions.opening.managers) s.few;
             follows = λ e. subst (λ k. Follows k (course past (own_entry (Stopped calls) now (still act.Armed) ∷ owns))) same_knowledge (record { tracks = (s.follows (upon c past owns up s)).tracks });
             fallen = λ e. false_true (sym (upon c past owns up s) ∙ e);
           },
@@ -217,7 +215,7 @@ module _ {D : Type 0} (state : D → DiskState) where
             picks = same_picks state c c' remains;
             counted = a.rest.left;
             up = a.sessions.down ∙ up;
-            found = remains.found;
+            opening = remains.opening;
           }
 
     -- its sessions fell, and nothing was in flight
@@ -225,20 +223,18 @@ module _ {D : Type 0} (state : D → DiskState) where
       module _ (times : times_of c ≡ times_of c') (clock : start_of c' ≡ start_of c) (flight : c'.flight ≡ None) (count : c'.records ≡ (known (sessions_of c)).acts) where
         crash_does : (now : ℕ) → Does (StandsAs state) c c' Crashed now (still (act.Down None None))
         crash_does now (CoordinatorRole role past) owns (same, s) =
-            let keeps = s.disks.keeps (upon c past owns up s) in
-            let follows = s.follows (upon c past owns up s) in (
+            let keeps = s.disks.keeps (upon c past owns up s) in (
               crashed_happens role past owns now (upon c past owns up s),
               (
                 same ∙ times,
                 record {
                   disks = on_crashed state law (sessions_of c) (sessions_of c') past owns s.disks up now disks opening down;
                   starts = clock ∙ s.starts;
+                  few = subst (λ n. n ≤ MANAGERS) (sym opening.managers) s.few;
                   follows = λ e. false_true (sym e);
                   fallen = λ e. record {
                     flight = flight;
                     count = count ∙ ap (λ (k : Snapshot). k.acts) keeps.knows;
-                    sendable = follows.tracks.sendable;
-                    pending = λ r is. absurd (let no : None ≡ Some r = is in cc);
                   };
                 },
               ),
@@ -254,5 +250,5 @@ module _ {D : Type 0} (state : D → DiskState) where
               picks = same_picks state c c' remains;
               counted = left;
               down = down;
-              found = remains.found;
+              opening = remains.opening;
             }

@@ -1,6 +1,7 @@
 -- The transaction that a turn takes, and the branch that is asked, by the memory and by the rules.
-use Rattle.std.proofs.Common.{◌≡◌, ◌==◌, ◌&&◌, ◌<◌, ◌≤◌, ◌+◌, ◌^◌, not, ℕ, Bool, true, false, cond, if◌then◌else◌, List, [], ◌∷◌, ◌++◌, length, map, Option, Some, None, option_map, is_some, is_none, refl, sym, ap, subst, ◌∙◌, arith}
+use Rattle.std.proofs.Common.{◌≡◌, ◌==◌, ◌&&◌, ◌<◌, ◌≤◌, ◌+◌, not, ℕ, Bool, true, false, cond, if◌then◌else◌, List, [], ◌∷◌, ◌++◌, length, map, Option, Some, None, option_map, is_some, is_none, refl, sym, ap, subst, ◌∙◌, arith}
 use Rattle.std.specs.Prelude.{find, filter, nat_lt, nat_le}
+use Rattle.std.specs.List.{list_all}
 use Rattle.std.specs.Option.{option_and_then}
 use Rattle.std.proofs.lemmas.Bool.Decides.{nat_tests}
 use Rattle.seata_types.specs.declared.acts.Act.TheVariants as act
@@ -13,8 +14,7 @@ use Rattle.durable_records.specs.declared.coordinators.SessionRecord.TheVariants
 use Rattle.durable_records.specs.Transactions.{Session as Began, sessions, session, has_xid, decided, is_forgotten, is_commit}
 use Rattle.durable_records.specs.Branches.{Grant, grants, branches, unended, is_unended}
 use Rattle.durable_records.specs.Progress.{is_known, status_of, is_on, may_decide, is_going as goes, is_finished as is_over, progress, is_done}
-use Rattle.durable_records.specs.SessionOrder.{Allowed, is_empty, is_counted}
-use Rattle.frame_codec.specs.Limits.{IsCounted}
+use Rattle.durable_records.specs.SessionOrder.{Allowed, is_empty, is_counted, is_within}
 use Rattle.history_rules.specs.Own.{sends}
 use Rattle.history_rules.specs.CoordinatorMemory.{is_past, is_late, least, soonest}
 use Rattle.history_rules.specs.CoordinatorRules.{first_of, last_of, next_asked, asks, manager_of, xid_of as number, branch_of, due_answer}
@@ -27,15 +27,15 @@ use Rattle.session_memory.specs.Changes.{is_begin, is_finished}
 use Rattle.session_memory.specs.Holding.{keeps_rows}
 use Rattle.session_memory.specs.Lookups.{or_else, xid_of, session_in}
 use Rattle.session_memory.specs.Order.{Each}
-use Rattle.session_memory.proofs.Small.{false_true, none_some, and_left, and_right, same_nat, nat_same, nat_differs}
+use Rattle.session_memory.proofs.Small.{false_true, none_some, and_left, and_right, and_both, same_nat, nat_same, nat_differs}
 use Rattle.session_memory.proofs.Lists.{AreCounted, each_same, each_pair, each_filtered, up_to, find_mapped, find_both, map_both, and_false}
 use Rattle.durable_records.proofs.RecordFacts.{numbered, began_xid}
 use Rattle.session_memory.proofs.StepLaws.{began_found}
 use Rattle.coordinator_core.specs.declared.questions.Question.{Question}
+use Rattle.coordinator_core.specs.Answers.{AreWithin}
 use Rattle.coordinator_core.specs.Changes.{kept_moment}
-use Rattle.coordinator_core.specs.Choices.{is_late_entry, is_old_entry, is_by, if_open, last_open, next_open, question_to, if_sendable, question_of, question_in}
+use Rattle.coordinator_core.specs.Choices.{is_late_entry, is_old_entry, is_by, if_open, last_open, next_open, question_to, names_nodes, is_sendable, if_asked, question_of, question_in}
 use Rattle.coordinator_core.specs.Steps.{asked_step}
-use Rattle.coordinator_core.specs.Tracks.{AreSendable}
 use Rattle.coordinator_core.proofs.Firsts.{least_found, soonest_none, soonest_found}
 use Rattle.coordinator_core.proofs.Laws.{AnswersAlike}
 
@@ -224,29 +224,28 @@ module _ (rs : List SessionRecord) where
       find_mapped (branch_now rs) is_open_branch (in_order (branches rs x)) ∙ ap (option_map (branch_now rs)) (first_in_order (is_unended rs) (branches rs x))
   next_alike false x = last_in_order (branches rs x)
 
--- ---- numbers that may be sent
+-- ---- numbers of the scenario
 
-sendable_sessions : (rs : List SessionRecord) → AreSendable rs → Each (λ s. IsCounted MANAGERS s.manager) (sessions rs)
-sendable_sessions [] a = tt
-sendable_sessions (log.Begun xid manager begun timeout ∷ rs) a = (a.1, sendable_sessions rs a.0)
-sendable_sessions (log.Granted xid branch resource call ticket kind hold ∷ rs) a = sendable_sessions rs a.0
-sendable_sessions (log.Decided xid how ∷ rs) a = sendable_sessions rs a.0
-sendable_sessions (log.Ended xid branch ∷ rs) a = sendable_sessions rs a.0
-sendable_sessions (log.Retrying xid ∷ rs) a = sendable_sessions rs a.0
-sendable_sessions (log.Failed xid branch stmt ∷ rs) a = sendable_sessions rs a.0
-sendable_sessions (log.Finished xid ∷ rs) a = sendable_sessions rs a.0
-sendable_sessions (log.Forgot xid ∷ rs) a = sendable_sessions rs a.0
+module _ (managers resources : ℕ) where
+  abbrev HasManager : Began → Type 0
+  HasManager s = is_counted managers s.manager ≡ true
 
-sendable_grants : (rs : List SessionRecord) → AreSendable rs → Each (λ g. IsCounted CALLS g.call) (grants rs)
-sendable_grants [] a = tt
-sendable_grants (log.Begun xid manager begun timeout ∷ rs) a = sendable_grants rs a.0
-sendable_grants (log.Granted xid branch resource call ticket kind hold ∷ rs) a = (a.1, sendable_grants rs a.0)
-sendable_grants (log.Decided xid how ∷ rs) a = sendable_grants rs a.0
-sendable_grants (log.Ended xid branch ∷ rs) a = sendable_grants rs a.0
-sendable_grants (log.Retrying xid ∷ rs) a = sendable_grants rs a.0
-sendable_grants (log.Failed xid branch stmt ∷ rs) a = sendable_grants rs a.0
-sendable_grants (log.Finished xid ∷ rs) a = sendable_grants rs a.0
-sendable_grants (log.Forgot xid ∷ rs) a = sendable_grants rs a.0
+  abbrev HasPlace : Grant → Type 0
+  HasPlace g = (is_counted resources g.resource ≡ true) × (is_counted CALLS g.call ≡ true)
+
+  sessions_within : (rs : List SessionRecord) → list_all (is_within managers resources) rs ≡ true → Each HasManager (sessions rs)
+  sessions_within [] w = tt
+  sessions_within (log.Begun xid manager begun timeout ∷ rs) w = (and_left (is_counted managers manager) _ w, sessions_within rs (and_right (is_counted managers manager) _ w))
+  sessions_within (r ∷ rs) w = sessions_within rs (and_right (is_within managers resources r) _ w)
+
+  grants_within : (rs : List SessionRecord) → list_all (is_within managers resources) rs ≡ true → Each HasPlace (grants rs)
+  grants_within [] w = tt
+  grants_within (log.Granted xid branch resource call ticket kind hold ∷ rs) w =
+      let here = and_left (is_within managers resources (log.Granted xid branch resource call ticket kind hold)) _ w in (
+        (and_left (is_counted resources resource) _ here, and_left (is_counted CALLS call) _ (and_right (is_counted resources resource) _ here)),
+        grants_within rs (and_right (is_within managers resources (log.Granted xid branch resource call ticket kind hold)) _ w),
+      )
+  grants_within (r ∷ rs) w = grants_within rs (and_right (is_within managers resources r) _ w)
 
 each_some_by : {X : Type 0} (P : X → Type 0) (x y : X) (o : Option X) → P y → (o ≡ Some x → P x) → (b : Bool) → cond b (Some y) o ≡ Some x → P x
 each_some_by P x y o here below true f = let same : y ≡ x = cc in subst P same here
@@ -268,8 +267,8 @@ each_last P x (y ∷ z ∷ zs) e f = each_last P x (z ∷ zs) e.1 f
 first_test : {X : Type 0} (P : X → Type 0) (p : X → Bool) (xs : List X) → Each P xs → Each P (filter p xs)
 first_test P p xs e = each_same (λ x. P x × (p x ≡ true)) P (λ x both. both.0) (filter p xs) (each_filtered p P xs e)
 
-counted_is : (c n : ℕ) → IsCounted c n → is_counted c n ≡ true
-counted_is c n k = let low = k.0 in let high = k.1 in grind (arith, nat_tests, low, high)
+counted_in : (count most n : ℕ) → count ≤ most → is_counted count n ≡ true → is_counted most n ≡ true
+counted_in count most n few is = grind (arith, nat_tests)
 
 none_last : {X : Type 0} (xs : List X) → last_of xs ≡ None → xs ≡ []
 none_last [] e = refl
@@ -287,7 +286,7 @@ empty_none : {A : Type 0} (xs : List A) → is_empty xs ≡ true → xs ≡ []
 empty_none [] e = refl
 empty_none (x ∷ xs) e = false_true e
 
-module _ (rs : List SessionRecord) (l : AnswersAlike rs) (sendable : AreSendable rs) (x : ℕ) (g : goes rs x ≡ true) where
+module _ {managers resources : ℕ} (rs : List SessionRecord) (l : AnswersAlike rs) (w : AreWithin managers resources rs) (x : ℕ) (g : goes rs x ≡ true) where
   here : is_known rs x ≡ true
   here = and_left (is_known rs x) (is_some (decided rs x) && is_on (progress rs x)) g
 
@@ -310,34 +309,41 @@ module _ (rs : List SessionRecord) (l : AnswersAlike rs) (sendable : AreSendable
   next_here =
       ap (λ b. next_open b (session_now rs there.0).branches) commits ∙ ap (λ n. next_open decided_commit (map (branch_now rs) (in_order (branches rs n)))) numbered_as ∙ next_alike rs decided_commit x
 
-  call_sendable : (commit : Bool) (k : Grant) → next_asked rs x commit ≡ Some k → IsCounted CALLS k.call
-  call_sendable commit k e = by commit e
+  place_within : (commit : Bool) (k : Grant) → next_asked rs x commit ≡ Some k → HasPlace managers resources k
+  place_within commit k e = by commit e
     where
-      unended_calls : Each (λ k. IsCounted CALLS k.call) (unended rs x)
-      unended_calls = first_test (λ k. IsCounted CALLS k.call) (is_unended rs) (branches rs x) (first_test (λ k. IsCounted CALLS k.call) (λ k. k.xid == x) (grants rs) (sendable_grants rs sendable))
+      unended_within : Each (HasPlace managers resources) (unended rs x)
+      unended_within = first_test (HasPlace managers resources) (is_unended rs) (branches rs x)
+          (first_test (HasPlace managers resources) (λ k. k.xid == x) (grants rs) (grants_within managers resources rs w.within))
 
-      by : (c : Bool) → next_asked rs x c ≡ Some k → IsCounted CALLS k.call
-      by true e = each_last (λ k. IsCounted CALLS k.call) k (unended rs x) unended_calls e
-      by false e = each_first (λ k. IsCounted CALLS k.call) k (unended rs x) unended_calls e
+      by : (c : Bool) → next_asked rs x c ≡ Some k → HasPlace managers resources k
+      by true e = each_last (HasPlace managers resources) k (unended rs x) unended_within e
+      by false e = each_first (HasPlace managers resources) k (unended rs x) unended_within e
 
-  manager_sendable : IsCounted MANAGERS there.0.manager
-  manager_sendable = each_some (λ s. IsCounted MANAGERS s.manager) (has_xid x) there.0 (sessions rs) (sendable_sessions rs sendable) there.1
+  manager_within : HasManager managers resources there.0
+  manager_within = each_some (HasManager managers resources) (has_xid x) there.0 (sessions rs) (sessions_within managers resources rs w.within) there.1
 
   abbrev question_by : Bool → Grant → Question
   question_by commit k = record { commit = commit; branch = record { 0 = k.branch }; kind = k.kind; manager = there.0.manager; call = k.call; resource = k.resource }
 
-  asked_by : (o : Option Grant) → next_asked rs x decided_commit ≡ o → question_of (session_now rs there.0) ≡ option_map (question_by decided_commit) o
+  -- its numbers are those of the scenario, so it is asked
+  is_asked : (commit : Bool) (k : Grant) → next_asked rs x commit ≡ Some k → (names_nodes managers resources (question_by commit k) && is_sendable (question_by commit k)) ≡ true
+  is_asked commit k e =
+      let place = place_within commit k e in
+      and_both (names_nodes managers resources (question_by commit k)) _ (and_both (is_counted managers there.0.manager) _ manager_within place.0)
+      (and_both (is_counted MANAGERS there.0.manager) _ (counted_in managers MANAGERS there.0.manager w.few manager_within) place.1)
+
+  asked_by : (o : Option Grant) → next_asked rs x decided_commit ≡ o → question_of managers resources (session_now rs there.0) ≡ option_map (question_by decided_commit) o
   asked_by None e =
-      ap (option_and_then (λ b. if_sendable (question_to (session_now rs there.0) b))) (next_here ∙ ap (option_map (branch_now rs)) e)
+      ap (option_and_then (λ b. if_asked managers resources (question_to (session_now rs there.0) b))) (next_here ∙ ap (option_map (branch_now rs)) e)
   asked_by (Some k) e =
-      ap (option_and_then (λ b. if_sendable (question_to (session_now rs there.0) b))) (next_here ∙ ap (option_map (branch_now rs)) e)
-      ∙ ap (λ c. if_sendable (question_by c k)) commits
-      ∙ ap (λ b. if b && is_counted CALLS k.call then Some (question_by decided_commit k) else None) (counted_is MANAGERS there.0.manager manager_sendable)
-      ∙ ap (λ b. if b then Some (question_by decided_commit k) else None) (counted_is CALLS k.call (call_sendable decided_commit k e))
+      ap (option_and_then (λ b. if_asked managers resources (question_to (session_now rs there.0) b))) (next_here ∙ ap (option_map (branch_now rs)) e)
+      ∙ ap (λ c. if_asked managers resources (question_by c k)) commits
+      ∙ ap (λ b. if b then Some (question_by decided_commit k) else None) (is_asked decided_commit k e)
 
   -- the question is the one by the rules
-  question_alike : question_in (session_in (snapshot_of rs) x) ≡ option_map (question_by decided_commit) (next_asked rs x decided_commit)
-  question_alike = ap question_in known_session ∙ asked_by (next_asked rs x decided_commit) refl
+  question_alike : question_in managers resources (session_in (snapshot_of rs) x) ≡ option_map (question_by decided_commit) (next_asked rs x decided_commit)
+  question_alike = ap (question_in managers resources) known_session ∙ asked_by (next_asked rs x decided_commit) refl
 
   asks_same : (commit : Bool) (k : Grant) → asked_step (number x) (question_by commit k) ≡ sends (act.Asked (number x) (branch_of k.branch)) (place.Res k.resource) (asks rs x k commit)
   asks_same true k =
@@ -361,7 +367,7 @@ module _ (rs : List SessionRecord) (l : AnswersAlike rs) (sendable : AreSendable
   none_mapped f None e = refl
   none_mapped f (Some k) e = none_some (sym e)
 
-  pub question_none : question_in (session_in (snapshot_of rs) x) ≡ None → is_empty (unended rs x) ≡ true
+  pub question_none : question_in managers resources (session_in (snapshot_of rs) x) ≡ None → is_empty (unended rs x) ≡ true
   question_none e = none_left (none_mapped (question_by decided_commit) (next_asked rs x decided_commit) (sym question_alike ∙ e))
 
   abbrev pub IsAsked : Question → Type 0
@@ -371,7 +377,7 @@ module _ (rs : List SessionRecord) (l : AnswersAlike rs) (sendable : AreSendable
   some_by q None e f = none_some f
   some_by q (Some k) e f = let same : question_by decided_commit k ≡ q = cc in (k, (e, ap (asked_step (number x)) (sym same) ∙ asked_alike k))
 
-  pub question_some : (q : Question) → question_in (session_in (snapshot_of rs) x) ≡ Some q → IsAsked q
+  pub question_some : (q : Question) → question_in managers resources (session_in (snapshot_of rs) x) ≡ Some q → IsAsked q
   question_some q e = some_by q (next_asked rs x decided_commit) refl (sym question_alike ∙ e)
 
   pub left_none : is_empty (unended rs x) ≡ true → next_asked rs x decided_commit ≡ None

@@ -24,7 +24,7 @@ use Rattle.coordinator_core.proofs.Kept.{unanswered_back}
 use Rattle.coordinator_core.specs.declared.table.Table.{Table}
 use Rattle.coordinator_core.specs.Plain.{is_failure, node_error}
 use Rattle.coordinator_core.specs.Knowledge.{Knowledge, knowledge, memory}
-use Rattle.coordinator_core.specs.Changes.{prepared, settled, GivesUp, IsPlannedFor, Makes}
+use Rattle.coordinator_core.specs.Changes.{prepared, settled, GivesUp, IsPlannedFor, IsMade, Makes}
 use Rattle.coordinator_core.specs.Tracks.{Course}
 use Rattle.coordinator_core.specs.Answers.{IsAnswered, WouldMake, Puts, PutsWhere, AnswersWhere, IsUnmade}
 
@@ -33,7 +33,7 @@ abbrev would_know : Knowledge → SessionRecord → ℕ → Knowledge
 would_know k r now = record { retry = k.retry; forget = k.forget; memory = after r k.memory; moments = settled k.retry now r (prepared r now k.moments) }
 
 would_makes : (k : Knowledge) (r : SessionRecord) (now : ℕ) → may_come k.memory r ≡ true → Makes k (would_know k r now) r now
-would_makes k r now may = record { may = may; memory = refl; moments = λ planned. refl; same_retry = refl; same_forget = refl }
+would_makes k r now may = record { may = may; memory = refl; moments = λ planned. refl; same = record { retry = refl; forget = refl } }
 
 -- a step with this act and record, and what would be known after it
 pub would : (Applies : Course → Type 0) (old new : Knowledge) (given : Input) (now : ℕ) (step : Step) (done : Durable) (r : SessionRecord) → step.act ≡ act.Durable done
@@ -73,7 +73,7 @@ pub unmade_after : {D : Type 0} (state : D → DiskState) (old : Table D) (s : S
     → Fails state r error old.sessions s → GivesUp (is_failure error) old.retry now r (prepared r now old.moments) m
     → IsUnmade state old (record { retry = old.retry; forget = old.forget; sessions = s; moments = m }) r now error
 unmade_after state old s m r now in_time may store_error.Failed l g =
-    (record { may = may; memory = l.knows; moments = λ planned. g (planned_prepared r now old.moments planned); same_retry = refl; same_forget = refl }, l)
+    (record { may = may; memory = l.knows; moments = λ planned. g (planned_prepared r now old.moments planned); same = record { retry = refl; forget = refl } }, l)
 unmade_after state old s m r now in_time may (store_error.Full full) (same, room) g = (
   may,
   room,
@@ -88,6 +88,16 @@ unmade_after state old s m r now in_time may store_error.NoMemory same g =
 pub sessions_unmade : {D : Type 0} (state : D → DiskState) (made : Bool) (r : SessionRecord) (old new : Sessions D) → made ≡ false → PutsWhere state made r old new → new ≡ old
 sessions_unmade state true r old new is puts = false_true (sym is)
 sessions_unmade state false r old new is puts = puts
+
+pub table_unmade : {D : Type 0} (state : D → DiskState) (made : Bool) (r : SessionRecord) (now : ℕ) (old new : Table D) → made ≡ false → IsMade made (knowledge old) (knowledge new) r now
+    → PutsWhere state made r old.sessions new.sessions → new ≡ old
+table_unmade state true r now old new is makes puts = false_true (sym is)
+table_unmade state false r now old new is (refused, same) puts = λ i. record {
+  retry = ap (λ (k : Knowledge). k.retry) same i;
+  forget = ap (λ (k : Knowledge). k.forget) same i;
+  sessions = puts i;
+  moments = ap (λ (k : Knowledge). k.moments) same i;
+}
 
 -- ---- answers
 

@@ -22,10 +22,10 @@ use Rattle.session_memory.specs.Changes.{may_come, after}
 use Rattle.session_memory.proofs.Small.{false_true, and_left, moved}
 use Rattle.session_memory.proofs.StepLaws.{snapshot_after}
 use Rattle.coordinator_core.specs.declared.moments.Moments.{Moments}
-use Rattle.coordinator_core.specs.Knowledge.{Knowledge}
-use Rattle.coordinator_core.specs.Answers.{is_answer, SameTimes, IsUnanswered}
+use Rattle.coordinator_core.specs.Knowledge.{Knowledge, SameTimes}
+use Rattle.coordinator_core.specs.Answers.{is_answer, IsUnanswered}
 use Rattle.coordinator_core.specs.Changes.{kept_moment, prepared, withdrawn, settled, IsPlannedFor, Makes, PlansAgain}
-use Rattle.coordinator_core.specs.Tracks.{Course, with_own, due_on, rests_on, Tracks, Follows, AreInOrder, IsSendable, AreSendable, records}
+use Rattle.coordinator_core.specs.Tracks.{Course, with_own, due_on, rests_on, Tracks, Follows, AreInOrder, records}
 use Rattle.coordinator_core.proofs.Laws.{may_alike, retry_going}
 use Rattle.coordinator_core.proofs.PlanLaws.{moment_with, moment_without, in_order_with, in_order_without}
 use Rattle.coordinator_core.proofs.Records.{going_by, finished_by, going_after, finished_after, going_not_finished, undecided_not_going}
@@ -166,10 +166,9 @@ module _ (memory : Snapshot) (m : Moments) (rs : List SessionRecord) (due_at res
     rests_ordered (log.Finished xid) = in_order_with m.rests xid.0 now t.rests_in_order
     rests_ordered (log.Forgot xid) = in_order_without m.rests xid.0 t.rests_in_order
 
-    pub tracks_made : (r : SessionRecord) → may_come memory r ≡ true → IsSendable r → Tracks (after r memory) (next r) (r ∷ rs) (λ x. due_by retry now r x (due_at x)) (λ x. rested_by now r x (rested x))
-    tracks_made r e sendable = let may = may_by r e in record {
+    pub tracks_made : (r : SessionRecord) → may_come memory r ≡ true → Tracks (after r memory) (next r) (r ∷ rs) (λ x. due_by retry now r x (due_at x)) (λ x. rested_by now r x (rested x))
+    tracks_made r e = let may = may_by r e in record {
       allowed = (t.allowed, may);
-      sendable = (t.sendable, sendable);
       known = ap (after r) t.known ∙ sym (snapshot_after rs t.allowed r may);
       turns_in_order = turns_ordered r;
       rests_in_order = rests_ordered r;
@@ -234,7 +233,6 @@ module _ (memory : Snapshot) (m : Moments) (rs : List SessionRecord) (due_at res
   pub tracks_back : (r : SessionRecord) → may_come memory r ≡ true → Tracks memory (back r) rs due_at rested
   tracks_back r e = let may = may_by r e in record {
     allowed = t.allowed;
-    sendable = t.sendable;
     known = t.known;
     turns_in_order = turns_back_ordered r;
     rests_in_order = rests_back_ordered r;
@@ -248,7 +246,6 @@ module _ (memory : Snapshot) (m : Moments) (rs : List SessionRecord) (due_at res
       → Tracks memory m' rs (λ q. if x == q then at else due_at q) rested
   tracks_again x at m' g turns rests = record {
     allowed = t.allowed;
-    sendable = t.sendable;
     known = t.known;
     turns_in_order = subst AreInOrder (sym turns) (in_order_with m.turns x (kept_moment at) t.turns_in_order);
     rests_in_order = subst AreInOrder (sym rests) t.rests_in_order;
@@ -262,7 +259,6 @@ pub tracks_same : (memory memory' : Snapshot) (m m' : Moments) (rs rs' : List Se
     → memory' ≡ memory → m' ≡ m → rs' ≡ rs → ((x : ℕ) → due_at' x ≡ due_at x) → ((x : ℕ) → rested' x ≡ rested x) → Tracks memory' m' rs' due_at' rested'
 tracks_same memory memory' m m' rs rs' due_at due_at' rested rested' t same_memory same_moments same_records same_due same_rested = record {
   allowed = subst Allowed (sym same_records) t.allowed;
-  sendable = subst AreSendable (sym same_records) t.sendable;
   known = same_memory ∙ t.known ∙ ap snapshot_of (sym same_records);
   turns_in_order = subst (λ k. AreInOrder k.turns) (sym same_moments) t.turns_in_order;
   rests_in_order = subst (λ k. AreInOrder k.rests) (sym same_moments) t.rests_in_order;
@@ -280,17 +276,17 @@ same_due : (retry retry' : ℕ) (owns : Course) (q : ℕ) → retry' ≡ retry �
 same_due retry retry' owns q e = ap (λ r. due_on r owns q) e
 
 pub stands_made : (t t' : Knowledge) (owns : Course) (now : ℕ) (r : SessionRecord) (given : Input) (d : Durable) (sent : Option Outgoing)
-    → Follows t owns → now < 2 ^ 64 → Makes t t' r now → IsSendable r → session_record now (Given given) d ≡ Some r
+    → Follows t owns → now < 2 ^ 64 → Makes t t' r now → session_record now (Given given) d ≡ Some r
     → ((x before : ℕ) → due_by_durable t.retry now d x before ≡ due_by t.retry now r x before)
     → ((x before : ℕ) → rests_after now (act.Durable d) x before ≡ rested_by now r x before)
     → Follows t' (with_own (stepped given now (act.Durable d) sent) owns)
-stands_made t t' owns now r given d sent s in_time makes sendable asked dues rests = record {
+stands_made t t' owns now r given d sent s in_time makes asked dues rests = record {
   tracks = tracks_same (after r t.memory) t'.memory (settled t.retry now r (prepared r now t.moments)) t'.moments (r ∷ records owns) (added (session_record now (Given given) d) (records owns))
       (λ x. due_by t.retry now r x (due_on t.retry owns x)) (λ x. due_by_durable t'.retry now d x (due_on t'.retry owns x))
       (λ x. rested_by now r x (rests_on owns x)) (λ x. rests_after now (act.Durable d) x (rests_on owns x))
-      (tracks_made t.memory t.moments (records owns) (due_on t.retry owns) (rests_on owns) s.tracks now in_time t.retry r makes.may sendable)
+      (tracks_made t.memory t.moments (records owns) (due_on t.retry owns) (rests_on owns) s.tracks now in_time t.retry r makes.may)
       makes.memory (makes.moments planned) (ap (λ o. added o (records owns)) asked)
-      (λ x. ap (λ k. due_by_durable k now d x (due_on k owns x)) makes.same_retry ∙ dues x (due_on t.retry owns x))
+      (λ x. ap (λ k. due_by_durable k now d x (due_on k owns x)) makes.same.retry ∙ dues x (due_on t.retry owns x))
       (λ x. rests x (rests_on owns x));
 }
   where
@@ -336,7 +332,7 @@ again t t' owns now xid s in_time plans going =
     tracks_same t.memory t'.memory t'.moments t'.moments (records owns) (records owns)
     (λ q. if xid.0 == q then now + t.retry else due_on t.retry owns q) (λ q. if xid.0 == q then now + t'.retry else due_on t'.retry owns q) (rests_on owns) (rests_on owns)
     (tracks_again t.memory t.moments (records owns) (due_on t.retry owns) (rests_on owns) s.tracks now in_time xid.0 (now + t.retry) t'.moments going plans.turns plans.rests)
-    plans.memory refl refl (λ q. ap (λ k. if xid.0 == q then now + k else due_on k owns q) plans.same_retry) (λ q. refl)
+    plans.memory refl refl (λ q. ap (λ k. if xid.0 == q then now + k else due_on k owns q) plans.same.retry) (λ q. refl)
 
 pub stands_asked : (t t' : Knowledge) (owns : Course) (now : ℕ) (given : Input) (xid : Xid) (branch : BranchId) (sent : Option Outgoing)
     → Follows t owns → now < 2 ^ 64 → PlansAgain t t' xid.0 now → is_going (records owns) xid.0 ≡ true → Follows t' (with_own (stepped given now (act.Asked xid branch) sent) owns)

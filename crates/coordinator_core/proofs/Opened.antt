@@ -1,7 +1,5 @@
 -- The coordinator after its opening.
-use Rattle.std.proofs.Common.{◌≡◌, ◌⊎◌, inl, inr, ◌*◌, ◌≤◌, ℕ, true, false, List, [], ◌∷◌, Some, None, sym, ap, subst, ◌∙◌, arith}
-use Rattle.std.specs.List.{list_all}
-use Rattle.std.proofs.lemmas.Bool.Decides.{nat_tests}
+use Rattle.std.proofs.Common.{◌≡◌, ◌⊎◌, inl, inr, ◌*◌, ◌≤◌, ℕ, false, List, [], Some, None, sym, ap, subst, ◌∙◌, arith}
 use Rattle.disk_model.specs.Disk.{DiskState, HasCause, IsLawful, IsSettled, Rose, present}
 use Rattle.disk_model.specs.Stop.{below, stop_of, left_of, state_of}
 use Rattle.disk_model.specs.declared.stoppable.Stop.TheVariants.{Off}
@@ -10,50 +8,29 @@ use Rattle.disk_journal.specs.Keeping.{OnlyReads}
 use Rattle.disk_journal.specs.Reading.{row_length}
 use Rattle.seata_types.specs.declared.errors.OpenError.{OpenError}
 use Rattle.seata_types.specs.declared.errors.OpenError.TheVariants as open_error
-use Rattle.seata_types.specs.declared.limits.TheConstants.{MANAGERS, CALLS}
+use Rattle.seata_types.specs.declared.limits.TheConstants.{MANAGERS}
 use Rattle.journal_checkpoint.specs.declared.types.Found.{Found}
 use Rattle.journal_checkpoint.specs.Images.{PairStandsFor}
 use Rattle.journal_checkpoint.specs.Keeping.{active_disk, other_disk, first_disk, second_disk, is_second}
 use Rattle.memory_store.specs.Keeping.{FindsFirst, IsDamage, IsNotFull, IsOf}
 use Rattle.memory_store.specs.Settling.{RunsOn}
 use Rattle.durable_records.specs.declared.coordinators.SessionRecord.{SessionRecord}
-use Rattle.durable_records.specs.declared.coordinators.SessionRecord.TheVariants as log
-use Rattle.durable_records.specs.SessionOrder.{is_counted, is_within}
-use Rattle.frame_codec.specs.Limits.{IsCounted}
 use Rattle.history_rules.specs.CoordinatorMemory.{start}
 use Rattle.session_store.specs.Keeping.{known, store_of, twin, IsNoDamage, KeepsRecords}
 use Rattle.session_store.specs.Meaning.{meaning_of}
 use Rattle.session_store.specs.Standing.{StandsForSessions}
-use Rattle.session_memory.proofs.Small.{and_left, and_right}
 use Rattle.coordinator_core.specs.declared.nodes.Coordinator.{Coordinator}
 use Rattle.seata_types.specs.declared.limits.TheConstants.{NODE_STEPS}
 use Rattle.coordinator_core.specs.Opening.{AreReadWhereShort, GoOnAs, HandsBack, IsOnlyRead, IsOpened, IsOpenedDisk}
 use Rattle.coordinator_core.specs.Standing.{StandsOver, pair_of, active_of, sessions_of, start_of, is_down, managers, resources}
 use Rattle.coordinator_core.specs.Starting.{started_on, no_moments, start_in}
-use Rattle.coordinator_core.specs.Tracks.{Tracks, IsSendable, AreSendable}
+use Rattle.coordinator_core.specs.Tracks.{Tracks}
 use Rattle.coordinator_core.proofs.Disks.{false_true, keeps_images}
 use Rattle.coordinator_core.proofs.Restarted.{unarmed_by}
 use Rattle.coordinator_core.proofs.Started.{starts, start_is}
 
-counted_in : (count most n : ℕ) → count ≤ most → is_counted count n ≡ true → IsCounted most n
-counted_in count most n few is = grind (arith, nat_tests)
-
--- the numbers of a scenario can be sent
-sendable_one : (managers resources : ℕ) (r : SessionRecord) → managers ≤ MANAGERS → is_within managers resources r ≡ true → IsSendable r
-sendable_one managers resources (log.Begun xid manager begun timeout) few is = counted_in managers MANAGERS manager few is
-sendable_one managers resources (log.Granted xid branch resource call ticket kind hold) few is =
-    counted_in CALLS CALLS call (omega arith) (and_left (is_counted CALLS call) _ (and_right (is_counted resources resource) _ is))
-sendable_one managers resources _ few is = tt
-
-pub sendable_all : (managers resources : ℕ) (rs : List SessionRecord) → managers ≤ MANAGERS → list_all (is_within managers resources) rs ≡ true → AreSendable rs
-sendable_all managers resources [] few is = tt
-sendable_all managers resources (r ∷ rs) few is = (
-  sendable_all managers resources rs few (and_right (is_within managers resources r) (list_all (is_within managers resources) rs) is),
-  sendable_one managers resources r few (and_left (is_within managers resources r) (list_all (is_within managers resources) rs) is),
-)
-
 module _ {D : Type 0} (state : D → DiskState) (law : (d : Stoppable D) → IsLawful (state_of state d)) (c : Coordinator D) (rs : List SessionRecord)
-    (keeps : KeepsRecords (state_of state) rs (sessions_of c)) (sendable : AreSendable rs) (up : is_down c ≡ false) (unarmed : (active_of state (sessions_of c)).counts.left ≡ None)
+    (keeps : KeepsRecords (state_of state) rs (sessions_of c)) (few : managers c ≤ MANAGERS) (up : is_down c ≡ false) (unarmed : (active_of state (sessions_of c)).counts.left ≡ None)
     (starts_at : start_of c ≡ start_in (known (sessions_of c))) (moments : c.table.moments ≡ started_on (start_of c) (known (sessions_of c)).sessions no_moments) where
   start_here : start_of c ≡ start rs
   start_here = starts_at ∙ start_is rs (known (sessions_of c)) keeps.knows
@@ -68,10 +45,11 @@ module _ {D : Type 0} (state : D → DiskState) (law : (d : Stoppable D) → IsL
       counted = omega arith;
     };
     starts = start_here;
+    few = few;
     follows = λ e. record {
       tracks = subst (λ n. Tracks (known (sessions_of c)) c.table.moments rs (λ x. n) (λ x. n)) start_here
           (subst (λ m. Tracks (known (sessions_of c)) m rs (λ x. start_of c) (λ x. start_of c)) (sym moments)
-          (starts rs (known (sessions_of c)) (start_of c) keeps.list.made.allowed sendable keeps.knows (omega (arith, starts_at))));
+          (starts rs (known (sessions_of c)) (start_of c) keeps.list.made.allowed keeps.knows (omega (arith, starts_at))));
     };
     fallen = λ e. false_true e;
   }
@@ -151,7 +129,7 @@ module _ {D : Type 0} (state : D → DiskState) (law : (d : Stoppable D) → IsL
 
     stands_on : (rs : List SessionRecord) (a b : List ℕ) → StandsForSessions manager_count resource_count rs a b → KeepsRecords (state_of state) rs (sessions_of c) → StandsOver state c rs []
     stands_on rs a b stands k =
-        opened state law c rs k (sendable_all manager_count resource_count rs few stands.list.made.within) up unarmed starts_at moments
+        opened state law c rs k (subst (λ n. n ≤ MANAGERS) (sym managers_are) few) up unarmed starts_at moments
 
     pub is_opened : IsOpened state first second manager_count resource_count c
     is_opened = record {

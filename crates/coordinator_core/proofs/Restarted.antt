@@ -9,7 +9,7 @@ use Rattle.disk_model.specs.declared.stoppable.Stoppable.{Stoppable}
 use Rattle.journal_checkpoint.specs.Images.{Pair, FailsItself}
 use Rattle.journal_checkpoint.specs.Keeping.{active_disk, other_disk, first_disk, second_disk, is_second}
 use Rattle.memory_store.specs.Keeping.{ComesUp, IsDamage, IsNotFull, IsTold, StaysWhereShort}
-use Rattle.seata_types.specs.declared.limits.TheConstants.{LATEST_MOMENT}
+use Rattle.seata_types.specs.declared.limits.TheConstants.{LATEST_MOMENT, MANAGERS}
 use Rattle.seata_types.specs.declared.acts.Act.{Act}
 use Rattle.seata_types.specs.declared.acts.Act.TheVariants as act
 use Rattle.seata_types.specs.declared.acts.Durable.{Durable}
@@ -18,7 +18,7 @@ use Rattle.seata_types.specs.declared.errors.OpenError.TheVariants as open_error
 use Rattle.durable_records.specs.declared.coordinators.SessionRecord.{SessionRecord}
 use Rattle.session_log.specs.declared.sessions.Snapshot.{Snapshot}
 use Rattle.session_store.specs.declared.sessions.Sessions.{Sessions}
-use Rattle.session_store.specs.Keeping.{known, twin, found_of, is_down as sessions_down, managers_of, resources_of, SameOpening, StandsFor, KeepsRecords, BringsBack, GoesOnAs, IsNoDamage}
+use Rattle.session_store.specs.Keeping.{known, twin, is_down as sessions_down, managers_of, resources_of, SameOpening, StandsFor, KeepsRecords, BringsBack, GoesOnAs, IsNoDamage}
 use Rattle.session_store.specs.Meaning.{meaning_of}
 use Rattle.session_store.proofs.SessionLaws.{came_back, not_damaged}
 use Rattle.history_rules.specs.Own.{Own, Left, Restarted, still, added, leaves, asked_act, kept_part}
@@ -36,7 +36,7 @@ use Rattle.coordinator_core.specs.Serving.{ServesInput}
 use Rattle.coordinator_core.specs.Standing.{StandsAs, StandsOver, OnDisks, IsFallen, StandsForEither, course, pair_of, active_of, disks_of, sessions_of, start_of, is_down, times_of, serves, size_of}
 use Rattle.coordinator_core.specs.Stepping.{RestartsBy, stands_at}
 use Rattle.coordinator_core.specs.Starting.{started_on, no_moments}
-use Rattle.coordinator_core.specs.Tracks.{Tracks, Follows, AreSendable}
+use Rattle.coordinator_core.specs.Tracks.{Tracks, Follows}
 use Rattle.coordinator_core.proofs.Arms.{same_pair}
 use Rattle.coordinator_core.proofs.Disks.{false_true, keeps_images, pair_on, stands_in}
 use Rattle.coordinator_core.proofs.Started.{starts}
@@ -167,19 +167,18 @@ module _ {D : Type 0} (state : D → DiskState) (law : (d : Stoppable D) → IsL
 
   -- it starts at this moment with the records that came back
   module _ (in_time : now < 2 ^ 64) (moments : c'.table.moments ≡ started_on now (known s1).sessions no_moments) (clock : start_of c' ≡ start_of c) where
-    follows_back : (kept : Option Durable) → KeepsRecords (state_of state) (added (kept_part kept left.flight) rs) s1 → AreSendable (added (kept_part kept left.flight) rs)
-        → Follows (knowledge c'.table) (course past (entry kept ∷ os))
-    follows_back kept k sendable = record {
+    follows_back : (kept : Option Durable) → KeepsRecords (state_of state) (added (kept_part kept left.flight) rs) s1 → Follows (knowledge c'.table) (course past (entry kept ∷ os))
+    follows_back kept k = record {
       tracks = subst (λ m. Tracks (known (sessions_of c')) m (added (kept_part kept left.flight) rs) (λ x. now) (λ x. now)) (sym (moments ∙ ap (λ (s : Snapshot). started_on now s.sessions no_moments) (sym armed.known)))
-          (starts (added (kept_part kept left.flight) rs) (known (sessions_of c')) now k.list.made.allowed sendable (armed.known ∙ k.knows) in_time);
+          (starts (added (kept_part kept left.flight) rs) (known (sessions_of c')) now k.list.made.allowed (armed.known ∙ k.knows) in_time);
     }
 
-    stands_back : (kept : Option Durable) → KeepsRecords (state_of state) (added (kept_part kept left.flight) rs) s1 → AreSendable (added (kept_part kept left.flight) rs)
-        → StandsOver state c' past (entry kept ∷ os)
-    stands_back kept k sendable = record {
+    stands_back : (kept : Option Durable) → KeepsRecords (state_of state) (added (kept_part kept left.flight) rs) s1 → StandsOver state c' past (entry kept ∷ os)
+    stands_back kept k = record {
       disks = on_back kept k;
       starts = clock ∙ st.starts;
-      follows = λ e. follows_back kept k sendable;
+      few = subst (λ n. n ≤ MANAGERS) (sym (armed.opening.managers ∙ opening.managers)) st.few;
+      follows = λ e. follows_back kept k;
       fallen = λ e. false_true e;
     }
 
@@ -194,7 +193,7 @@ module _ {D : Type 0} (state : D → DiskState) (law : (d : Stoppable D) → IsL
       without : KeepsRecords (state_of state) rs s1 → Comes
       without k =
           let none : kept_of c' ≡ None = ap (λ b. if b then c'.flight else None) (counts ∙ ap (λ (s : Snapshot). nat_lt (length rs) s.acts) k.knows ∙ not_less (length rs)) in
-          (false, none, subst (λ q. StandsOver state c' past (entry q ∷ os)) (sym none) (stands_back None k is_fallen.sendable))
+          (false, none, subst (λ q. StandsOver state c' past (entry q ∷ os)) (sym none) (stands_back None k))
 
       with_flight : (r : SessionRecord) → may_keep ≡ Some r → KeepsRecords (state_of state) (r ∷ rs) s1 → Comes
       with_flight r is k =
@@ -205,7 +204,7 @@ module _ {D : Type 0} (state : D → DiskState) (law : (d : Stoppable D) → IsL
             true,
             kept ∙ sym (ap (λ b. if b then in_flight os else None) may.0),
             subst (λ q. StandsOver state c' past (entry q ∷ os)) (sym kept)
-                (stands_back (in_flight os) (subst (λ l. KeepsRecords (state_of state) l s1) (sym part) k) (subst AreSendable (sym part) (is_fallen.sendable, is_fallen.pending r may.1))),
+                (stands_back (in_flight os) (subst (λ l. KeepsRecords (state_of state) l s1) (sym part) k)),
           )
 
       pub comes : Comes
@@ -312,8 +311,9 @@ module _ {D : Type 0} (state : D → DiskState) (law : (d : Stoppable D) → IsL
           counted = omega (arith, s.disks.counted, grown);
         };
         starts = rest.start ∙ s.starts;
+        few = subst (λ n. n ≤ MANAGERS) (sym opening.managers) s.few;
         follows = λ e. false_true (sym e ∙ downos);
-        fallen = λ e. let f = s.fallen e in record { flight = rest.flight ∙ f.flight; count = rest.records ∙ f.count; sendable = f.sendable; pending = f.pending };
+        fallen = λ e. let f = s.fallen e in record { flight = rest.flight ∙ f.flight; count = rest.records ∙ f.count };
       }
 
   pub after_error : StandsAsBefore (StandsAs state) c c'
@@ -357,7 +357,7 @@ module _ {D : Type 0} (state : D → DiskState) (law : (d : Stoppable D) → IsL
         (subst (λ q. SameKind (disks_of state c).second (pair_of state q).second) (sym is) up.second.kind);
     counted = rest.left;
     down = ap sessions_down is ∙ fell;
-    found = ap found_of is ∙ opening.found;
+    opening = subst (SameOpening (sessions_of c)) (sym is) opening;
   }
     where
       failing : error ≡ open_error.Failed → DisksFail (disks_of state c) (disks_of state c')
@@ -382,7 +382,7 @@ module _ {D : Type 0} (state : D → DiskState) (law : (d : Stoppable D) → IsL
           same = same_by state c c' now_opening (subst (λ (p : Pair). SameKind (disks_of state c).first p.first) pair both.first.kind) (subst (λ (p : Pair). SameKind (disks_of state c).second p.second) pair both.second.kind);
           counted = beside.left;
           down = fell.down;
-          found = now_opening.found;
+          opening = now_opening;
         }
       where
         over : {s t : Sessions (Stoppable D)} → SameOpening (sessions_of c) s → SameOpening s t → SameOpening (sessions_of c) t
@@ -419,7 +419,7 @@ module _ {D : Type 0} (state : D → DiskState) (law : (d : Stoppable D) → IsL
         same = same_by state c c' all_opening kind_first kind_second;
         counted = all_rest.left;
         down = armed.down ∙ up;
-        found = all_opening.found;
+        opening = all_opening;
       })
         where
           sessions2 : sessions_of c2 ≡ s1

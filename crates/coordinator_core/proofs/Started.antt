@@ -19,7 +19,7 @@ use Rattle.session_memory.specs.Lookups.{has_xid, session_of, status_or_finished
 use Rattle.session_memory.proofs.Small.{false_true, same_nat}
 use Rattle.coordinator_core.specs.declared.moments.Moments.{Moments}
 use Rattle.coordinator_core.specs.Starting.{started_as, started_by, started_on, no_moments, latest_of, start_in}
-use Rattle.coordinator_core.specs.Tracks.{AreInOrder, AreSendable, Tracks}
+use Rattle.coordinator_core.specs.Tracks.{AreInOrder, Tracks}
 use Rattle.session_memory.proofs.MayLaws.{none_found}
 use Rattle.coordinator_core.proofs.Kept.{kept_now}
 use Rattle.coordinator_core.proofs.Laws.{answers_alike}
@@ -138,11 +138,10 @@ module _ (rs : List SessionRecord) (allowed : Allowed rs) (x : ℕ) where
       ∙ ap is_finished (sym ((answers_alike rs allowed).transaction x).status) ∙ ((answers_alike rs allowed).transaction x).over
 
 -- what is known of records that start at a moment
-pub starts : (rs : List SessionRecord) (memory : Snapshot) (now : ℕ) → Allowed rs → AreSendable rs → memory ≡ snapshot_of rs → now < 2 ^ 64
+pub starts : (rs : List SessionRecord) (memory : Snapshot) (now : ℕ) → Allowed rs → memory ≡ snapshot_of rs → now < 2 ^ 64
     → Tracks memory (started_on now memory.sessions no_moments) rs (λ x. now) (λ x. now)
-starts rs memory now allowed sendable known in_time = subst (λ m. Tracks m (started_on now m.sessions no_moments) rs (λ x. now) (λ x. now)) (sym known) (record {
+starts rs memory now allowed known in_time = subst (λ m. Tracks m (started_on now m.sessions no_moments) rs (λ x. now) (λ x. now)) (sym known) (record {
   allowed = allowed;
-  sendable = sendable;
   known = refl;
   turns_in_order = turns_rise now (snapshot_of rs).sessions no_moments tt;
   rests_in_order = rests_rise now (snapshot_of rs).sessions no_moments tt;

@@ -7,7 +7,7 @@ use Rattle.seata_types.specs.declared.acts.Act.{Act}
 use Rattle.seata_types.specs.declared.acts.Act.TheVariants as act
 use Rattle.durable_records.specs.declared.coordinators.SessionRecord.{SessionRecord}
 use Rattle.session_store.specs.declared.sessions.Sessions.{Sessions}
-use Rattle.session_store.specs.Keeping.{managers_of, resources_of, found_of, Adds, Loses}
+use Rattle.session_store.specs.Keeping.{managers_of, resources_of, SameOpening, Adds, Loses}
 use Rattle.history_rules.specs.Own.{Event}
 use Rattle.history_text.specs.Durable.{SamePicks}
 use Rattle.history_text.specs.Promises.{StaysItself}
@@ -20,17 +20,13 @@ use Rattle.coordinator_core.proofs.Disks.{Moved, moved_took, moved_fell, same_ki
 
 -- the sessions are of the same scenario, with what their opening found, and their disks are what they were
 pub record Remains {D : Type 0} (state : D → DiskState) (old new : Sessions (Stoppable D)) : Type 0 where
-  pub managers : managers_of new ≡ managers_of old
-  pub resources : resources_of new ≡ resources_of old
-  pub found : found_of new ≡ found_of old
+  pub opening : SameOpening old new
   pub moved : Moved (pair_of state old) (pair_of state new)
 
 module _ {D : Type 0} (state : D → DiskState) where
   remains_itself : (s : Sessions (Stoppable D)) → Remains state s s
   remains_itself s = record {
-    managers = refl;
-    resources = refl;
-    found = refl;
+    opening = record { managers = refl; resources = refl; found = refl };
     moved = record {
       own = omega arith;
       first_pick = refl;
@@ -44,10 +40,10 @@ module _ {D : Type 0} (state : D → DiskState) where
   remains_same old new e = subst (λ s. Remains state old s) (sym e) (remains_itself old)
 
   pub remains_added : (r : SessionRecord) (old new : Sessions (Stoppable D)) → Adds (state_of state) r old new → Remains state old new
-  remains_added r old new a = record { managers = a.opening.managers; resources = a.opening.resources; found = a.opening.found; moved = moved_took state old new a.took }
+  remains_added r old new a = record { opening = a.opening; moved = moved_took state old new a.took }
 
   pub remains_lost : (r : SessionRecord) (old new : Sessions (Stoppable D)) → Loses (state_of state) r old new → Remains state old new
-  remains_lost r old new l = record { managers = l.opening.managers; resources = l.opening.resources; found = l.opening.found; moved = moved_fell state old new l.falls }
+  remains_lost r old new l = record { opening = l.opening; moved = moved_fell state old new l.falls }
 
   pub remains_put : (event : Event) (now : ℕ) (a : Act) (old new : Sessions (Stoppable D)) → Puts (state_of state) event now a old new → Remains state old new
   remains_put event now (act.Durable done) old new p = remains_added p.0 old new p.2
@@ -56,7 +52,7 @@ module _ {D : Type 0} (state : D → DiskState) where
   pub stays_itself : (old new : Coordinator D) → Remains state (sessions_of old) (sessions_of new) → StaysItself stands_at serves (disks_of state) old new
   stays_itself old new r = record {
     same_place = refl;
-    same_inputs = λ given s. subst (λ m. ServesInput m (resources_of (sessions_of new)) given) (sym r.managers) (subst (λ k. ServesInput (managers_of (sessions_of old)) k given) (sym r.resources) s);
+    same_inputs = λ given s. subst (λ m. ServesInput m (resources_of (sessions_of new)) given) (sym r.opening.managers) (subst (λ k. ServesInput (managers_of (sessions_of old)) k given) (sym r.opening.resources) s);
     first = r.moved.first_kind;
     second = r.moved.second_kind;
   }

@@ -12,40 +12,31 @@ use Rattle.seata_types.specs.declared.acts.Durable.{Durable}
 use Rattle.seata_types.specs.declared.errors.Full.{Full}
 use Rattle.seata_types.specs.declared.errors.NodeError.{NodeError}
 use Rattle.seata_types.specs.declared.errors.NodeError.TheVariants as error
+use Rattle.seata_types.specs.declared.limits.TheConstants.{MANAGERS}
 use Rattle.seata_types.specs.declared.messages.Input.{Input}
-use Rattle.seata_types.specs.declared.messages.Input.TheVariants as input
 use Rattle.seata_types.specs.declared.messages.Step.{Step}
 use Rattle.durable_records.specs.declared.coordinators.SessionRecord.{SessionRecord}
 use Rattle.session_log.specs.declared.sessions.Snapshot.{Snapshot}
 use Rattle.session_log.specs.Records.{record_bytes}
 use Rattle.session_store.specs.declared.sessions.Sessions.{Sessions}
-use Rattle.session_store.specs.Keeping.{known, twin, is_down as sessions_down, HasRoom as HasRecordRoom}
-use Rattle.history_rules.specs.Own.{Own, Left, Given, Event, leaves, added, asked_act}
+use Rattle.session_store.specs.Keeping.{known, managers_of, twin, is_down as sessions_down, HasRoom as HasRecordRoom}
+use Rattle.history_rules.specs.Own.{Own, Left, Given, Event, leaves, asked_act}
 use Rattle.history_rules.specs.Devices.{calls_left, fails, fault_of, left_after, down_after, written, is_down as down_by}
 use Rattle.history_rules.specs.CoordinatorMemory.{Times, sessions_left, session_record, session_asked}
 use Rattle.history_rules.specs.Nodes.{Role, Resource, Manager, answer, happens, left_at}
 use Rattle.history_rules.specs.Nodes.{Coordinator as CoordinatorRole}
-use Rattle.history_text.specs.Framing.{ComesFramable}
 use Rattle.history_text.specs.Promises.{TakesStep, FailsAt, StandsAsBefore, Overflows, Fits, own_step, DisksFail}
 use Rattle.history_text.proofs.Places.{has_place}
 use Rattle.coordinator_core.specs.declared.nodes.Coordinator.{Coordinator}
-use Rattle.coordinator_core.specs.Knowledge.{Knowledge, knowledge, times_in}
-use Rattle.coordinator_core.specs.Answers.{is_answer, Frames, IsUnanswered, IsCut, IsOver, Puts, AnswersWhere, SameTimes}
+use Rattle.coordinator_core.specs.Knowledge.{Knowledge, SameTimes, knowledge, times_in}
+use Rattle.coordinator_core.specs.Answers.{is_answer, Frames, Names, IsWithin, IsUnanswered, IsCut, IsOver, Puts, AnswersWhere}
 use Rattle.coordinator_core.specs.Moving.{Misses}
-use Rattle.coordinator_core.specs.Serving.{ServesInput}
-use Rattle.coordinator_core.specs.Standing.{StandsAs, StandsOver, OnDisks, course, serves, active_of, disks_of, pair_of, sessions_of, start_of, is_down, needs, size_of, times_of}
-use Rattle.coordinator_core.specs.Tracks.{with_own, rule_answer, Follows, IsSendable, AreSendable}
+use Rattle.coordinator_core.specs.Standing.{StandsAs, StandsOver, OnDisks, course, active_of, disks_of, pair_of, sessions_of, start_of, is_down, needs, size_of, times_of}
+use Rattle.coordinator_core.specs.Tracks.{with_own, rule_answer, Follows}
 use Rattle.coordinator_core.specs.NodeLaws.{on_same}
 use Rattle.coordinator_core.specs.Stepping.{HasRoom, StepsBy}
 use Rattle.coordinator_core.proofs.Stays.{remains_put, remains_lost, remains_same, stays_itself, same_picks}
 use Rattle.coordinator_core.proofs.Disks.{false_true, on_added, on_lost, long, cause, kept_now}
-
--- what is served can be framed
-pub served_framable : (managers resources : ℕ) (given : Input) → ServesInput managers resources given → ComesFramable given
-served_framable managers resources (input.Message from heard) s = s.framable
-served_framable managers resources input.Turn s = tt
-served_framable managers resources (input.Local number) s = tt
-served_framable managers resources (input.Outside number) s = tt
 
 -- ---- acts that are no records
 
@@ -132,12 +123,12 @@ happens_up role owns now fault given step up is = rw up (ap (λ (s : Step). writ
 pub times_same : (old new : Knowledge) → SameTimes old new → times_in new ≡ times_in old
 times_same old new s = λ i. record { retry = s.retry i; forget = s.forget i }
 
-module _ {D : Type 0} (state : D → DiskState) (law : (d : Stoppable D) → IsLawful (state_of state d)) (c c' : Coordinator D) (given : Input) (now : ℕ) (up : is_down c ≡ false) (served : serves c given) (clock : start_of c' ≡ start_of c) where
-  framable : ComesFramable given
-  framable = served_framable _ _ given served
-
+module _ {D : Type 0} (state : D → DiskState) (law : (d : Stoppable D) → IsLawful (state_of state d)) (c c' : Coordinator D) (given : Input) (now : ℕ) (up : is_down c ≡ false) (clock : start_of c' ≡ start_of c) where
   upon : (past : List SessionRecord) (owns : List Own) → StandsOver state c past owns → down_by owns ≡ false
   upon past owns s = sym s.disks.down ∙ up
+
+  within : (past : List SessionRecord) (owns : List Own) → StandsOver state c past owns → IsWithin c.table (course past owns)
+  within past owns s = record { few = s.few; within = (s.disks.keeps (upon past owns s)).list.made.within }
 
   -- the rule's answer, by what is known
   is_rule : (times : Times) (past : List SessionRecord) (owns : List Own) (step : Step) → times ≡ times_of c → step ≡ rule_answer (times_of c) (course past owns) now given
@@ -146,7 +137,7 @@ module _ {D : Type 0} (state : D → DiskState) (law : (d : Stoppable D) → IsL
 
   -- ---- an answer
 
-  module _ (step : Step) (a : AnswersWhere (state_of state) (λ owns. ComesFramable given) c.table c'.table given now (Ok step)) where
+  module _ (step : Step) (a : AnswersWhere (state_of state) (IsWithin c.table) c.table c'.table given now (Ok step)) where
     stands_by : (past : List SessionRecord) (owns : List Own) (s : StandsOver state c past owns) → Follows (knowledge c'.table) (with_own (own_step given now step) (course past owns))
         → (is_still step.act ≡ true) ⊎ ((d : Durable) × (step.act ≡ act.Durable d)) → OnDisks state (sessions_of c') past (own_step given now step ∷ owns)
     stands_by past owns s f (inl e) =
@@ -169,7 +160,7 @@ module _ {D : Type 0} (state : D → DiskState) (law : (d : Stoppable D) → IsL
 
     pub takes_step : TakesStep (StandsAs state) c c' given now step
     takes_step (CoordinatorRole times past) owns (same, s) =
-        let taken = a.0.takes (course past owns) (s.follows (upon past owns s)) framable in
+        let taken = a.0.takes (course past owns) (s.follows (upon past owns s)) (within past owns s) in
         let kind = answer_kind step.act taken.2 in (
           sym (happens_up (CoordinatorRole times past) owns now false given step (upon past owns s) (is_rule times past owns step same taken.0) ∙ written_by past owns s kind),
           (
@@ -177,6 +168,7 @@ module _ {D : Type 0} (state : D → DiskState) (law : (d : Stoppable D) → IsL
             record {
               disks = stands_by past owns s taken.1 kind;
               starts = clock ∙ s.starts;
+              few = subst (λ n. n ≤ MANAGERS) (sym (remains_put state (Given given) now step.act (sessions_of c) (sessions_of c') a.1).opening.managers) s.few;
               follows = λ e. taken.1;
               fallen = λ e. false_true (sym (downs_by past owns s taken.1 kind) ∙ e);
             },
@@ -197,31 +189,22 @@ module _ {D : Type 0} (state : D → DiskState) (law : (d : Stoppable D) → IsL
       → option_and_then (session_record now (Given given)) (asked_act a) ≡ Some r
   asked_by a done r is asked = ap (λ k. option_and_then (session_record now (Given given)) (asked_act k)) is ∙ asked
 
-  -- what is known after a record has it
-  sendable_by : (past : List SessionRecord) (owns : List Own) (k : Knowledge) (step : Step) (done : Durable) (r : SessionRecord) → step.act ≡ act.Durable done → session_record now (Given given) done ≡ Some r
-      → Follows k (with_own (own_step given now step) (course past owns)) → AreSendable (r ∷ (sessions_left past owns).records)
-  sendable_by past owns k step done r is asked f =
-      subst (λ i. AreSendable (added i (sessions_left past owns).records)) asked
-      (subst (λ q. AreSendable (leaves q (option_and_then (session_record now (Given given)) (asked_act q)) (sessions_left past owns)).records) is f.tracks.sendable)
-
-  module _ (done : Durable) (i : IsCut (state_of state) (λ owns. ComesFramable given) c.table c'.table given now done) (flight : c'.flight ≡ Some done) (count : c'.records ≡ (known (sessions_of c)).acts) where
+  module _ (done : Durable) (i : IsCut (state_of state) (IsWithin c.table) c.table c'.table given now done) (flight : c'.flight ≡ Some done) (count : c'.records ≡ (known (sessions_of c)).acts) where
     pub fails_at : FailsAt (StandsAs state) (DisksFail (disks_of state c) (disks_of state c')) c c' given now done
     fails_at (CoordinatorRole times past) owns (same, s) =
-        let taken = i.due.answered.takes (course past owns) (s.follows (upon past owns s)) framable in
-        let kept = kept_now state law (sessions_of c) (sessions_of c') past owns s.disks up given now done i.r i.due.asked in
-        let sends = sendable_by past owns (knowledge c'.table) i.due.step done i.r i.due.durable i.due.asked taken.1 in (
+        let taken = i.due.answered.takes (course past owns) (s.follows (upon past owns s)) (within past owns s) in
+        let kept = kept_now state law (sessions_of c) (sessions_of c') past owns s.disks up given now done i.r i.due.asked in (
           sym (happens_up (CoordinatorRole times past) owns now true given i.due.step (upon past owns s) (is_rule times past owns i.due.step same taken.0) ∙ ap (written true i.due.step) i.due.durable),
           (
             same ∙ sym (times_same (knowledge c.table) (knowledge c'.table) i.due.answered.same),
             record {
               disks = on_lost state law (sessions_of c) (sessions_of c') past owns s.disks up given now done i.r i.due.asked i.loses;
               starts = clock ∙ s.starts;
+              few = subst (λ n. n ≤ MANAGERS) (sym i.loses.opening.managers) s.few;
               follows = λ e. false_true (sym e);
               fallen = λ e. record {
                 flight = flight;
                 count = count ∙ ap (λ (k : Snapshot). k.acts) kept.knows;
-                sendable = sends.0;
-                pending = λ q is. subst IsSendable (one_record i.r q (sym i.due.asked ∙ is)) sends.1;
               };
             },
           ),
@@ -239,6 +222,7 @@ module _ {D : Type 0} (state : D → DiskState) (law : (d : Stoppable D) → IsL
       record {
         disks = subst (λ q. OnDisks state q past owns) (sym same_sessions) s.disks;
         starts = clock ∙ s.starts;
+        few = subst (λ (q : Sessions (Stoppable D)). managers_of q ≤ MANAGERS) (sym same_sessions) s.few;
         follows = λ e. u.stands (course past owns) (s.follows e);
         fallen = λ e. false_true (sym (upon past owns s) ∙ e);
       },
@@ -246,9 +230,9 @@ module _ {D : Type 0} (state : D → DiskState) (law : (d : Stoppable D) → IsL
     stands_before (Resource setup past) owns s = absurd s
     stands_before (Manager settings) owns s = absurd s
 
-  pub overflows : (full : Full) → IsOver (state_of state) (λ owns. ComesFramable given) c.table c'.table given now full → Overflows (StandsAs state) (disks_of state c) (size_of state c) c given now full
+  pub overflows : (full : Full) → IsOver (state_of state) (IsWithin c.table) c.table c'.table given now full → Overflows (StandsAs state) (disks_of state c) (size_of state c) c given now full
   overflows full i (CoordinatorRole times past) owns (same, s) =
-      let taken = i.due.answered.takes (course past owns) (s.follows (upon past owns s)) framable in
+      let taken = i.due.answered.takes (course past owns) (s.follows (upon past owns s)) (within past owns s) in
       let kept = s.disks.keeps (upon past owns s) in
       let asked = asked_by i.due.step.act i.done i.r i.due.durable i.due.asked in (
         record_bytes i.r,
@@ -278,16 +262,16 @@ module _ {D : Type 0} (state : D → DiskState) (law : (d : Stoppable D) → IsL
       → option_map record_bytes (session_asked (own_step given now step)) ≡ Some bytes
   bytes_of times past owns step bytes is e = ap (λ (k : Step). option_map record_bytes (session_asked (own_step given now k))) is ∙ e
 
-  pub room_taken : (step : Step) → AnswersWhere (state_of state) (λ owns. ComesFramable given) c.table c'.table given now (Ok step) → HasRoom state c given now
+  pub room_taken : (step : Step) → AnswersWhere (state_of state) (IsWithin c.table) c.table c'.table given now (Ok step) → HasRoom state c given now
   room_taken step a (CoordinatorRole times past) owns (same, s) bytes e =
-      let taken = a.0.takes (course past owns) (s.follows (upon past owns s)) framable in
+      let taken = a.0.takes (course past owns) (s.follows (upon past owns s)) (within past owns s) in
       room_of (session_asked (own_step given now step)) bytes (room_by step.act taken.2 a.1) (bytes_of times past owns step bytes (is_rule times past owns step same taken.0) e)
   room_taken step a (Resource setup past) owns s bytes e = absurd s
   room_taken step a (Manager settings) owns s bytes e = absurd s
 
-  pub room_cut : (done : Durable) → IsCut (state_of state) (λ owns. ComesFramable given) c.table c'.table given now done → HasRoom state c given now
+  pub room_cut : (done : Durable) → IsCut (state_of state) (IsWithin c.table) c.table c'.table given now done → HasRoom state c given now
   room_cut done i (CoordinatorRole times past) owns (same, s) bytes e =
-      let taken = i.due.answered.takes (course past owns) (s.follows (upon past owns s)) framable in
+      let taken = i.due.answered.takes (course past owns) (s.follows (upon past owns s)) (within past owns s) in
       let asked = asked_by i.due.step.act done i.r i.due.durable i.due.asked in
       room_of (session_asked (own_step given now i.due.step)) bytes (λ r is. subst (λ k. HasRecordRoom (state_of state) k (sessions_of c)) (one_record i.r r (sym asked ∙ is)) i.loses.fits)
       (bytes_of times past owns i.due.step bytes (is_rule times past owns i.due.step same taken.0) e)
@@ -310,51 +294,54 @@ MissesOnly records (error.Failed done) old new = (new.flight ≡ Some done) × (
 MissesOnly records (error.Full full) old new = new.left ≡ old.left
 MissesOnly records error.NoMemory old new = new.left ≡ old.left
 
-module _ {D : Type 0} (state : D → DiskState) (law : (d : Stoppable D) → IsLawful (state_of state d)) (c c' : Coordinator D) (given : Input) (now : ℕ) (up : is_down c ≡ false) (served : serves c given) (clock : start_of c' ≡ start_of c) where
+module _ {D : Type 0} (state : D → DiskState) (law : (d : Stoppable D) → IsLawful (state_of state d)) (c c' : Coordinator D) (given : Input) (now : ℕ) (up : is_down c ≡ false) (clock : start_of c' ≡ start_of c) where
   -- it is up after an answer
   up_after : (a : Act) → Puts (state_of state) (Given given) now a (sessions_of c) (sessions_of c') → is_down c' ≡ false
   up_after (act.Durable done) p = p.2.up
   up_after _ p = ap sessions_down p ∙ up
 
-  pub stepped : (step : Step) → AnswersWhere (state_of state) (λ owns. ComesFramable given) c.table c'.table given now (Ok step) → Frames given (Ok step) → c'.left + 1 ≡ c.left
+  pub stepped : (step : Step) → AnswersWhere (state_of state) (IsWithin c.table) c.table c'.table given now (Ok step) → Frames given (Ok step) → Names c.table given (Ok step) → c'.left + 1 ≡ c.left
       → StepsBy state c c' given now (Ok step)
-  stepped step a f counted =
+  stepped step a f n counted =
       let remains = remains_put state (Given given) now step.act (sessions_of c) (sessions_of c') a.1 in record {
-        answers = takes_step state law c c' given now up served clock step a;
+        answers = takes_step state law c c' given now up clock step a;
         framable = f;
+        named = n;
         after = tt;
-        room = room_taken state law c c' given now up served clock step a;
-        placed = placed state law c c' given now up served clock (room_taken state law c c' given now up served clock step a);
+        room = room_taken state law c c' given now up clock step a;
+        placed = placed state law c c' given now up clock (room_taken state law c c' given now up clock step a);
         same = stays_itself state c c' remains;
         picks = same_picks state c c' remains;
         counted = counted;
         down = up_after step.act a.1;
-        found = remains.found;
+        opening = remains.opening;
       }
 
   -- it ends without an answer
-  pub missed : (failed : NodeError) → AnswersWhere (state_of state) (λ owns. ComesFramable given) c.table c'.table given now (Err failed) → MissesOnly (known (sessions_of c)).acts failed c c'
+  pub missed : (failed : NodeError) → AnswersWhere (state_of state) (IsWithin c.table) c.table c'.table given now (Err failed) → MissesOnly (known (sessions_of c)).acts failed c c'
       → StepsBy state c c' given now (Err failed)
   missed (error.Failed done) i m =
       let remains = remains_lost state i.r (sessions_of c) (sessions_of c') i.loses in record {
         answers = tt;
         framable = λ f. tt;
-        after = fails_at state law c c' given now up served clock done i m.0 m.1;
-        room = room_cut state law c c' given now up served clock done i;
-        placed = placed state law c c' given now up served clock (room_cut state law c c' given now up served clock done i);
+        named = λ n. tt;
+        after = fails_at state law c c' given now up clock done i m.0 m.1;
+        room = room_cut state law c c' given now up clock done i;
+        placed = placed state law c c' given now up clock (room_cut state law c c' given now up clock done i);
         same = stays_itself state c c' remains;
         picks = same_picks state c c' remains;
         counted = m.2;
         down = i.loses.down;
-        found = remains.found;
+        opening = remains.opening;
       }
   missed (error.Full full) i m =
       let remains = remains_same state (sessions_of c) (sessions_of c') i.sessions in record {
         answers = tt;
         framable = λ f. tt;
+        named = λ n. tt;
         after = (
-          stands_before state law c c' given now up served clock i.unanswered i.sessions,
-          subst (λ s. Overflows (StandsAs state) (pair_of state s) (active_of state s).size c given now full) (sym i.sessions) (overflows state law c c' given now up served clock full i),
+          stands_before state law c c' given now up clock i.unanswered i.sessions,
+          subst (λ s. Overflows (StandsAs state) (pair_of state s) (active_of state s).size c given now full) (sym i.sessions) (overflows state law c c' given now up clock full i),
         );
         room = tt;
         placed = tt;
@@ -362,30 +349,31 @@ module _ {D : Type 0} (state : D → DiskState) (law : (d : Stoppable D) → IsL
         picks = same_picks state c c' remains;
         counted = omega (arith, m);
         down = ap sessions_down i.sessions ∙ up;
-        found = remains.found;
+        opening = remains.opening;
       }
   missed error.NoMemory i m =
       let remains = remains_same state (sessions_of c) (sessions_of c') i.1 in record {
         answers = tt;
         framable = λ f. tt;
-        after = stands_before state law c c' given now up served clock i.0 i.1;
+        named = λ n. tt;
+        after = stands_before state law c c' given now up clock i.0 i.1;
         room = tt;
         placed = tt;
         same = stays_itself state c c' remains;
         picks = same_picks state c c' remains;
         counted = omega (arith, m);
         down = ap sessions_down i.1 ∙ up;
-        found = remains.found;
+        opening = remains.opening;
       }
 
   -- the same where the act in flight is kept after the table's answer
   pub missed_after : (mid : Coordinator D) (count : ℕ) → count ≡ (known (sessions_of c)).acts → mid.left ≡ c.left → (failed : NodeError)
-      → AnswersWhere (state_of state) (λ owns. ComesFramable given) c.table mid.table given now (Err failed) → Misses count failed mid c' → StepsBy state c c' given now (Err failed)
+      → AnswersWhere (state_of state) (IsWithin c.table) c.table mid.table given now (Err failed) → Misses count failed mid c' → StepsBy state c c' given now (Err failed)
   missed_after mid count counted left (error.Failed done) a (table, start, flight, records, less) =
-      missed (error.Failed done) (subst (λ t. AnswersWhere (state_of state) (λ owns. ComesFramable given) c.table t given now (Err (error.Failed done))) (sym table) a) (flight, records ∙ counted, less ∙ left)
+      missed (error.Failed done) (subst (λ t. AnswersWhere (state_of state) (IsWithin c.table) c.table t given now (Err (error.Failed done))) (sym table) a) (flight, records ∙ counted, less ∙ left)
   missed_after mid count counted left (error.Full full) a same =
-      missed (error.Full full) (subst (λ (q : Coordinator D). AnswersWhere (state_of state) (λ owns. ComesFramable given) c.table q.table given now (Err (error.Full full))) (sym same) a)
+      missed (error.Full full) (subst (λ (q : Coordinator D). AnswersWhere (state_of state) (IsWithin c.table) c.table q.table given now (Err (error.Full full))) (sym same) a)
       (ap (λ (q : Coordinator D). q.left) same ∙ left)
   missed_after mid count counted left error.NoMemory a same =
-      missed error.NoMemory (subst (λ (q : Coordinator D). AnswersWhere (state_of state) (λ owns. ComesFramable given) c.table q.table given now (Err error.NoMemory)) (sym same) a)
+      missed error.NoMemory (subst (λ (q : Coordinator D). AnswersWhere (state_of state) (IsWithin c.table) c.table q.table given now (Err error.NoMemory)) (sym same) a)
       (ap (λ (q : Coordinator D). q.left) same ∙ left)

@@ -10,7 +10,6 @@ use Rattle.seata_types.specs.declared.ids.Place.{Place}
 use Rattle.seata_types.specs.declared.ids.Place.TheVariants as place
 use Rattle.seata_types.specs.declared.messages.Input.{Input}
 use Rattle.seata_types.specs.declared.messages.Input.TheVariants as input
-use Rattle.seata_types.specs.declared.messages.Message.{Message}
 use Rattle.seata_types.specs.declared.messages.Message.TheVariants as message
 use Rattle.seata_types.specs.declared.messages.Outgoing.{Outgoing}
 use Rattle.seata_types.specs.declared.messages.Step.{Step}
@@ -24,11 +23,9 @@ use Rattle.durable_records.specs.Transactions.{Session as Began, session, sessio
 use Rattle.durable_records.specs.Branches.{branches, all_at}
 use Rattle.durable_records.specs.Progress.{Progress, Goes, IsDone, progress, status_by, status_of, is_known, may_decide, is_going as goes}
 use Rattle.durable_records.specs.SessionOrder.{Allowed, May}
-use Rattle.frame_codec.specs.Limits.{IsFramable}
-use Rattle.history_rules.specs.Own.{Given, still, sends}
+use Rattle.history_rules.specs.Own.{Given, sends}
 use Rattle.history_rules.specs.CoordinatorMemory.{session_record, is_past, due_by_durable, rests_after}
 use Rattle.history_rules.specs.CoordinatorRules.{begin_answer, commit_answer, commit_decides, rollback_answer, decided_status}
-use Rattle.history_text.specs.Framing.{ComesFramable, SendsFramable}
 use Rattle.history_text.specs.Promises.{own_step}
 use Rattle.session_log.specs.declared.sessions.Snapshot.{Snapshot}
 use Rattle.session_log.specs.SnapshotOf.{session_now}
@@ -38,10 +35,10 @@ use Rattle.session_memory.proofs.Small.{false_true, true_false, none_some, and_l
 use Rattle.session_memory.proofs.StepLaws.{snapshot_after}
 use Rattle.durable_records.proofs.RecordFacts.{known, decide_none}
 use Rattle.coordinator_core.specs.Knowledge.{Knowledge, times_in}
-use Rattle.coordinator_core.specs.Answers.{is_answer, IsAnswered}
+use Rattle.coordinator_core.specs.Answers.{is_answer, IsAnswered, Always}
 use Rattle.coordinator_core.specs.Changes.{Makes, IsMade, PlansAgain}
 use Rattle.coordinator_core.specs.Choices.{has_passed_in}
-use Rattle.coordinator_core.specs.Tracks.{Course, with_own, rule_answer, due_on, rests_on, Follows, IsSendable, records}
+use Rattle.coordinator_core.specs.Tracks.{Course, with_own, rule_answer, due_on, rests_on, Follows, records}
 use Rattle.coordinator_core.proofs.Kept.{due_by, rested_by, may_by, may_is, is_quiet, quiet_answers, stands_made, stands_quiet, stands_asked, stands_retry, same_times}
 use Rattle.coordinator_core.proofs.Laws.{AnswersAlike, answers_alike, began_as}
 
@@ -71,15 +68,14 @@ module _ (Applies : Course → Type 0) (t : Knowledge) (given : Input) (now : �
       → session_record now (Given given) d ≡ Some r
       → ((x before : ℕ) → due_by_durable t.retry now d x before ≡ due_by t.retry now r x before)
       → ((x before : ℕ) → rests_after now (act.Durable d) x before ≡ rested_by now r x before)
-      → ((owns : Course) → Follows t owns → Applies owns → IsSendable r)
       → Rule (of_act (act.Durable d) sent) → IsAnswered Applies t t' given now step
-  answered_made t' r d sent in_time makes e asked dues rests sendable rule = record {
+  answered_made t' r d sent in_time makes e asked dues rests rule = record {
     takes = λ owns s applies. (
       e ∙ rule owns s applies,
-      subst (λ k. Follows t' (with_own (own_step given now k) owns)) (sym e) (stands_made t t' owns now r given d sent s in_time makes (sendable owns s applies) asked dues rests),
+      subst (λ k. Follows t' (with_own (own_step given now k) owns)) (sym e) (stands_made t t' owns now r given d sent s in_time makes asked dues rests),
       ap (λ (k : Step). is_answer k.act) e,
     );
-    same = record { retry = makes.same_retry; forget = makes.same_forget };
+    same = makes.same;
   }
 
   -- a branch is asked, or is to be asked again
@@ -92,7 +88,7 @@ module _ (Applies : Course → Type 0) (t : Knowledge) (given : Input) (now : �
       subst (λ k. Follows t' (with_own (own_step given now k) owns)) (sym e) (stands_asked t t' owns now given xid branch sent s in_time plans (going owns s applies)),
       ap (λ (k : Step). is_answer k.act) e,
     );
-    same = record { retry = plans.same_retry; forget = plans.same_forget };
+    same = plans.same;
   }
 
   pub answered_retry : (t' : Knowledge) (xid : Xid) (branch : BranchId) (sent : Option Outgoing) → now < 2 ^ 64 → PlansAgain t t' xid.0 now → step ≡ of_act (act.Retry xid branch) sent
@@ -104,7 +100,7 @@ module _ (Applies : Course → Type 0) (t : Knowledge) (given : Input) (now : �
       subst (λ k. Follows t' (with_own (own_step given now k) owns)) (sym e) (stands_retry t t' owns now given xid branch sent s in_time plans (going owns s applies)),
       ap (λ (k : Step). is_answer k.act) e,
     );
-    same = record { retry = plans.same_retry; forget = plans.same_forget };
+    same = plans.same;
   }
 
   -- what never comes: the rule's case excludes it
@@ -113,12 +109,6 @@ module _ (Applies : Course → Type 0) (t : Knowledge) (given : Input) (now : �
     takes = λ owns s applies. false_true (never owns s applies);
     same = same_times t;
   }
-
-pub framable_still : (step : Step) (done : Act) → step ≡ still done → SendsFramable step
-framable_still step done e = subst SendsFramable (sym e) tt
-
-pub framable_sends : (step : Step) (done : Act) (to : Place) (m : Message) → step ≡ sends done to m → IsFramable m → SendsFramable step
-framable_sends step done to m e f = subst SendsFramable (sym e) f
 
 -- ---- what is known
 
@@ -197,17 +187,17 @@ module _ (t t' : Knowledge) (now : ℕ) (step : Step) (from : Place) (manager ti
   begins = input.Message from (message.Begin manager timeout)
 
   pub begin_known : (xid : Xid) → xid_for t.memory manager ≡ Some xid → step ≡ sends (act.Known xid) (place.Man manager) (message.Begun xid)
-      → IsAnswered (λ owns. ComesFramable begins) t t begins now step
+      → IsAnswered Always t t begins now step
   begin_known xid there e =
-      answered_quiet (λ owns. ComesFramable begins) t begins now step (act.Known xid) (Some (record { to = place.Man manager; message = message.Begun xid })) e refl
+      answered_quiet Always t begins now step (act.Known xid) (Some (record { to = place.Man manager; message = message.Begun xid })) e refl
       (λ owns s f. known_by (records owns) manager xid (session_for (records owns) manager) (sym ((alike t owns s).manager manager) ∙ ap (λ m. xid_for m manager) (sym s.tracks.known) ∙ there))
 
   pub begin_made : (made : Bool) (xid : Xid) → now < 2 ^ 64 → xid_for t.memory manager ≡ None → xid.0 ≡ t.memory.begun + 1 → IsMade made t t' (log.Begun xid manager now timeout) now
       → made ≡ true → step ≡ sends (act.Durable (durable.Begun xid)) (place.Man manager) (message.Begun xid)
-      → IsAnswered (λ owns. ComesFramable begins) t t' begins now step
+      → IsAnswered Always t t' begins now step
   begin_made true xid in_time none number makes is e =
-      answered_made (λ owns. ComesFramable begins) t begins now step t' (log.Begun xid manager now timeout) (durable.Begun xid) (Some (record { to = place.Man manager; message = message.Begun xid }))
-      in_time makes e refl (λ x before. refl) (λ x before. refl) (λ owns s f. f.limits.0)
+      answered_made Always t begins now step t' (log.Begun xid manager now timeout) (durable.Begun xid) (Some (record { to = place.Man manager; message = message.Begun xid }))
+      in_time makes e refl (λ x before. refl) (λ x before. refl)
       (λ owns s f. begun_by owns s)
     where
       begun_by : (owns : Course) → Follows t owns → sends (act.Durable (durable.Begun xid)) (place.Man manager) (message.Begun xid) ≡ begin_answer (records owns) manager (session_for (records owns) manager)
@@ -262,17 +252,17 @@ module _ (t t' : Knowledge) (now : ℕ) (in_time : now < 2 ^ 64) (step : Step) (
   told_or_made made d = if made then act.Durable (durable.Decided xid d) else act.Told xid st
 
   pub commit_answered : (made : Bool) (d : Decision) → d ≡ (if has_passed_in (session_in t.memory xid.0) now then how.Timeout else how.Commit) → IsMade made t t' (log.Decided xid d) now
-      → step ≡ sends (told_or_made made d) from (message.CommitStatus xid st) → IsAnswered (λ owns. ComesFramable commits) t t' commits now step
+      → step ≡ sends (told_or_made made d) from (message.CommitStatus xid st) → IsAnswered Always t t' commits now step
   commit_answered true d is makes e =
-      answered_made (λ owns. ComesFramable commits) t commits now step t' (log.Decided xid d) (durable.Decided xid d) (Some (record { to = from; message = message.CommitStatus xid st }))
-      in_time makes e refl (λ x before. refl) (λ x before. refl) (λ owns s f. tt)
+      answered_made Always t commits now step t' (log.Decided xid d) (durable.Decided xid d) (Some (record { to = from; message = message.CommitStatus xid st }))
+      in_time makes e refl (λ x before. refl) (λ x before. refl)
       (λ owns s f. let done = decided_as d owns s makes in
       ap (λ k. sends (act.Durable (durable.Decided xid d)) from (message.CommitStatus xid k)) done.1
       ∙ commit_rule (records owns) from xid (may_decide (records owns) xid.0) (is_past (session (records owns) xid.0) now) d done.0
       (is ∙ ap (λ b. if b then how.Timeout else how.Commit) (passed_is t owns s now xid.0 (known_may t owns s xid.0 done.0))))
   commit_answered false d is (refused, same) e =
-      subst (λ k. IsAnswered (λ owns. ComesFramable commits) t k commits now step) (sym same)
-      (answered_quiet (λ owns. ComesFramable commits) t commits now step (act.Told xid st) (Some (record { to = from; message = message.CommitStatus xid st })) e refl
+      subst (λ k. IsAnswered Always t k commits now step) (sym same)
+      (answered_quiet Always t commits now step (act.Told xid st) (Some (record { to = from; message = message.CommitStatus xid st })) e refl
       (λ owns s f. let told = told_as d owns s refused same in
       ap (λ k. sends (act.Told xid k) from (message.CommitStatus xid k)) told.1
       ∙ commit_told (records owns) from xid (may_decide (records owns) xid.0) (is_past (session (records owns) xid.0) now) told.0))
@@ -281,16 +271,16 @@ module _ (t t' : Knowledge) (now : ℕ) (in_time : now < 2 ^ 64) (step : Step) (
   rolls = input.Message from (message.GlobalRollback xid)
 
   pub rollback_answered : (made : Bool) → IsMade made t t' (log.Decided xid how.Rollback) now
-      → step ≡ sends (told_or_made made how.Rollback) from (message.RollbackStatus xid st) → IsAnswered (λ owns. ComesFramable rolls) t t' rolls now step
+      → step ≡ sends (told_or_made made how.Rollback) from (message.RollbackStatus xid st) → IsAnswered Always t t' rolls now step
   rollback_answered true makes e =
-      answered_made (λ owns. ComesFramable rolls) t rolls now step t' (log.Decided xid how.Rollback) (durable.Decided xid how.Rollback) (Some (record { to = from; message = message.RollbackStatus xid st }))
-      in_time makes e refl (λ x before. refl) (λ x before. refl) (λ owns s f. tt)
+      answered_made Always t rolls now step t' (log.Decided xid how.Rollback) (durable.Decided xid how.Rollback) (Some (record { to = from; message = message.RollbackStatus xid st }))
+      in_time makes e refl (λ x before. refl) (λ x before. refl)
       (λ owns s f. let done = decided_as how.Rollback owns s makes in
       ap (λ k. sends (act.Durable (durable.Decided xid how.Rollback)) from (message.RollbackStatus xid k)) done.1
       ∙ rollback_rule (records owns) from xid (may_decide (records owns) xid.0) done.0)
   rollback_answered false (refused, same) e =
-      subst (λ k. IsAnswered (λ owns. ComesFramable rolls) t k rolls now step) (sym same)
-      (answered_quiet (λ owns. ComesFramable rolls) t rolls now step (act.Told xid st) (Some (record { to = from; message = message.RollbackStatus xid st })) e refl
+      subst (λ k. IsAnswered Always t k rolls now step) (sym same)
+      (answered_quiet Always t rolls now step (act.Told xid st) (Some (record { to = from; message = message.RollbackStatus xid st })) e refl
       (λ owns s f. let told = told_as how.Rollback owns s refused same in
       ap (λ k. sends (act.Told xid k) from (message.RollbackStatus xid k)) told.1
       ∙ rollback_told (records owns) from xid (may_decide (records owns) xid.0) told.0))
@@ -299,7 +289,7 @@ module _ (t : Knowledge) (now : ℕ) (step : Step) (from : Place) (xid : Xid) (s
   abbrev asks : Input
   asks = input.Message from (message.GlobalStatus xid)
 
-  pub told_answered : st ≡ status_in t.memory xid.0 → step ≡ sends (act.Told xid st) from (message.StatusAnswer xid st) → IsAnswered (λ owns. ComesFramable asks) t t asks now step
+  pub told_answered : st ≡ status_in t.memory xid.0 → step ≡ sends (act.Told xid st) from (message.StatusAnswer xid st) → IsAnswered Always t t asks now step
   told_answered is e =
-      answered_quiet (λ owns. ComesFramable asks) t asks now step (act.Told xid st) (Some (record { to = from; message = message.StatusAnswer xid st })) e refl
+      answered_quiet Always t asks now step (act.Told xid st) (Some (record { to = from; message = message.StatusAnswer xid st })) e refl
       (λ owns s f. ap (λ k. sends (act.Told xid k) from (message.StatusAnswer xid k)) (is ∙ status_is t owns s xid.0))

@@ -23,7 +23,6 @@ use Rattle.durable_records.specs.Branches.{unended_branch}
 use Rattle.durable_records.specs.Progress.{is_known, is_on, progress, is_going as goes, may_retry}
 use Rattle.history_rules.specs.Own.{still}
 use Rattle.history_rules.specs.CoordinatorRules.{end_answer, retry_answer}
-use Rattle.history_text.specs.Framing.{ComesFramable}
 use Rattle.session_memory.specs.Changes.{is_begin, is_going, is_open}
 use Rattle.session_memory.specs.Holding.{keeps_rows}
 use Rattle.session_memory.specs.Lookups.{status_in}
@@ -31,7 +30,7 @@ use Rattle.session_memory.proofs.Small.{false_true, true_false, and_left}
 use Rattle.session_memory.proofs.Lists.{and_false}
 use Rattle.coordinator_core.specs.Knowledge.{Knowledge, knowledge, times_in}
 use Rattle.coordinator_core.specs.declared.table.Table.{Table}
-use Rattle.coordinator_core.specs.Answers.{IsAnswered, WouldMake, AnswersWhere}
+use Rattle.coordinator_core.specs.Answers.{IsAnswered, WouldMake, AnswersWhere, Always}
 use Rattle.coordinator_core.specs.Changes.{IsMade, PlansAgain}
 use Rattle.coordinator_core.specs.Tracks.{Course, rule_answer, due_on, rests_on, Follows, records}
 use Rattle.coordinator_core.proofs.Kept.{may_by, may_is}
@@ -89,14 +88,14 @@ module _ (t t' : Knowledge) (now : ℕ) (in_time : now < 2 ^ 64) (step : Step) (
       → IsAnswered (RuleIs (λ rs. still (act.Durable (durable.Ended xid b))) t given now) t t' given now step
   ended_answered true makes is e =
       answered_made (RuleIs (λ rs. still (act.Durable (durable.Ended xid b))) t given now) t given now step t' (log.Ended xid b) (durable.Ended xid b) None
-      in_time makes e refl (λ x before. refl) (λ x before. refl) (λ owns s a. tt) (λ owns s a. sym a)
+      in_time makes e refl (λ x before. refl) (λ x before. refl) (λ owns s a. sym a)
   ended_answered false makes is e = false_true is
 
   pub failed_answered : (made : Bool) (stmt : ℕ) → IsMade made t t' (log.Failed xid b stmt) now → made ≡ true → step ≡ still (act.Durable (durable.Failed xid b stmt))
       → IsAnswered (RuleIs (λ rs. still (act.Durable (durable.Failed xid b stmt))) t given now) t t' given now step
   failed_answered true stmt makes is e =
       answered_made (RuleIs (λ rs. still (act.Durable (durable.Failed xid b stmt))) t given now) t given now step t' (log.Failed xid b stmt) (durable.Failed xid b stmt) None
-      in_time makes e refl (λ x before. refl) (λ x before. refl) (λ owns s a. tt) (λ owns s a. sym a)
+      in_time makes e refl (λ x before. refl) (λ x before. refl) (λ owns s a. sym a)
   failed_answered false stmt makes is e = false_true is
 
   -- the record may come, so it is made
@@ -113,7 +112,7 @@ module _ (t t' : Knowledge) (now : ℕ) (in_time : now < 2 ^ 64) (step : Step) (
 
   pub retrying_answered : (made : Bool) → IsMade made t t' (log.Retrying xid) now → made ≡ true → step ≡ still (act.Durable (durable.Retrying xid b)) → IsAnswered Retries t t' given now step
   retrying_answered true makes is e =
-      answered_made Retries t given now step t' (log.Retrying xid) (durable.Retrying xid b) None in_time makes e refl (λ x before. refl) (λ x before. refl) (λ owns s a. tt)
+      answered_made Retries t given now step t' (log.Retrying xid) (durable.Retrying xid b) None in_time makes e refl (λ x before. refl) (λ x before. refl)
       (λ owns s a. ap (retry_answer (records owns) xid b) (sym (may_by t.memory t.moments (records owns) (due_on t.retry owns) (rests_on owns) s.tracks now in_time (log.Retrying xid) makes.may)) ∙ sym a)
   retrying_answered false makes is e = false_true is
 
@@ -166,9 +165,9 @@ module _ (t : Knowledge) (now : ℕ) (step : Step) (from : Place) (leg : Leg) (s
   by_rule : (rs : List SessionRecord) (c d : Bool) → c ≡ d → (if d then end_answer rs leg.xid leg.branch st stmt else still act.Ignored) ≡ (if c then end_answer rs leg.xid leg.branch st stmt else still act.Ignored)
   by_rule rs c d e = ap (λ k. if k then end_answer rs leg.xid leg.branch st stmt else still act.Ignored) (sym e)
 
-  pub commit_ignored : commit_counts ≡ false → step ≡ still act.Ignored → IsAnswered (λ owns. ComesFramable committed) t t committed now step
+  pub commit_ignored : commit_counts ≡ false → step ≡ still act.Ignored → IsAnswered Always t t committed now step
   commit_ignored refused e =
-      answered_quiet (λ owns. ComesFramable committed) t committed now step act.Ignored None e refl
+      answered_quiet Always t committed now step act.Ignored None e refl
       (λ owns s f. sym (by_rule (records owns) commit_counts (is_commit (decided (records owns) leg.xid.0) && counts t now owns s leg.xid.0 leg.branch.0) (counts_commit t now owns s leg.xid.0 leg.branch.0)
       ∙ by_rule (records owns) false commit_counts (sym refused)))
 
@@ -177,9 +176,9 @@ module _ (t : Knowledge) (now : ℕ) (step : Step) (from : Place) (leg : Leg) (s
       by_rule (records owns) commit_counts (is_commit (decided (records owns) leg.xid.0) && counts t now owns s leg.xid.0 leg.branch.0) (counts_commit t now owns s leg.xid.0 leg.branch.0)
       ∙ by_rule (records owns) true commit_counts (sym does)
 
-  pub rollback_ignored : rollback_counts ≡ false → step ≡ still act.Ignored → IsAnswered (λ owns. ComesFramable rollbacked) t t rollbacked now step
+  pub rollback_ignored : rollback_counts ≡ false → step ≡ still act.Ignored → IsAnswered Always t t rollbacked now step
   rollback_ignored refused e =
-      answered_quiet (λ owns. ComesFramable rollbacked) t rollbacked now step act.Ignored None e refl
+      answered_quiet Always t rollbacked now step act.Ignored None e refl
       (λ owns s f. sym (by_rule (records owns) rollback_counts (is_rollback (decided (records owns) leg.xid.0) && counts t now owns s leg.xid.0 leg.branch.0) (counts_rollback t now owns s leg.xid.0 leg.branch.0)
       ∙ by_rule (records owns) false rollback_counts (sym refused)))
 

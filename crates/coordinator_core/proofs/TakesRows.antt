@@ -1,9 +1,10 @@
 -- The steps on registrations and rows are the answers of the rules.
 use Rattle.std.proofs.Common.{◌≡◌, ◌==◌, ◌&&◌, ◌<◌, ◌+◌, ◌^◌, not, ℕ, Bool, true, false, if◌then◌else◌, List, [], ◌∷◌, ◌++◌, Option, Some, None, option_map, is_none, refl, sym, ap, subst, ◌∙◌, arith}
 use Rattle.std.specs.Prelude.{All, IfSome}
-use Rattle.std.specs.List.{AllByRecursion}
+use Rattle.std.specs.List.{AllByRecursion, list_all}
 use Rattle.std.proofs.lemmas.List.{append-nil}
 use Rattle.std.proofs.lemmas.List.Elements.{recursion_from_All}
+use Rattle.std.proofs.lemmas.List.Folds.{list_all-append}
 use Rattle.seata_types.specs.declared.acts.Act.TheVariants as act
 use Rattle.seata_types.specs.declared.acts.Durable.TheVariants as durable
 use Rattle.seata_types.specs.declared.ids.Xid.{Xid}
@@ -27,6 +28,7 @@ use Rattle.durable_records.specs.Transactions.{session, decided, is_rollback}
 use Rattle.durable_records.specs.Branches.{Grant, granted}
 use Rattle.durable_records.specs.Progress.{status_of, may_decide}
 use Rattle.durable_records.specs.Locks.{first_held as held_first}
+use Rattle.durable_records.specs.SessionOrder.{has_resource}
 use Rattle.byte_fields.specs.Layout.{FitsKey}
 use Rattle.frame_codec.specs.Limits.{IsKeyWithin}
 use Rattle.history_rules.specs.Own.{sends}
@@ -39,11 +41,12 @@ use Rattle.session_log.specs.declared.sessions.Snapshot.{Snapshot}
 use Rattle.session_memory.specs.Changes.{may_come, after, is_begin, is_new, are_free, granted_record}
 use Rattle.session_memory.specs.Holding.{keeps_rows, held_in}
 use Rattle.session_memory.specs.Lookups.{status_in, session_in, ticket_leg, call_leg}
-use Rattle.session_memory.proofs.Small.{false_true, true_false, none_some, and_both, nat_same}
-use Rattle.coordinator_core.specs.Knowledge.{Knowledge}
-use Rattle.coordinator_core.specs.Answers.{IsAnswered}
+use Rattle.session_memory.proofs.Small.{false_true, true_false, none_some, and_left, and_right, and_both, nat_same}
+use Rattle.coordinator_core.specs.Knowledge.{Knowledge, SameTimes}
+use Rattle.coordinator_core.specs.Answers.{Always, IsAnswered}
 use Rattle.coordinator_core.specs.Changes.{IsMade}
 use Rattle.coordinator_core.specs.Choices.{has_passed_in, leg_of_kind, leg_in, nobody, is_rolling}
+use Rattle.coordinator_core.specs.Naming.{AreRows, ComesNamed, IsNamed}
 use Rattle.coordinator_core.specs.Steps.{regranted_step, closed_step, late_step, granted_step, conflict_step, held_step, IsFramableKey, IsFramableRow}
 use Rattle.coordinator_core.specs.Tracks.{Course, Follows, records}
 use Rattle.coordinator_core.proofs.Kept.{is_quiet}
@@ -94,6 +97,14 @@ module _ (P : RowKey → Type 0) where
   row_among : (ls : Locks) (x : Xid) (front bs : List RowKey) (key : RowKey) (by : Xid) → All P front → All P bs → first_locked ls x (front ++ bs) ≡ Some (key, by) → P key
   row_among ls x front bs key by a b e = found_among ls x (front ++ bs) key by (both_among front bs (recursion_from_All P front a) (recursion_from_All P bs b)) e
 
+tested : (test : RowKey → Bool) (ks : List RowKey) → list_all test ks ≡ true → AllByRecursion (λ k. test k ≡ true) ks
+tested test [] e = tt
+tested test (k ∷ ks) e = (and_left (test k) (list_all test ks) e, tested test ks (and_right (test k) (list_all test ks) e))
+
+-- and it is of a resource where they all are
+row_named : (s : Snapshot) (resources : ℕ) (x : Xid) (ks : List RowKey) (key : RowKey) (by : Xid) → AreRows resources ks → first_held (held_in s) x ks ≡ Some (key, by) → has_resource resources key ≡ true
+row_named s resources x ks key by rows there = found_among (λ k. has_resource resources k ≡ true) (locks (held_in s)) x ks key by (tested (has_resource resources) ks rows) there
+
 -- ---- registrations
 
 found_by : (rs : List SessionRecord) (now : ℕ) (q : Request) (p : RegisterPlace) (leg : Leg) (o : Option Grant) → q.resource ≡ p.resource → q.ticket ≡ p.ticket → option_map leg_of_grant o ≡ Some leg
@@ -116,9 +127,6 @@ module _ (t : Knowledge) (now : ℕ) (in_time : now < 2 ^ 64) (step : Step) (fro
   abbrev request : Request
   request = record { xid = xid.0; resource = p.resource; call = p.call; ticket = p.ticket; kind = p.kind; hold = hold; check = check }
 
-  abbrev Asked : Course → Type 0
-  Asked owns = ComesFramable asked
-
   abbrev granted_now : Course → Option Grant
   granted_now owns = granted (records owns) xid.0 p.resource p.call p.ticket p.kind
 
@@ -126,9 +134,9 @@ module _ (t : Knowledge) (now : ℕ) (in_time : now < 2 ^ 64) (step : Step) (fro
   leg_by owns s kind.At = ap (λ m. ticket_leg m p.resource p.ticket) s.tracks.known ∙ (alike t owns s).ticket xid.0 p.resource p.call p.ticket
   leg_by owns s kind.Tcc = ap (λ m. call_leg m xid p.resource p.call) s.tracks.known ∙ (alike t owns s).call xid p.resource p.call p.ticket
 
-  pub regranted_answered : (leg : Leg) → leg_in t.memory xid p ≡ Some leg → step ≡ regranted_step p leg → IsAnswered Asked t t asked now step
+  pub regranted_answered : (leg : Leg) → leg_in t.memory xid p ≡ Some leg → step ≡ regranted_step p leg → IsAnswered Always t t asked now step
   regranted_answered leg there e =
-      answered_quiet Asked t asked now step (act.Regranted leg.xid leg.branch) (regranted_step p leg).sent e refl
+      answered_quiet Always t asked now step (act.Regranted leg.xid leg.branch) (regranted_step p leg).sent e refl
       (λ owns s f. found_by (records owns) now request p leg (granted_now owns) refl refl (sym (leg_by owns s p.kind) ∙ there))
 
   -- nothing was registered for this
@@ -143,9 +151,9 @@ module _ (t : Knowledge) (now : ℕ) (in_time : now < 2 ^ 64) (step : Step) (fro
     may_begin : (owns : Course) → Follows t owns → is_begin (status_in t.memory xid.0) ≡ may_decide (records owns) xid.0
     may_begin owns s = ap (λ m. is_begin (status_in m xid.0)) s.tracks.known ∙ ((alike t owns s).transaction xid.0).undecided
 
-    pub closed_answered : is_begin (status_in t.memory xid.0) ≡ false → step ≡ closed_step p xid (status_in t.memory xid.0) → IsAnswered Asked t t asked now step
+    pub closed_answered : is_begin (status_in t.memory xid.0) ≡ false → step ≡ closed_step p xid (status_in t.memory xid.0) → IsAnswered Always t t asked now step
     closed_answered refused e =
-        answered_quiet Asked t asked now step (act.Closed xid (status_in t.memory xid.0)) (closed_step p xid (status_in t.memory xid.0)).sent e refl
+        answered_quiet Always t asked now step (act.Closed xid (status_in t.memory xid.0)) (closed_step p xid (status_in t.memory xid.0)).sent e refl
         (λ owns s f. ap (closed_step p xid) (status_is t owns s xid.0)
         ∙ closed_by (records owns) (may_decide (records owns) xid.0) (sym (may_begin owns s) ∙ refused)
         ∙ ap (register_answer (records owns) now request) (sym (not_granted owns s)))
@@ -165,9 +173,9 @@ module _ (t : Knowledge) (now : ℕ) (in_time : now < 2 ^ 64) (step : Step) (fro
           ∙ ap (register_answer (records owns) now request) (sym (not_granted owns s))
 
       pub late_answered : (t' : Knowledge) (made : Bool) → has_passed_in (session_in t.memory xid.0) now ≡ true → IsMade made t t' (log.Decided xid how.Timeout) now → made ≡ true → step ≡ late_step p xid
-          → IsAnswered Asked t t' asked now step
+          → IsAnswered Always t t' asked now step
       late_answered t' true past makes is e =
-          answered_made Asked t asked now step t' (log.Decided xid how.Timeout) (durable.Late xid) (late_step p xid).sent in_time makes e refl (λ x before. refl) (λ x before. refl) (λ owns s f. tt)
+          answered_made Always t asked now step t' (log.Decided xid how.Timeout) (durable.Late xid) (late_step p xid).sent in_time makes e refl (λ x before. refl) (λ x before. refl)
           (λ owns s f. open_here owns s true past)
       late_answered t' false past makes is e = false_true is
 
@@ -195,11 +203,11 @@ module _ (t : Knowledge) (now : ℕ) (in_time : now < 2 ^ 64) (step : Step) (fro
             (ap is_none (first_of_more (locks (held_in t.memory)) xid hold check free))))
 
         pub granted_answered : (t' : Knowledge) (branch : BranchId) → branch.0 ≡ t.memory.granted + 1 → first_held (held_in t.memory) xid (hold ++ check) ≡ None → t'.memory ≡ after granted_as t.memory
-            → t'.moments ≡ t.moments → t'.retry ≡ t.retry → t'.forget ≡ t.forget → step ≡ granted_step p (record { xid = xid; branch = branch }) → IsAnswered Asked t t' asked now step
-        granted_answered t' branch number free memory moments retry forget e =
-            answered_made Asked t asked now step t' granted_as (durable.Granted xid (record { 0 = t.memory.granted + 1 })) (granted_step p (record { xid = xid; branch = record { 0 = t.memory.granted + 1 } })).sent in_time
-            (record { may = granted_may free; memory = memory; moments = λ planned. moments; same_retry = retry; same_forget = forget })
-            (e ∙ ap (λ b. granted_step p (record { xid = xid; branch = b })) same) refl (λ x before. refl) (λ x before. refl) (λ owns s f. f.limits.1)
+            → t'.moments ≡ t.moments → SameTimes t t' → step ≡ granted_step p (record { xid = xid; branch = branch }) → IsAnswered Always t t' asked now step
+        granted_answered t' branch number free memory moments settings e =
+            answered_made Always t asked now step t' granted_as (durable.Granted xid (record { 0 = t.memory.granted + 1 })) (granted_step p (record { xid = xid; branch = record { 0 = t.memory.granted + 1 } })).sent in_time
+            (record { may = granted_may free; memory = memory; moments = λ planned. moments; same = settings })
+            (e ∙ ap (λ b. granted_step p (record { xid = xid; branch = b })) same) refl (λ x before. refl) (λ x before. refl)
             (λ owns s f. granted_by owns s)
           where
             same : branch ≡ record { 0 = t.memory.granted + 1 }
@@ -223,9 +231,9 @@ module _ (t : Knowledge) (now : ℕ) (in_time : now < 2 ^ 64) (step : Step) (fro
             ∙ ap (conflict_step p xid k (record { 0 = g.xid })) rolling
 
         pub conflict_answered : (key : RowKey) (by : Xid) → first_held (held_in t.memory) xid (hold ++ check) ≡ Some (key, by) → step ≡ conflict_step p xid key by (is_rolling (status_in t.memory by.0))
-            → IsAnswered Asked t t asked now step
+            → IsAnswered Always t t asked now step
         conflict_answered key by there e =
-            answered_quiet Asked t asked now step (act.Conflict xid key by (is_rolling (status_in t.memory by.0))) (conflict_step p xid key by (is_rolling (status_in t.memory by.0))).sent e refl
+            answered_quiet Always t asked now step (act.Conflict xid key by (is_rolling (status_in t.memory by.0))) (conflict_step p xid key by (is_rolling (status_in t.memory by.0))).sent e refl
             (λ owns s f. conflict_by owns s key by (held_first (records owns) xid.0 (hold ++ check)) refl (sym (held_rows_by owns s) ∙ there) ∙ open_here owns s false timely)
 
 -- a row that is told is one of those that came
@@ -235,6 +243,15 @@ conflict_framable s from xid p hold check key by there f = record {
   layout = row_among FitsKey (locks (held_in s)) xid hold check key by f.layout.4.each f.layout.5.each there;
   limits = row_among IsKeyWithin (locks (held_in s)) xid hold check key by f.limits.2.each f.limits.3.each there;
 }
+
+-- what tells it names nodes where the registration does
+pub conflict_named : (s : Snapshot) (managers resources : ℕ) (from : Place) (xid : Xid) (p : RegisterPlace) (hold check : List RowKey) (key : RowKey) (by : Xid) (rolling : Bool) (step : Step)
+    → first_held (held_in s) xid (hold ++ check) ≡ Some (key, by) → step ≡ conflict_step p xid key by rolling
+    → ComesNamed managers resources (input.Message from (message.Register xid p.resource p.call p.ticket p.kind hold check)) → IsNamed managers resources step
+conflict_named s managers resources from xid p hold check key by rolling step there is n =
+    let rows : AreRows resources (hold ++ check) = list_all-append (has_resource resources) hold check ∙ and_both (list_all (has_resource resources) hold) (list_all (has_resource resources) check) n.1.1 n.1.2 in
+    let row = row_named s resources xid (hold ++ check) key by rows there in
+    subst (IsNamed managers resources) (sym is) (record { act = row; sent = (n.1.0, row) })
 
 -- ---- questions for rows
 
@@ -261,8 +278,15 @@ module _ (t : Knowledge) (now : ℕ) (step : Step) (from : Place) (resource : �
     limits = row_among IsKeyWithin (locks (held_in t.memory)) nobody check [] key by f.limits.1.each (λ k d lt. absurd (omega (arith, lt))) (ap (first_locked (locks (held_in t.memory)) nobody) (append-nil check) ∙ e);
   }
 
-  pub query_answered : step ≡ held_step from ticket (first_held (held_in t.memory) nobody check) → IsAnswered (λ owns. ComesFramable queried) t t queried now step
+  pub query_named : (managers resources : ℕ) (found : Option (RowKey × Xid)) → first_held (held_in t.memory) nobody check ≡ found → step ≡ held_step from ticket found
+      → ComesNamed managers resources queried → IsNamed managers resources step
+  query_named managers resources None there is n = subst (IsNamed managers resources) (sym is) (record { act = tt; sent = (n.0, tt) })
+  query_named managers resources (Some (key, by)) there is n =
+      let row = row_named t.memory resources nobody check key by n.1.1 there in
+      subst (IsNamed managers resources) (sym is) (record { act = row; sent = (n.0, row) })
+
+  pub query_answered : step ≡ held_step from ticket (first_held (held_in t.memory) nobody check) → IsAnswered Always t t queried now step
   query_answered e =
       let found = first_held (held_in t.memory) nobody check in
-      answered_quiet (λ owns. ComesFramable queried) t queried now step (held_step from ticket found).act (held_step from ticket found).sent e (quiet_by found)
+      answered_quiet Always t queried now step (held_step from ticket found).act (held_step from ticket found).sent e (quiet_by found)
       (λ owns s f. ap (held_step from ticket) (ap (λ m. first_held (held_in m) nobody check) s.tracks.known ∙ (alike t owns s).held nobody check) ∙ held_by (records owns) from ticket (held_first (records owns) 0 check))

@@ -1,7 +1,6 @@
 -- The turns of the table are the answers of the rules.
 use Rattle.std.proofs.Common.{◌≡◌, ◌&&◌, ◌<◌, ◌≤◌, ◌+◌, ◌^◌, ℕ, Bool, true, false, if◌then◌else◌, List, length, Option, Some, None, option_map, is_some, refl, sym, ap, subst, ◌∙◌}
 use Rattle.std.specs.Prelude.{find, nat_le, nat_lt}
-use Rattle.std.specs.Option.{option_and_then}
 use Rattle.seata_types.specs.declared.limits.TheConstants.{LATEST_MOMENT}
 use Rattle.seata_types.specs.declared.acts.Act.TheVariants as act
 use Rattle.seata_types.specs.declared.acts.Durable.TheVariants as durable
@@ -26,28 +25,15 @@ use Rattle.session_memory.specs.Lookups.{xid_of, session_in, status_in}
 use Rattle.session_memory.proofs.Small.{false_true, true_false, none_some, and_left, and_right, and_both}
 use Rattle.coordinator_core.specs.declared.questions.Question.{Question}
 use Rattle.coordinator_core.specs.Knowledge.{Knowledge, times_in}
-use Rattle.coordinator_core.specs.Answers.{IsAnswered, late_at, due_at, old_at, IsLate, IsDue, IsOld}
+use Rattle.coordinator_core.specs.Answers.{AreWithin, IsAnswered, late_at, due_at, old_at, IsLate, IsDue, IsOld}
 use Rattle.coordinator_core.specs.Changes.{IsMade, PlansAgain}
-use Rattle.coordinator_core.specs.Choices.{is_late_entry, is_old_entry, next_open, is_sendable, if_sendable, question_to, question_in}
+use Rattle.coordinator_core.specs.Choices.{is_late_entry, is_old_entry, question_in}
 use Rattle.coordinator_core.specs.Steps.{asked_step}
 use Rattle.coordinator_core.specs.Tracks.{Course, rule_answer, due_on, rests_on, Follows, records}
 use Rattle.coordinator_core.proofs.Chosen.{late_alike, old_alike, due_first, due_none, question_none, question_some, left_none}
 use Rattle.coordinator_core.proofs.Firsts.{least_passes, soonest_is}
 use Rattle.coordinator_core.proofs.Kept.{may_by, may_is}
 use Rattle.coordinator_core.proofs.Takes.{answered_made, answered_asked, answered_never, alike, status_after, finished_here}
-
--- a question that is asked can be sent
-sendable_by : (q r : Question) (b : Bool) → is_sendable r ≡ b → (if b then Some r else None) ≡ Some q → is_sendable q ≡ true
-sendable_by q r true e f = let same : r ≡ q = cc in ap is_sendable (sym same) ∙ e
-sendable_by q r false e f = none_some f
-
-pub question_sendable : (q : Question) (o : Option _) → question_in o ≡ Some q → is_sendable q ≡ true
-question_sendable q None e = none_some e
-question_sendable q (Some t) e = by (next_open _ t.branches) e
-  where
-    by : (b : Option _) → option_and_then (λ b. if_sendable (question_to t b)) b ≡ Some q → is_sendable q ≡ true
-    by None e = none_some e
-    by (Some b) e = sendable_by q (question_to t b) (is_sendable (question_to t b)) refl e
 
 -- what the rules take
 module _ (t : Knowledge) (now : ℕ) (owns : Course) (s : Follows t owns) where
@@ -130,7 +116,7 @@ module _ (t : Knowledge) (now : ℕ) (owns : Course) (s : Follows t owns) where
 module _ (t t' : Knowledge) (now : ℕ) (in_time : now < 2 ^ 64) (step : Step) (xid : Xid) where
   pub late_answered : (made : Bool) → IsMade made t t' (log.Decided xid how.Timeout) now → made ≡ true → step ≡ still (act.Durable (durable.Decided xid how.Timeout)) → IsAnswered (IsLate (times_in t) now xid.0) t t' input.Turn now step
   late_answered true makes is e =
-      answered_made (IsLate (times_in t) now xid.0) t input.Turn now step t' (log.Decided xid how.Timeout) (durable.Decided xid how.Timeout) None in_time makes e refl (λ x before. refl) (λ x before. refl) (λ owns s a. tt)
+      answered_made (IsLate (times_in t) now xid.0) t input.Turn now step t' (log.Decided xid how.Timeout) (durable.Decided xid how.Timeout) None in_time makes e refl (λ x before. refl) (λ x before. refl)
       (λ owns s a. late_rule t now owns s xid.0 a)
   late_answered false makes is e = false_true is
 
@@ -144,7 +130,7 @@ module _ (t t' : Knowledge) (now : ℕ) (in_time : now < 2 ^ 64) (step : Step) (
 
   pub forgot_answered : (made : Bool) → IsMade made t t' (log.Forgot xid) now → made ≡ true → step ≡ still (act.Durable (durable.Forgot xid)) → IsAnswered (IsOld (times_in t) now xid.0) t t' input.Turn now step
   forgot_answered true makes is e =
-      answered_made (IsOld (times_in t) now xid.0) t input.Turn now step t' (log.Forgot xid) (durable.Forgot xid) None in_time makes e refl (λ x before. refl) (λ x before. refl) (λ owns s a. tt)
+      answered_made (IsOld (times_in t) now xid.0) t input.Turn now step t' (log.Forgot xid) (durable.Forgot xid) None in_time makes e refl (λ x before. refl) (λ x before. refl)
       (λ owns s a. old_rule t now owns s xid.0 a)
   forgot_answered false makes is e = false_true is
 
@@ -156,23 +142,24 @@ module _ (t t' : Knowledge) (now : ℕ) (in_time : now < 2 ^ 64) (step : Step) (
       (answered_never (IsOld (times_in t) now xid.0) t input.Turn now step
       (λ owns s a. sym refused ∙ may_is t.memory t.moments (records owns) (due_on t.retry owns) (rests_on owns) s.tracks now in_time (log.Forgot xid) ∙ old_may t now owns s xid.0 a))
 
+module _ (managers resources : ℕ) (t t' : Knowledge) (now : ℕ) (in_time : now < 2 ^ 64) (step : Step) (xid : Xid) where
   abbrev Due : Course → Type 0
-  Due = IsDue (times_in t) now xid.0
+  Due owns = IsDue (times_in t) now xid.0 owns × AreWithin managers resources (records owns)
 
   known_going : (rs : List SessionRecord) (x : ℕ) → goes rs x ≡ true → is_known rs x ≡ true
   known_going rs x g = and_left (is_known rs x) (is_some (decided rs x) && is_on (progress rs x)) g
 
   pub finished_answered : (made : Bool) (st : GlobalStatus) → IsMade made t t' (log.Finished xid) now → made ≡ true → st ≡ status_in t'.memory xid.0 → step ≡ still (act.Durable (durable.Finished xid st)) → IsAnswered Due t t' input.Turn now step
   finished_answered true st makes is told e =
-      answered_made Due t input.Turn now step t' (log.Finished xid) (durable.Finished xid st) None in_time makes e refl (λ x before. refl) (λ x before. refl) (λ owns s a. tt)
-      (λ owns s a. ap (λ k. still (act.Durable (durable.Finished xid k))) (final owns s a) ∙ due_rule t now owns s xid.0 None a (left owns s a))
+      answered_made Due t input.Turn now step t' (log.Finished xid) (durable.Finished xid st) None in_time makes e refl (λ x before. refl) (λ x before. refl)
+      (λ owns s a. ap (λ k. still (act.Durable (durable.Finished xid k))) (final owns s a) ∙ due_rule t now owns s xid.0 None a.0 (left owns s a))
     where
       final : (owns : Course) → (s : Follows t owns) → Due owns → st ≡ status_by (all_at (branches (records owns) xid.0)) (decided (records owns) xid.0) IsDone
-      final owns s a = told ∙ status_after t owns s t' (log.Finished xid) now xid.0 in_time makes ∙ finished_here (records owns) xid (known_going (records owns) xid.0 (due_goes t now owns s xid.0 a))
+      final owns s a = told ∙ status_after t owns s t' (log.Finished xid) now xid.0 in_time makes ∙ finished_here (records owns) xid (known_going (records owns) xid.0 (due_goes t now owns s xid.0 a.0))
 
       left : (owns : Course) → (s : Follows t owns) → Due owns → next_asked (records owns) xid.0 (is_commit (decided (records owns) xid.0)) ≡ None
       left owns s a =
-          left_none (records owns) (alike t owns s) s.tracks.sendable xid.0 (due_goes t now owns s xid.0 a)
+          left_none (records owns) (alike t owns s) a.1 xid.0 (due_goes t now owns s xid.0 a.0)
           (and_right (goes (records owns) xid.0) (is_empty (unended (records owns) xid.0)) (may_by t.memory t.moments (records owns) (due_on t.retry owns) (rests_on owns) s.tracks now in_time (log.Finished xid) makes.may))
   finished_answered false st makes is told e = false_true is
 
@@ -185,20 +172,20 @@ module _ (t t' : Knowledge) (now : ℕ) (in_time : now < 2 ^ 64) (step : Step) (
     same_memory : t1.memory ≡ t.memory
     same_memory = ap (λ (k : Knowledge). k.memory) (not_made made makes is).1
 
-    known_question : (owns : Course) → Follows t owns → question_in (session_in t1.memory xid.0) ≡ question_in (session_in (snapshot_of (records owns)) xid.0)
-    known_question owns s = ap (λ m. question_in (session_in m xid.0)) (same_memory ∙ s.tracks.known)
+    known_question : (owns : Course) → Follows t owns → question_in managers resources (session_in t1.memory xid.0) ≡ question_in managers resources (session_in (snapshot_of (records owns)) xid.0)
+    known_question owns s = ap (λ m. question_in managers resources (session_in m xid.0)) (same_memory ∙ s.tracks.known)
 
-    pub none_never : question_in (session_in t1.memory xid.0) ≡ None → step ≡ still act.Nothing → t' ≡ t1 → IsAnswered Due t t' input.Turn now step
+    pub none_never : question_in managers resources (session_in t1.memory xid.0) ≡ None → step ≡ still act.Nothing → t' ≡ t1 → IsAnswered Due t t' input.Turn now step
     none_never none e same =
         subst (λ k. IsAnswered Due t k input.Turn now step) (sym (same ∙ (not_made made makes is).1))
         (answered_never Due t input.Turn now step
-        (λ owns s a. let going = due_goes t now owns s xid.0 a in
+        (λ owns s a. let going = due_goes t now owns s xid.0 a.0 in
         sym (not_made made makes is).0 ∙ may_is t.memory t.moments (records owns) (due_on t.retry owns) (rests_on owns) s.tracks now in_time (log.Finished xid)
-        ∙ and_both (goes (records owns) xid.0) (is_empty (unended (records owns) xid.0)) going (question_none (records owns) (alike t owns s) s.tracks.sendable xid.0 going (sym (known_question owns s) ∙ none))))
+        ∙ and_both (goes (records owns) xid.0) (is_empty (unended (records owns) xid.0)) going (question_none (records owns) (alike t owns s) a.1 xid.0 going (sym (known_question owns s) ∙ none))))
 
-    pub asked_answered : (q : Question) → question_in (session_in t1.memory xid.0) ≡ Some q → PlansAgain t1 t' xid.0 now → step ≡ asked_step xid q → IsAnswered Due t t' input.Turn now step
+    pub asked_answered : (q : Question) → question_in managers resources (session_in t1.memory xid.0) ≡ Some q → PlansAgain t1 t' xid.0 now → step ≡ asked_step xid q → IsAnswered Due t t' input.Turn now step
     asked_answered q there plans e =
         answered_asked Due t input.Turn now step t' xid q.branch (asked_step xid q).sent in_time (subst (λ k. PlansAgain k t' xid.0 now) (not_made made makes is).1 plans) e
-        (λ owns s a. due_goes t now owns s xid.0 a)
-        (λ owns s a. let found = question_some (records owns) (alike t owns s) s.tracks.sendable xid.0 (due_goes t now owns s xid.0 a) q (sym (known_question owns s) ∙ there) in
-        found.1.1 ∙ due_rule t now owns s xid.0 (Some found.0) a found.1.0)
+        (λ owns s a. due_goes t now owns s xid.0 a.0)
+        (λ owns s a. let found = question_some (records owns) (alike t owns s) a.1 xid.0 (due_goes t now owns s xid.0 a.0) q (sym (known_question owns s) ∙ there) in
+        found.1.1 ∙ due_rule t now owns s xid.0 (Some found.0) a.0 found.1.0)

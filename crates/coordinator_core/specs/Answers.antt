@@ -1,5 +1,6 @@
 -- What an answer of the coordinator's table promises.
-use Rattle.std.specs.Prelude.{◌≡◌, ℕ, Bool, true, false, List, Option, Some, None, Result, Ok, Err, IfOk}
+use Rattle.std.specs.Prelude.{◌≡◌, ◌≤◌, ℕ, Bool, true, false, List, Option, Some, None, Result, Ok, Err, IfOk}
+use Rattle.std.specs.List.{list_all}
 use Rattle.disk_model.specs.Disk.{DiskState}
 use Rattle.seata_types.specs.declared.acts.Act.{Act}
 use Rattle.seata_types.specs.declared.acts.Act.TheVariants as act
@@ -9,19 +10,22 @@ use Rattle.seata_types.specs.declared.errors.NodeError.{NodeError}
 use Rattle.seata_types.specs.declared.errors.NodeError.TheVariants as error
 use Rattle.seata_types.specs.declared.errors.StoreError.{StoreError}
 use Rattle.seata_types.specs.declared.errors.StoreError.TheVariants as store_error
+use Rattle.seata_types.specs.declared.limits.TheConstants.{MANAGERS}
 use Rattle.seata_types.specs.declared.messages.Input.{Input}
 use Rattle.seata_types.specs.declared.messages.Step.{Step}
 use Rattle.durable_records.specs.declared.coordinators.SessionRecord.{SessionRecord}
+use Rattle.durable_records.specs.SessionOrder.{is_within}
 use Rattle.history_rules.specs.Own.{Event, Given}
 use Rattle.history_rules.specs.CoordinatorMemory.{Times, session_record, late_one, due_one, old_one}
 use Rattle.history_text.specs.Framing.{ComesFramable, SendsFramable}
 use Rattle.history_text.specs.Promises.{own_step}
 use Rattle.session_memory.specs.Changes.{may_come}
 use Rattle.session_store.specs.declared.sessions.Sessions.{Sessions}
-use Rattle.session_store.specs.Keeping.{Adds, Loses, HasNoRoom}
+use Rattle.session_store.specs.Keeping.{managers_of, resources_of, Adds, Loses, HasNoRoom}
 use Rattle.coordinator_core.specs.declared.table.Table.{Table}
-use Rattle.coordinator_core.specs.Knowledge.{Knowledge, knowledge, times_in, times_of}
+use Rattle.coordinator_core.specs.Knowledge.{Knowledge, SameTimes, knowledge, times_in, times_of}
 use Rattle.coordinator_core.specs.Changes.{Makes, IsMade}
+use Rattle.coordinator_core.specs.Naming.{ComesNamed, IsNamed}
 use Rattle.coordinator_core.specs.Tracks.{Course, with_own, rule_answer, Follows, records}
 
 -- ---- what is known
@@ -37,10 +41,6 @@ is_answer _ = true
 abbrev pub TakesAfter : Course → (old new : Knowledge) → Input → ℕ → Step → Type 0
 TakesAfter owns old new given now step =
     (step ≡ rule_answer (times_in old) owns now given) × Follows new (with_own (own_step given now step) owns) × (is_answer step.act ≡ true)
-
-pub record SameTimes (old new : Knowledge) : Type 0 where
-  pub retry : new.retry ≡ old.retry
-  pub forget : new.forget ≡ old.forget
 
 -- where Applies holds of the own entries, the answer is the rule's
 pub record IsAnswered (Applies : Course → Type 0) (old new : Knowledge) (given : Input) (now : ℕ) (step : Step) : Type 0 where
@@ -92,9 +92,26 @@ AnswersWhere state Applies old new given now (Err (error.Failed done)) = IsCut s
 AnswersWhere state Applies old new given now (Err (error.Full full)) = IsOver state Applies old new given now full
 AnswersWhere state Applies old new given now (Err error.NoMemory) = IsUnanswered (knowledge old) (knowledge new) × (new.sessions ≡ old.sessions)
 
--- the same at every input that can be framed
+-- at all own entries
+abbrev pub Always : Course → Type 0
+Always owns = Unit {0}
+
+-- the same at all own entries
 abbrev pub Answers : {D : Type 0} → (D → DiskState) → Table D → Table D → Input → ℕ → Result Step NodeError → Type 0
-Answers state old new given now result = AnswersWhere state (λ owns. ComesFramable given) old new given now result
+Answers state old new given now result = AnswersWhere state Always old new given now result
+
+-- these records are of a scenario with so many managers and resources, and a message may have the number of each manager
+pub record AreWithin (managers resources : ℕ) (rs : List SessionRecord) : Type 0 where
+  pub few : managers ≤ MANAGERS
+  pub within : list_all (is_within managers resources) rs ≡ true
+
+-- the records that stand are of the table's scenario
+abbrev pub IsWithin : {D : Type 0} → Table D → Course → Type 0
+IsWithin t owns = AreWithin (managers_of t.sessions) (resources_of t.sessions) (records owns)
+
+-- the same where they are
+abbrev pub AnswersWithin : {D : Type 0} → (D → DiskState) → Table D → Table D → Input → ℕ → Result Step NodeError → Type 0
+AnswersWithin state old new given now result = AnswersWhere state (IsWithin old) old new given now result
 
 -- the same where the rule's answer is this step by the records
 abbrev pub AnswersAs : {D : Type 0} → (D → DiskState) → (List SessionRecord → Step) → Table D → Table D → ℕ → Result Step NodeError → Type 0
@@ -104,6 +121,14 @@ AnswersAs state rule old new now result =
 -- what is sent can be framed where the input came so
 abbrev pub Frames : Input → Result Step NodeError → Type 0
 Frames given result = ComesFramable given → IfOk result SendsFramable
+
+-- a step names nodes of the table's scenario
+abbrev pub IsNamedBy : {D : Type 0} → Table D → Step → Type 0
+IsNamedBy t step = IsNamed (managers_of t.sessions) (resources_of t.sessions) step
+
+-- it does where the input does
+abbrev pub Names : {D : Type 0} → Table D → Input → Result Step NodeError → Type 0
+Names t given result = ComesNamed (managers_of t.sessions) (resources_of t.sessions) given → IfOk result (IsNamedBy t)
 
 -- ---- one record
 
@@ -147,6 +172,10 @@ IsLate times now x owns = late_at times now owns ≡ Some x
 
 abbrev pub IsDue : Times → (now x : ℕ) → Course → Type 0
 IsDue times now x owns = (late_at times now owns ≡ None) × ((moment : ℕ) × (due_at times now owns ≡ Some (x, moment)))
+
+-- the same of a table whose records are of its scenario
+abbrev pub IsDueWithin : {D : Type 0} → Table D → (now x : ℕ) → Course → Type 0
+IsDueWithin t now x owns = IsDue (times_of t) now x owns × IsWithin t owns
 
 abbrev pub IsOld : Times → (now x : ℕ) → Course → Type 0
 IsOld times now x owns = (late_at times now owns ≡ None) × ((due_at times now owns ≡ None) × (old_at times now owns ≡ Some x))

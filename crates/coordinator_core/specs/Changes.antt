@@ -5,7 +5,7 @@ use Rattle.durable_records.specs.declared.coordinators.SessionRecord.TheVariants
 use Rattle.retry_turns.specs.Plans.{Plans, is_planned, with_plan, without_plan}
 use Rattle.session_memory.specs.Changes.{may_come, after}
 use Rattle.coordinator_core.specs.declared.moments.Moments.{Moments}
-use Rattle.coordinator_core.specs.Knowledge.{Knowledge}
+use Rattle.coordinator_core.specs.Knowledge.{Knowledge, SameTimes}
 
 -- a moment, as far as it can be kept: no clock comes to the last one
 abbrev pub kept_moment : ℕ → ℕ
@@ -55,8 +55,7 @@ pub record Makes (old new : Knowledge) (r : SessionRecord) (now : ℕ) : Type 0 
   pub may : may_come old.memory r ≡ true
   pub memory : new.memory ≡ after r old.memory
   pub moments : IsPlannedFor r old.moments.turns → new.moments ≡ settled old.retry now r (prepared r now old.moments)
-  pub same_retry : new.retry ≡ old.retry
-  pub same_forget : new.forget ≡ old.forget
+  pub same : SameTimes old new
 
 -- the record was made, or it may not come and nothing changed
 abbrev pub IsMade : Bool → (old new : Knowledge) → SessionRecord → ℕ → Type 0
@@ -68,5 +67,4 @@ pub record PlansAgain (old new : Knowledge) (x now : ℕ) : Type 0 where
   pub turns : new.moments.turns ≡ with_plan old.moments.turns x (kept_moment (now + old.retry))
   pub rests : new.moments.rests ≡ old.moments.rests
   pub memory : new.memory ≡ old.memory
-  pub same_retry : new.retry ≡ old.retry
-  pub same_forget : new.forget ≡ old.forget
+  pub same : SameTimes old new

@@ -86,16 +86,21 @@ question_to t b = record {
   resource = b.place.resource;
 }
 
+-- its manager and its resource are nodes of the scenario
+abbrev pub names_nodes : (managers resources : ℕ) → Question → Bool
+names_nodes managers resources q = is_counted managers q.manager && is_counted resources q.resource
+
 -- its numbers may stand in a message
 abbrev pub is_sendable : Question → Bool
 is_sendable q = is_counted MANAGERS q.manager && is_counted CALLS q.call
 
-abbrev pub if_sendable : Question → Option Question
-if_sendable q = if is_sendable q then Some q else None
+-- it is asked where both are so
+abbrev pub if_asked : (managers resources : ℕ) → Question → Option Question
+if_asked managers resources q = if names_nodes managers resources q && is_sendable q then Some q else None
 
 -- what the next branch of a transaction is asked
-abbrev pub question_of : Session → Option Question
-question_of t = option_and_then (λ b. if_sendable (question_to t b)) (next_open (not (keeps_rows t.status)) t.branches)
+abbrev pub question_of : (managers resources : ℕ) → Session → Option Question
+question_of managers resources t = option_and_then (λ b. if_asked managers resources (question_to t b)) (next_open (not (keeps_rows t.status)) t.branches)
 
-abbrev pub question_in : Option Session → Option Question
-question_in t = option_and_then question_of t
+abbrev pub question_in : (managers resources : ℕ) → Option Session → Option Question
+question_in managers resources t = option_and_then (question_of managers resources) t

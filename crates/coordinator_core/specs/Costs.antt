@@ -20,9 +20,9 @@ use Rattle.session_memory.specs.Owners.{most_branches}
 abbrev pub held_rows : Snapshot → ℕ
 held_rows s = length (locks (held_in s))
 
--- The steps that a registration takes: for each binary digit of the number of rows that are held or to be held, two comparisons for a
--- row to hold and one for a row to check; and three look-ups: of its transaction's status and timeout, and of the status of a row's
--- holder. No step counts what the sessions look up for themselves as they take a record.
+-- The steps that a registration takes at most: for each binary digit of the number of rows that are held or to be held, two comparisons
+-- for a row to hold and one for a row to check; and three look-ups: of its transaction's status and timeout, and of the status of a
+-- row's holder. No step counts what the sessions look up for themselves as they take a record.
 abbrev pub MessageCosts : Message → Snapshot → (old new : ℕ) → Type 0
 MessageCosts (message.Register xid resource call ticket kind hold check) s old new =
     (d : ℕ) → held_rows s + length hold < 2 ^ d → new ≤ old + 3 + (2 * length hold + length check) * d
@@ -40,7 +40,7 @@ abbrev pub passed : Snapshot → Xid → BranchKind → ℕ
 passed s xid kind.At = most_branches s.sessions
 passed s xid kind.Tcc = length (branches_in s xid.0)
 
--- The passes that a registration takes: one for the transaction in which it looks for its branch, and one for each of this
+-- The passes that a registration takes at most: one for the transaction in which it looks for its branch, and one for each of this
 -- transaction's branches. No other message takes one.
 abbrev pub MessagePasses : Message → Snapshot → (old new : ℕ) → Type 0
 MessagePasses (message.Register xid resource call ticket kind hold check) s old new = new ≤ old + 1 + passed s xid kind

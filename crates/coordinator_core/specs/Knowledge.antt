@@ -1,5 +1,5 @@
 -- What a coordinator's table knows and plans, apart from its disks.
-use Rattle.std.specs.Prelude.{ℕ}
+use Rattle.std.specs.Prelude.{◌≡◌, ℕ}
 use Rattle.history_rules.specs.CoordinatorMemory.{Times}
 use Rattle.session_log.specs.declared.sessions.Snapshot.{Snapshot}
 use Rattle.session_store.specs.Keeping.{known}
@@ -11,6 +11,11 @@ pub record Knowledge : Type 0 where
   pub forget : ℕ
   pub memory : Snapshot
   pub moments : Moments
+
+-- the settings stay
+pub record SameTimes (old new : Knowledge) : Type 0 where
+  pub retry : new.retry ≡ old.retry
+  pub forget : new.forget ≡ old.forget
 
 -- its settings
 abbrev pub times_in : Knowledge → Times

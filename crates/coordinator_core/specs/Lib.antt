@@ -7,6 +7,7 @@ pub mod Tracks
 pub mod Costs
 pub mod Refusing
 pub mod Serving
+pub mod Naming
 pub mod Answers
 pub mod Starting
 pub mod Standing

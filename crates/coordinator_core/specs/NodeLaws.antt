@@ -19,7 +19,7 @@ use Rattle.history_text.specs.Durable.{StandsForRecords, StandsForLeft, of_coord
 use Rattle.history_text.specs.Promises.{place_of, has_disks, own_entry}
 use Rattle.coordinator_core.specs.declared.nodes.Coordinator.{Coordinator}
 use Rattle.coordinator_core.specs.Knowledge.{knowledge}
-use Rattle.coordinator_core.specs.Tracks.{Follows, AreSendable}
+use Rattle.coordinator_core.specs.Tracks.{Follows}
 use Rattle.coordinator_core.specs.Standing.{StandsAs, StandsOver, OnDisks, StandsForEither, course, is_down, disks_of, managers, resources, pair_of, sessions_of}
 
 -- ---- what disks stand for, in the words of histories
@@ -78,12 +78,11 @@ module _ {D : Type 0} (state : D → DiskState) where
   stands_same c past os os' down left calls faults flight follows s = record {
     disks = on_same (sessions_of c) past os os' down left calls faults s.disks;
     starts = s.starts;
+    few = s.few;
     follows = λ e. follows (s.follows (sym down ∙ e));
     fallen = λ e. let f = s.fallen (sym down ∙ e) in record {
       flight = f.flight ∙ sym flight;
       count = f.count ∙ ap (λ (l : Left SessionRecord). length l.records) (sym left);
-      sendable = subst (λ l. AreSendable l.records) (sym left) f.sendable;
-      pending = λ r e. f.pending r (ap (λ (l : Left SessionRecord). l.flight) (sym left) ∙ e);
     };
   }
 

@@ -5,6 +5,7 @@ use Rattle.disk_model.specs.Stop.{state_of}
 use Rattle.disk_model.specs.declared.stoppable.Stoppable.{Stoppable}
 use Rattle.journal_checkpoint.specs.Images.{Pair}
 use Rattle.journal_checkpoint.specs.Keeping.{active_disk, first_disk, second_disk, needed_for}
+use Rattle.seata_types.specs.declared.limits.TheConstants.{MANAGERS}
 use Rattle.seata_types.specs.declared.messages.Input.{Input}
 use Rattle.durable_records.specs.declared.coordinators.SessionRecord.{SessionRecord}
 use Rattle.durable_records.specs.Transactions.{Session, sessions}
@@ -20,7 +21,7 @@ use Rattle.history_text.specs.Durable.{keepable, own_faults}
 use Rattle.coordinator_core.specs.declared.nodes.Coordinator.{Coordinator}
 use Rattle.coordinator_core.specs.Knowledge.{knowledge, times_of as times_kept}
 use Rattle.coordinator_core.specs.Serving.{ServesInput}
-use Rattle.coordinator_core.specs.Tracks.{Course, Follows, IsSendable, AreSendable}
+use Rattle.coordinator_core.specs.Tracks.{Course, Follows}
 
 -- ---- what it shows of itself
 
@@ -93,13 +94,13 @@ pub record OnDisks {D : Type 0} (state : D → DiskState) (s : Sessions (Stoppab
 pub record IsFallen {D : Type 0} (c : Coordinator D) (past : List SessionRecord) (os : List Own) : Type 0 where
   pub flight : c.flight ≡ in_flight os
   pub count : c.records ≡ length (sessions_left past os).records
-  pub sendable : AreSendable (sessions_left past os).records
-  pub pending : (r : SessionRecord) → (sessions_left past os).flight ≡ Some r → IsSendable r
 
 -- it is the coordinator of these own entries, over the records that its disks had before
 pub record StandsOver {D : Type 0} (state : D → DiskState) (c : Coordinator D) (past : List SessionRecord) (os : List Own) : Type 0 where
   pub disks : OnDisks state (sessions_of c) past os
   pub starts : start_of c ≡ start past
+  -- a message may have the number of each manager
+  pub few : managers c ≤ MANAGERS
   pub follows : down_by os ≡ false → Follows (knowledge c.table) (course past os)
   pub fallen : down_by os ≡ true → IsFallen c past os
 

@@ -1,5 +1,5 @@
 -- What a coordinator goes by as it starts, at its opening or at a restart.
-use Rattle.std.specs.Prelude.{ℕ, ◌^◌, min, max, Bool, true, false, List, [], ◌∷◌}
+use Rattle.std.specs.Prelude.{ℕ, min, max, Bool, true, false, List, [], ◌∷◌}
 use Rattle.seata_types.specs.declared.limits.TheConstants.{LATEST_START}
 use Rattle.retry_turns.specs.Plans.{with_plan}
 use Rattle.session_log.specs.declared.sessions.SessionEntry.{SessionEntry}

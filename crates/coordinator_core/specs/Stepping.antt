@@ -1,4 +1,5 @@
--- What the calls of the coordinator as a node promise: all that `Node` promises of them, and that what its opening found stays.
+-- What the calls of the coordinator as a node promise: all that `Node` promises of them, and that its scenario and what its
+-- opening found stay.
 use Rattle.std.specs.Prelude.{◌≡◌, ◌+◌, ◌≤◌, ℕ, true, false, List, length, Option, Some, None, Result, Ok, Err, IfOk, IfErr, OnOk, OnErr}
 use Rattle.disk_model.specs.Disk.{DiskState}
 use Rattle.disk_model.specs.Stop.{state_of}
@@ -13,22 +14,20 @@ use Rattle.seata_types.specs.declared.ids.Place.TheVariants as place
 use Rattle.seata_types.specs.declared.messages.Input.{Input}
 use Rattle.seata_types.specs.declared.messages.Step.{Step}
 use Rattle.memory_store.specs.Keeping.{IsNotFull, StaysWhereShort}
-use Rattle.session_store.specs.Keeping.{BringsBack, found_of, twin}
+use Rattle.session_store.specs.Keeping.{BringsBack, SameOpening, known, twin}
 use Rattle.history_rules.specs.Own.{Own, Stopped, Crashed, still}
 use Rattle.history_rules.specs.Nodes.{Role}
 use Rattle.history_text.specs.Durable.{SamePicks, HavePick}
 use Rattle.history_text.specs.Framing.{ComesFramable, SendsFramable}
 use Rattle.history_text.specs.Promises.{Does, TakesStep, AfterError, HadPlace, DisksFail, StaysItself, goes_down, steps_of, AreTold, StandsAsBefore, asked_bytes, Restarts, IsRestartError, stays_down}
 use Rattle.coordinator_core.specs.declared.nodes.Coordinator.{Coordinator}
-use Rattle.coordinator_core.specs.Standing.{StandsAs, serves, sessions_of, disks_of, needs, size_of, steps_left, is_down}
+use Rattle.coordinator_core.specs.Costs.{InputCosts}
+use Rattle.coordinator_core.specs.Naming.{ComesNamed, IsNamed}
+use Rattle.coordinator_core.specs.Standing.{StandsAs, serves, sessions_of, disks_of, managers, resources, needs, size_of, start_of, steps_left, is_down}
 
 -- where it stands
 abbrev pub stands_at : {D : Type 0} → Coordinator D → Place
 stands_at c = place.Tc
-
--- the first record that its opening found stays
-abbrev pub SameFound : {D : Type 0} → (old new : Coordinator D) → Type 0
-SameFound old new = found_of (sessions_of new) ≡ found_of (sessions_of old)
 
 -- the record that the rule's answer asks for, if it asks for one, ends within the active disk
 abbrev pub HasRoom : {D : Type 0} → (D → DiskState) → Coordinator D → Input → ℕ → Type 0
@@ -45,6 +44,8 @@ HadRoom state c given now (Err error.NoMemory) = Unit {0}
 pub record StepsBy {D : Type 0} (state : D → DiskState) (old new : Coordinator D) (given : Input) (now : ℕ) (result : Result Step NodeError) : Type 0 where
   pub answers : IfOk result (TakesStep (StandsAs state) old new given now)
   pub framable : ComesFramable given → IfOk result SendsFramable
+  -- where the input's numbers name nodes of the scenario, whatever the disks hold, so do those of the step, and its message has a receiver
+  pub named : ComesNamed (managers old) (resources old) given → IfOk result (IsNamed (managers old) (resources old))
   pub after : IfErr result (AfterError (StandsAs state) (DisksFail (disks_of state old) (disks_of state new)) (disks_of state new) (size_of state new) old new given now)
   pub room : HadRoom state old given now result
   pub placed : HadPlace (StandsAs state) (disks_of state old) (size_of state old) old given now result
@@ -52,7 +53,13 @@ pub record StepsBy {D : Type 0} (state : D → DiskState) (old new : Coordinator
   pub picks : SamePicks (disks_of state old) (disks_of state new)
   pub counted : steps_left new + steps_of result ≡ steps_left old
   pub down : is_down new ≡ goes_down result
-  pub found : SameFound old new
+  pub opening : SameOpening (sessions_of old) (sessions_of new)
+
+-- a step, at which the clock's start stays, and what it costs by a count that went from before to after
+pub record CountsStep {D : Type 0} (state : D → DiskState) (old new : Coordinator D) (given : Input) (now : ℕ) (result : Result Step NodeError) (before after : ℕ) : Type 0 where
+  pub steps : StepsBy state old new given now result
+  pub start : start_of new ≡ start_of old
+  pub cost : InputCosts given (known (sessions_of old)) before after
 
 pub record ArmsBy {D : Type 0} (state : D → DiskState) (old new : Coordinator D) (calls : ℕ) : Type 0 where
   pub does : (now : ℕ) → Does (StandsAs state) old new (Stopped calls) now (still act.Armed)
@@ -60,7 +67,7 @@ pub record ArmsBy {D : Type 0} (state : D → DiskState) (old new : Coordinator 
   pub picks : SamePicks (disks_of state old) (disks_of state new)
   pub counted : steps_left new ≡ steps_left old
   pub up : is_down new ≡ false
-  pub found : SameFound old new
+  pub opening : SameOpening (sessions_of old) (sessions_of new)
 
 pub record CrashesBy {D : Type 0} (state : D → DiskState) (old new : Coordinator D) : Type 0 where
   pub does : (now : ℕ) → Does (StandsAs state) old new Crashed now (still (act.Down None None))
@@ -68,7 +75,7 @@ pub record CrashesBy {D : Type 0} (state : D → DiskState) (old new : Coordinat
   pub picks : SamePicks (disks_of state old) (disks_of state new)
   pub counted : steps_left new ≡ steps_left old
   pub down : is_down new ≡ true
-  pub found : SameFound old new
+  pub opening : SameOpening (sessions_of old) (sessions_of new)
 
 pub record RestartsBy {D : Type 0} (state : D → DiskState) (old new : Coordinator D) (pick : ℕ) (calls : Option ℕ) (now : ℕ) (result : Result Act OpenError) : Type 0 where
   pub restarts : AreTold (disks_of state old) → IfOk result (Restarts (StandsAs state) (DisksFail (disks_of state old) (disks_of state new)) old new pick calls now)
@@ -85,4 +92,4 @@ pub record RestartsBy {D : Type 0} (state : D → DiskState) (old new : Coordina
   pub same : StaysItself stands_at serves (disks_of state) old new
   pub counted : steps_left new ≡ steps_left old
   pub down : is_down new ≡ stays_down result
-  pub found : SameFound old new
+  pub opening : SameOpening (sessions_of old) (sessions_of new)

@@ -1,13 +1,10 @@
 -- What a coordinator knows after its own entries.
-use Rattle.std.specs.Prelude.{◌≡◌, ℕ, if◌then◌else◌, List, [], ◌∷◌, Some, None}
+use Rattle.std.specs.Prelude.{◌≡◌, ℕ, if◌then◌else◌, List, ◌∷◌, Some, None}
 use Rattle.seata_types.specs.declared.messages.Input.{Input}
 use Rattle.seata_types.specs.declared.messages.Step.{Step}
-use Rattle.seata_types.specs.declared.limits.TheConstants.{MANAGERS, CALLS}
 use Rattle.durable_records.specs.declared.coordinators.SessionRecord.{SessionRecord}
-use Rattle.durable_records.specs.declared.coordinators.SessionRecord.TheVariants as log
 use Rattle.durable_records.specs.Progress.{is_going, is_finished}
 use Rattle.durable_records.specs.SessionOrder.{Allowed}
-use Rattle.frame_codec.specs.Limits.{IsCounted}
 use Rattle.history_rules.specs.Own.{Own}
 use Rattle.history_rules.specs.CoordinatorMemory.{Times, sessions_left, start, due, rests_since}
 use Rattle.history_rules.specs.CoordinatorRules.{coordinator_answer}
@@ -43,16 +40,6 @@ rests_on c x = rests_since (start c.past) c.owns x
 abbrev pub rule_answer : Times → Course → ℕ → Input → Step
 rule_answer times c now given = coordinator_answer times c.past c.owns (records c) now given
 
--- a record's manager and call are numbers that a message may have
-abbrev pub IsSendable : SessionRecord → Type 0
-IsSendable (log.Begun xid manager begun timeout) = IsCounted MANAGERS manager
-IsSendable (log.Granted xid branch resource call ticket kind hold) = IsCounted CALLS call
-IsSendable _ = Unit {0}
-
-abbrev pub AreSendable : List SessionRecord → Type 0
-AreSendable [] = Unit {0}
-AreSendable (r ∷ rs) = AreSendable rs × IsSendable r
-
 -- the number of a plan
 abbrev pub planned_xid : ℕ × ℕ → ℕ
 planned_xid p = p.0
@@ -64,7 +51,6 @@ AreInOrder ps = AreRising planned_xid ps
 -- finished one rests since its moment
 pub record Tracks (memory : Snapshot) (moments : Moments) (rs : List SessionRecord) (due_at rested : ℕ → ℕ) : Type 0 where
   pub allowed : Allowed rs
-  pub sendable : AreSendable rs
   pub known : memory ≡ snapshot_of rs
   pub turns_in_order : AreInOrder moments.turns
   pub rests_in_order : AreInOrder moments.rests

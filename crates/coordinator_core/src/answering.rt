@@ -24,7 +24,7 @@ impl<D: Disk> Table<D> {
     ghost use Rattle.session_store.specs.Keeping.{is_down};
     ghost use Rattle.history_text.specs.Framing.{SendsFramable};
     ghost use Rattle.coordinator_core.specs.Knowledge.{memory};
-    ghost use Rattle.coordinator_core.specs.Answers.{Answers, AnswersAs, Frames};
+    ghost use Rattle.coordinator_core.specs.Answers.{Answers, AnswersAs, Frames, Names, IsNamedBy};
 
     /// Takes the answer of a branch that was asked to commit.
     pub(crate) fn branch_committed(
@@ -40,6 +40,7 @@ impl<D: Disk> Table<D> {
         requires moment { now ≤ LATEST_MOMENT }
         ensures answers { Answers D.state self.old self.new (input.Message from (message.BranchCommitted leg.xid leg.branch status stmt)) now result }
         ensures framable { Frames (input.Message from (message.BranchCommitted leg.xid leg.branch status stmt)) result }
+        ensures named { Names self.old (input.Message from (message.BranchCommitted leg.xid leg.branch status stmt)) result }
     {
         if !self.may_commit(leg) {
             return Ok(still(Act::Ignored));
@@ -61,6 +62,7 @@ impl<D: Disk> Table<D> {
         requires moment { now ≤ LATEST_MOMENT }
         ensures answers { Answers D.state self.old self.new (input.Message from (message.BranchRollbacked leg.xid leg.branch status stmt)) now result }
         ensures framable { Frames (input.Message from (message.BranchRollbacked leg.xid leg.branch status stmt)) result }
+        ensures named { Names self.old (input.Message from (message.BranchRollbacked leg.xid leg.branch status stmt)) result }
     {
         if !self.may_roll_back(leg) {
             return Ok(still(Act::Ignored));
@@ -107,6 +109,7 @@ impl<D: Disk> Table<D> {
         requires open { is_open (memory self.old) leg.xid.0 leg.branch.0 ≡ true }
         ensures answers { AnswersAs D.state (λ rs. end_answer rs leg.xid leg.branch status stmt) self.old self.new now result }
         ensures framable { IfOk result SendsFramable }
+        ensures named { IfOk result (IsNamedBy self.old) }
     {
         match status {
             BranchStatus::PhaseTwoCommitted => self.ended(alloc, leg, now),
@@ -126,6 +129,7 @@ impl<D: Disk> Table<D> {
         requires open { is_open (memory self.old) leg.xid.0 leg.branch.0 ≡ true }
         ensures answers { AnswersAs D.state (λ rs. own.still (act.Durable (durable.Ended leg.xid leg.branch))) self.old self.new now result }
         ensures framable { IfOk result SendsFramable }
+        ensures named { IfOk result (IsNamedBy self.old) }
     {
         let Leg { xid, branch } = leg;
         let done = Durable::Ended { xid, branch };
@@ -147,6 +151,7 @@ impl<D: Disk> Table<D> {
         requires open { is_open (memory self.old) leg.xid.0 leg.branch.0 ≡ true }
         ensures answers { AnswersAs D.state (λ rs. own.still (act.Durable (durable.Failed leg.xid leg.branch stmt))) self.old self.new now result }
         ensures framable { IfOk result SendsFramable }
+        ensures named { IfOk result (IsNamedBy self.old) }
     {
         let Leg { xid, branch } = leg;
         let done = Durable::Failed { xid, branch, stmt };
@@ -168,6 +173,7 @@ impl<D: Disk> Table<D> {
         requires open { is_open (memory self.old) leg.xid.0 leg.branch.0 ≡ true }
         ensures answers { AnswersAs D.state (λ rs. retry_answer rs leg.xid leg.branch (may_retry rs leg.xid.0)) self.old self.new now result }
         ensures framable { IfOk result SendsFramable }
+        ensures named { IfOk result (IsNamedBy self.old) }
     {
         let Leg { xid, branch } = leg;
         let done = Durable::Retrying { xid, branch };

@@ -1,5 +1,5 @@
 //! Transactions begin, and are decided.
-ghost use Rattle.std.specs.Prelude.{◌≡◌, if◌then◌else◌};
+ghost use Rattle.std.specs.Prelude.{◌≡◌, ℕ, true, if◌then◌else◌};
 ghost use Rattle.seata_types.specs.declared.acts.Act.TheVariants as act;
 ghost use Rattle.seata_types.specs.declared.acts.Durable.TheVariants as durable;
 ghost use Rattle.seata_types.specs.declared.ids.Place.TheVariants as place;
@@ -7,6 +7,8 @@ ghost use Rattle.seata_types.specs.declared.messages.Message.TheVariants as mess
 ghost use Rattle.seata_types.specs.declared.statuses.Decision.TheVariants as decision;
 ghost use Rattle.history_rules.specs.Own as own;
 ghost use Rattle.history_text.specs.Framing.{SendsFramable};
+ghost use Rattle.durable_records.specs.SessionOrder.{is_counted};
+ghost use Rattle.coordinator_core.specs.Naming.{ActNames, IsNamed};
 
 use crate::table::{Table, node_error};
 use disk_model::Disk;
@@ -24,7 +26,7 @@ impl<D: Disk> Table<D> {
     ghost use Rattle.seata_types.specs.declared.messages.Message.TheVariants as message;
     ghost use Rattle.durable_records.specs.SessionOrder.{is_counted};
     ghost use Rattle.session_store.specs.Keeping.{managers_of, is_down};
-    ghost use Rattle.coordinator_core.specs.Answers.{Answers, Frames};
+    ghost use Rattle.coordinator_core.specs.Answers.{Answers, Frames, Names};
 
     /// Begins a transaction for a manager, or tells the one that it has.
     pub(crate) fn begin(
@@ -40,6 +42,7 @@ impl<D: Disk> Table<D> {
         requires manager { is_counted (managers_of self.old.sessions) manager ≡ true }
         ensures answers { Answers D.state self.old self.new (input.Message from (message.Begin manager timeout)) now result }
         ensures framable { Frames (input.Message from (message.Begin manager timeout)) result }
+        ensures named { Names self.old (input.Message from (message.Begin manager timeout)) result }
     {
         if let Some(xid) = self.sessions.manager_xid(manager) {
             return Ok(begun(Act::Known { xid }, manager, xid));
@@ -75,6 +78,7 @@ impl<D: Disk> Table<D> {
         requires moment { now ≤ LATEST_MOMENT }
         ensures answers { Answers D.state self.old self.new (input.Message from (message.GlobalCommit xid)) now result }
         ensures framable { Frames (input.Message from (message.GlobalCommit xid)) result }
+        ensures named { Names self.old (input.Message from (message.GlobalCommit xid)) result }
     {
         let how = commit_or_timeout(self.is_past(xid, now));
         match self.make(alloc, SessionRecord::Decided { xid, how }, now) {
@@ -99,6 +103,7 @@ impl<D: Disk> Table<D> {
         requires moment { now ≤ LATEST_MOMENT }
         ensures answers { Answers D.state self.old self.new (input.Message from (message.GlobalRollback xid)) now result }
         ensures framable { Frames (input.Message from (message.GlobalRollback xid)) result }
+        ensures named { Names self.old (input.Message from (message.GlobalRollback xid)) result }
     {
         let how = Decision::Rollback;
         match self.make(alloc, SessionRecord::Decided { xid, how }, now) {
@@ -115,6 +120,7 @@ impl<D: Disk> Table<D> {
     pub(crate) fn tell(&mut self, from: Place, xid: Xid, now: u64) -> Step
         ensures answers { Answers D.state self.old self.new (input.Message from (message.GlobalStatus xid)) now (Ok result) }
         ensures framable { Frames (input.Message from (message.GlobalStatus xid)) (Ok result) }
+        ensures named { Names self.old (input.Message from (message.GlobalStatus xid)) (Ok result) }
     {
         let status = self.status(xid);
         sends(
@@ -129,6 +135,7 @@ impl<D: Disk> Table<D> {
 fn begun(act: Act, manager: u16, xid: Xid) -> Step
     ensures value { result ≡ own.sends act (place.Man manager) (message.Begun xid) }
     ensures framable { SendsFramable result }
+    ensures named { (managers resources : ℕ) → ActNames resources act → is_counted managers manager ≡ true → IsNamed managers resources result }
 {
     sends(act, Place::Man(manager), Message::Begun { xid })
 }
@@ -146,7 +153,8 @@ fn commit_or_timeout(past: bool) -> Decision
 
 // The act of an answer to a manager: the decision that was made, or the status.
 fn decided_or_told(made: bool, xid: Xid, how: Decision, status: GlobalStatus) -> Act
-    ensures { result ≡ (if made then act.Durable (durable.Decided xid how) else act.Told xid status) }
+    ensures value { result ≡ (if made then act.Durable (durable.Decided xid how) else act.Told xid status) }
+    ensures named { (resources : ℕ) → ActNames resources result }
 {
     if made {
         Act::Durable(Durable::Decided { xid, how })

@@ -48,9 +48,9 @@ impl<D: Disk> Coordinator<D> {
     ghost use Rattle.seata_types.specs.declared.limits.TheConstants.{MANAGERS, LATEST_MOMENT};
     ghost use Rattle.coordinator_core.specs.Opening.{IsOpened, HandsBack};
     ghost use Rattle.coordinator_core.specs.Standing.{StandsOver, start_of, times_of, steps_left, serves, is_down, sessions_of, course, unended_sessions};
-    ghost use Rattle.coordinator_core.specs.Costs.{InputCosts, InputPasses};
+    ghost use Rattle.coordinator_core.specs.Costs.{InputPasses};
     ghost use Rattle.coordinator_core.specs.Moving.{kept_of, Misses, Arms, ArmsWith, ComesBack, LendsActive};
-    ghost use Rattle.coordinator_core.specs.Stepping.{StepsBy, RestartsBy};
+    ghost use Rattle.coordinator_core.specs.Stepping.{StepsBy, CountsStep, RestartsBy};
     ghost use Rattle.coordinator_core.specs.Tracks.{records};
     ghost use Rattle.history_rules.specs.Own.{Own};
     ghost use Rattle.history_rules.specs.CoordinatorMemory.{start};
@@ -172,9 +172,7 @@ impl<D: Disk> Coordinator<D> {
         requires able { 0 < steps_left self.old }
         requires moment { now ≤ LATEST_MOMENT }
         requires served { serves self.old input }
-        ensures steps { StepsBy D.state self.old self.new input now result }
-        ensures start { start_of self.new ≡ start_of self.old }
-        ensures cost { InputCosts input (known (sessions_of self.old)) steps.old steps.new }
+        ensures { CountsStep D.state self.old self.new input now result steps.old steps.new }
     {
         self.step_with_passes::<L, Brand>(alloc, input, now, steps, Blank::new(1))
     }
@@ -193,9 +191,7 @@ impl<D: Disk> Coordinator<D> {
         requires able { 0 < steps_left self.old }
         requires moment { now ≤ LATEST_MOMENT }
         requires served { serves self.old input }
-        ensures steps { StepsBy D.state self.old self.new input now result }
-        ensures start { start_of self.new ≡ start_of self.old }
-        ensures cost { InputCosts input (known (sessions_of self.old)) steps.old steps.new }
+        ensures counts { CountsStep D.state self.old self.new input now result steps.old steps.new }
         ensures passes { InputPasses input (known (sessions_of self.old)) passes.old passes.new }
     {
         let records = self.table.sessions.records();
@@ -242,9 +238,7 @@ impl<D: Disk> Coordinator<D> {
         requires able { 0 < steps_left self.old }
         requires moment { now ≤ LATEST_MOMENT }
         requires served { serves self.old input }
-        ensures steps { StepsBy D.state self.old self.new input now result }
-        ensures start { start_of self.new ≡ start_of self.old }
-        ensures cost { InputCosts input (known (sessions_of self.old)) steps.old steps.new }
+        ensures { CountsStep D.state self.old self.new input now result steps.old steps.new }
     {
         let mut passes = Steps::<P>::new(blank);
         self.step_counting_passes(alloc, input, now, steps, &mut passes)
@@ -377,7 +371,7 @@ impl<D: Disk> Node for Coordinator<D> {
         Place::Tc
     }
 
-    // What every node promises of its calls, and that what its opening found stays.
+    // What every node promises of its calls, and that its scenario and what its opening found stay.
     fn step(&mut self, alloc: Global, input: Input, now: u64) -> Result<Step, NodeError>
         requires up { is_down self.old ≡ false }
         requires able { 0 < steps_left self.old }

@@ -1,6 +1,7 @@
 //! Branches are registered, and rows are asked for.
 ghost use Rattle.std.specs.Prelude.{◌≡◌, IfOk, IfSome};
 ghost use Rattle.history_text.specs.Framing.{SendsFramable};
+ghost use Rattle.coordinator_core.specs.Naming.{NamesResource};
 ghost use Rattle.coordinator_core.specs.Steps.{regranted_step, closed_step, late_step, granted_step, conflict_step, held_step, IsFramableKey, IsFramableRow};
 
 use crate::table::{Table, node_error};
@@ -35,7 +36,7 @@ impl<D: Disk> Table<D> {
     ghost use Rattle.coordinator_core.specs.Steps.{held_step, IsFramableRow};
     ghost use Rattle.coordinator_core.specs.Refusing.{Refuses};
     ghost use Rattle.history_text.specs.Framing.{SendsFramable};
-    ghost use Rattle.coordinator_core.specs.Answers.{Answers, Frames};
+    ghost use Rattle.coordinator_core.specs.Answers.{Answers, Frames, Names};
 
     /// Answers a registration. It looks for the branch that was registered for it, and looks up its transaction's status and
     /// its timeout, and the status of one holder of a row.
@@ -56,6 +57,7 @@ impl<D: Disk> Table<D> {
         requires served { ServesMessage (managers_of self.old.sessions) (resources_of self.old.sessions) (message.Register xid place.resource place.call place.ticket place.kind hold.now check.now) }
         ensures answers { Answers D.state self.old self.new (input.Message from (message.Register xid place.resource place.call place.ticket place.kind hold.now check.now)) now result }
         ensures framable { Frames (input.Message from (message.Register xid place.resource place.call place.ticket place.kind hold.now check.now)) result }
+        ensures named { Names self.old (input.Message from (message.Register xid place.resource place.call place.ticket place.kind hold.now check.now)) result }
         ensures cost { MessageCosts (message.Register xid place.resource place.call place.ticket place.kind hold.now check.now) (memory self.old) steps.old steps.new }
         ensures passes { MessagePasses (message.Register xid place.resource place.call place.ticket place.kind hold.now check.now) (memory self.old) passes.old passes.new }
     {
@@ -105,6 +107,7 @@ impl<D: Disk> Table<D> {
         requires past { has_passed_in (session_in (memory self.old) xid.0) now ≡ true }
         ensures answers { Answers D.state self.old self.new (input.Message from (message.Register xid place.resource place.call place.ticket place.kind hold.now check.now)) now result }
         ensures framable { Frames (input.Message from (message.Register xid place.resource place.call place.ticket place.kind hold.now check.now)) result }
+        ensures named { Names self.old (input.Message from (message.Register xid place.resource place.call place.ticket place.kind hold.now check.now)) result }
     {
         let how = Decision::Timeout;
         match self.make(alloc, SessionRecord::Decided { xid, how }, now) {
@@ -138,6 +141,7 @@ impl<D: Disk> Table<D> {
         requires timely { has_passed_in (session_in (memory self.old) xid.0) now ≡ false }
         ensures answers { Answers D.state self.old self.new (input.Message from (message.Register xid place.resource place.call place.ticket place.kind hold.now check.now)) now result }
         ensures framable { Frames (input.Message from (message.Register xid place.resource place.call place.ticket place.kind hold.now check.now)) result }
+        ensures named { Names self.old (input.Message from (message.Register xid place.resource place.call place.ticket place.kind hold.now check.now)) result }
         ensures cost { TakesAtMost (2 * length hold.now + length check.now) (held_rows (memory self.old) + length hold.now) (steps.old + 1) steps.new }
     {
         let branch = self.sessions.next_branch();
@@ -190,6 +194,7 @@ impl<D: Disk> Table<D> {
     ) -> Result<Step, NodeError>
         ensures answers { Answers D.state self.old self.new (input.Message from (message.LockQuery resource ticket check.now)) now result }
         ensures framable { Frames (input.Message from (message.LockQuery resource ticket check.now)) result }
+        ensures named { Names self.old (input.Message from (message.LockQuery resource ticket check.now)) result }
     {
         match self.held(alloc, from, ticket, check, steps) {
             Ok(step) => Ok(step),
@@ -219,6 +224,7 @@ impl<D: Disk> Table<D> {
 fn regranted(place: RegisterPlace, leg: Leg) -> Step
     ensures value { result ≡ regranted_step place leg }
     ensures framable { SendsFramable result }
+    ensures named { NamesResource place.resource result }
 {
     let Leg { xid, branch } = leg;
     sends(
@@ -236,6 +242,7 @@ fn regranted(place: RegisterPlace, leg: Leg) -> Step
 fn closed(place: RegisterPlace, xid: Xid, status: GlobalStatus) -> Step
     ensures value { result ≡ closed_step place xid status }
     ensures framable { SendsFramable result }
+    ensures named { NamesResource place.resource result }
 {
     sends(
         Act::Closed { xid, status },
@@ -252,6 +259,7 @@ fn closed(place: RegisterPlace, xid: Xid, status: GlobalStatus) -> Step
 fn late(place: RegisterPlace, xid: Xid) -> Step
     ensures value { result ≡ late_step place xid }
     ensures framable { SendsFramable result }
+    ensures named { NamesResource place.resource result }
 {
     sends(
         Act::Durable(Durable::Late { xid }),
@@ -268,6 +276,7 @@ fn late(place: RegisterPlace, xid: Xid) -> Step
 fn granted(place: RegisterPlace, leg: Leg) -> Step
     ensures value { result ≡ granted_step place leg }
     ensures framable { SendsFramable result }
+    ensures named { NamesResource place.resource result }
 {
     let Leg { xid, branch } = leg;
     sends(

@@ -1,9 +1,10 @@
 //! The turns of a coordinator.
-ghost use Rattle.std.specs.Prelude.{◌≡◌, true};
+ghost use Rattle.std.specs.Prelude.{◌≡◌, ℕ, true};
 ghost use Rattle.std.specs.Option.{option_copied};
 ghost use Rattle.seata_types.specs.declared.limits.TheConstants.{MANAGERS, CALLS};
 ghost use Rattle.history_text.specs.Framing.{SendsFramable};
-ghost use Rattle.coordinator_core.specs.Choices.{next_open, is_sendable, question_of, question_to};
+ghost use Rattle.coordinator_core.specs.Choices.{next_open, names_nodes, is_sendable, question_of, question_to};
+ghost use Rattle.coordinator_core.specs.Naming.{IsNamed};
 ghost use Rattle.coordinator_core.specs.Steps.{asked_step};
 
 use crate::questions::Question;
@@ -24,17 +25,18 @@ impl<D: Disk> Table<D> {
     ghost use Rattle.durable_records.specs.declared.coordinators.SessionRecord.TheVariants as log;
     ghost use Rattle.session_memory.specs.Changes.{may_come};
     ghost use Rattle.session_memory.specs.Lookups.{session_in};
-    ghost use Rattle.session_store.specs.Keeping.{is_down};
+    ghost use Rattle.session_store.specs.Keeping.{managers_of, resources_of, is_down};
     ghost use Rattle.coordinator_core.specs.Choices.{question_in};
     ghost use Rattle.coordinator_core.specs.Knowledge.{memory, times_of};
-    ghost use Rattle.coordinator_core.specs.Answers.{Answers, AnswersWhere, Frames, IsLate, IsDue, IsOld};
+    ghost use Rattle.coordinator_core.specs.Answers.{AnswersWhere, AnswersWithin, Frames, Names, IsLate, IsDueWithin, IsOld};
 
     /// Takes a turn: a transaction past its timeout is rolled back, one that is due goes on, one that is old is forgotten.
     pub(crate) fn turn(&mut self, alloc: Global, now: u64) -> Result<Step, NodeError>
         requires up { is_down self.old.sessions ≡ false }
         requires moment { now ≤ LATEST_MOMENT }
-        ensures answers { Answers D.state self.old self.new input.Turn now result }
+        ensures answers { AnswersWithin D.state self.old self.new input.Turn now result }
         ensures framable { Frames input.Turn result }
+        ensures named { Names self.old input.Turn result }
     {
         let sessions = self.entries();
         if let Some(xid) = choosing::least_late(sessions, now) {
@@ -56,6 +58,7 @@ impl<D: Disk> Table<D> {
         requires moment { now ≤ LATEST_MOMENT }
         ensures answers { AnswersWhere D.state (IsLate (times_of self.old) now xid.0) self.old self.new input.Turn now result }
         ensures framable { Frames input.Turn result }
+        ensures named { Names self.old input.Turn result }
     {
         let how = Decision::Timeout;
         let done = Durable::Decided { xid, how };
@@ -74,8 +77,9 @@ impl<D: Disk> Table<D> {
     fn go_on(&mut self, alloc: Global, xid: Xid, now: u64) -> Result<Step, NodeError>
         requires up { is_down self.old.sessions ≡ false }
         requires moment { now ≤ LATEST_MOMENT }
-        ensures answers { AnswersWhere D.state (IsDue (times_of self.old) now xid.0) self.old self.new input.Turn now result }
+        ensures answers { AnswersWhere D.state (IsDueWithin self.old now xid.0) self.old self.new input.Turn now result }
         ensures framable { Frames input.Turn result }
+        ensures named { Names self.old input.Turn result }
     {
         match self.make(alloc, SessionRecord::Finished { xid }, now) {
             Ok(made) => {
@@ -96,8 +100,9 @@ impl<D: Disk> Table<D> {
     fn ask(&mut self, xid: Xid, now: u64) -> Result<Step, NodeError>
         requires moment { now ≤ LATEST_MOMENT }
         requires open { may_come (memory self.old) (log.Finished xid) ≡ false }
-        ensures answers { AnswersWhere D.state (IsDue (times_of self.old) now xid.0) self.old self.new input.Turn now result }
+        ensures answers { AnswersWhere D.state (IsDueWithin self.old now xid.0) self.old self.new input.Turn now result }
         ensures framable { Frames input.Turn result }
+        ensures named { Names self.old input.Turn result }
     {
         let Some(question) = self.question(xid) else {
             return Ok(still(Act::Nothing));
@@ -110,10 +115,11 @@ impl<D: Disk> Table<D> {
 
     // What the next branch of a transaction is asked.
     fn question(&self, xid: Xid) -> Option<Question>
-        ensures asked { result ≡ question_in (session_in (memory self.now) xid.0) }
+        ensures asked { result ≡ question_in (managers_of self.now.sessions) (resources_of self.now.sessions) (session_in (memory self.now) xid.0) }
     {
+        let machine = self.sessions.machine();
         match self.memory().find(xid) {
-            Some(session) => question_of(session),
+            Some(session) => question_of(machine.managers, machine.resources, session),
             None => None,
         }
     }
@@ -124,6 +130,7 @@ impl<D: Disk> Table<D> {
         requires moment { now ≤ LATEST_MOMENT }
         ensures answers { AnswersWhere D.state (IsOld (times_of self.old) now xid.0) self.old self.new input.Turn now result }
         ensures framable { Frames input.Turn result }
+        ensures named { Names self.old input.Turn result }
     {
         let done = Durable::Forgot { xid };
         match self.make(alloc, SessionRecord::Forgot { xid }, now) {
@@ -149,6 +156,14 @@ fn next_open(commit: bool, branches: &[Branch]) -> Option<&Branch>
     }
 }
 
+// Whether its manager and its resource are nodes of the scenario, as those of all records that it made.
+fn names_nodes(managers: u16, resources: u16, question: Question) -> bool
+    ensures { result ≡ names_nodes managers resources question }
+{
+    is_counted(usize::from(managers), question.manager)
+        && is_counted(usize::from(resources), question.resource)
+}
+
 // No message brings a number that couldn't be sent again.
 fn is_sendable(question: Question) -> bool
     ensures { result ≡ is_sendable question }
@@ -170,13 +185,13 @@ fn question_to(session: &Session, branch: &Branch) -> Question
 }
 
 // What the next branch of a transaction is asked.
-fn question_of(session: &Session) -> Option<Question>
-    ensures { result ≡ question_of session.now }
+fn question_of(managers: u16, resources: u16, session: &Session) -> Option<Question>
+    ensures { result ≡ question_of managers resources session.now }
 {
     let commit = kinds::is_committing(session.status);
     let branch = next_open(commit, session.branches.as_slice())?;
     let question = question_to(session, branch);
-    if is_sendable(question) {
+    if names_nodes(managers, resources, question) && is_sendable(question) {
         Some(question)
     } else {
         None
@@ -187,6 +202,7 @@ fn question_of(session: &Session) -> Option<Question>
 fn asked(xid: Xid, question: Question) -> Step
     ensures value { result ≡ asked_step xid question }
     ensures framable { is_sendable question ≡ true → SendsFramable result }
+    ensures named { (managers resources : ℕ) → names_nodes managers resources question ≡ true → IsNamed managers resources result }
 {
     let Question {
         commit,

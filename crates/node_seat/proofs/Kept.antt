@@ -22,7 +22,7 @@ use Rattle.node_seat.specs.declared.faults.RunFault.{RunFault}
 use Rattle.node_seat.specs.declared.stations.Station.{Station}
 use Rattle.node_seat.specs.Entering.{CanReact, Enters, IsEntered, IsTold, Stays, entry_at, event_by}
 use Rattle.node_seat.specs.Keeping.{Keeps, KeepsSome, IsBehind, IsInputOf, IsNext}
-use Rattle.node_seat.specs.Traces.{Brings, IsAfter}
+use Rattle.node_seat.specs.Traces.{MayBring, IsAfter}
 
 pub same_place-refl : (p : Place) → same_place p p ≡ true
 same_place-refl place.Net = refl
@@ -56,7 +56,7 @@ printed_cause (cause.Local number) = refl
 printed_cause (cause.Outside number) = refl
 
 -- a cause with its input brings the event that they make
-brought_by : (stamp : ℕ) (c : Cause) (given : Option Input) (event : Event) → IsInputOf stamp c given → event_by c given ≡ Some event → Brings (reason_of c) (Some event)
+brought_by : (stamp : ℕ) (c : Cause) (given : Option Input) (event : Event) → IsInputOf stamp c given → event_by c given ≡ Some event → MayBring (reason_of c) (Some event)
 brought_by stamp cause.Turn (Some input.Turn) event is e = sym e
 brought_by stamp cause.Turn _ event is e = absurd is
 brought_by stamp (cause.Deliver sent from) (Some (input.Message sender heard)) event is e = (heard, sym e ∙ ap (λ p. Some (Given (input.Message p heard))) is.1)

@@ -1,5 +1,5 @@
 -- What a node does at an event.
-use Rattle.std.proofs.Common.{◌≡◌, ℕ, Bool, true, false, List, ◌∷◌, Result, Ok, Err, IfOk, OnOk, Option, refl, ap, sym, subst, ◌∙◌}
+use Rattle.std.proofs.Common.{◌≡◌, ℕ, Bool, true, false, List, ◌∷◌, Result, Ok, Err, IfErr, IfOk, OnOk, Option, refl, ap, sym, subst, ◌∙◌}
 use Rattle.std.proofs.lemmas.Bool.{false≢true}
 use Rattle.journal_checkpoint.specs.Images.{Pair}
 use Rattle.seata_types.specs.declared.acts.Act.TheVariants as act
@@ -17,6 +17,7 @@ use Rattle.history_text.specs.Promises as promises
 use Rattle.history_text.specs.Promises.{AfterError, cut, has_disks, own_entry}
 use Rattle.node_seat.specs.declared.faults.RunFault.{RunFault}
 use Rattle.node_seat.specs.Entering.{Does, HadPlaceFor, HaveLast, IsStepOf}
+use Rattle.node_seat.specs.Faults.{CountsFault}
 
 tells_same : (pick : ℕ) (old new : Pair) → SamePicks old new → HavePick pick old → HavePick pick new
 tells_same pick old new same have = (λ told e. have.0 told (sym same.first ∙ e), λ told e. have.1 told (sym same.second ∙ e))
@@ -100,3 +101,11 @@ module _ {N : Type 0} (stands_for : N → Role → List Own → Type 0) (disks :
   pub down_room : (down : N → Bool) → ((n : N) (role : Role) (os : List Own) → stands_for n role os → down n ≡ is_down os) → (n : N) (given : Input) (now : ℕ) → down n ≡ true
       → HadPlaceFor stands_for disks size n (Given given) now
   down_room down downs n given now is_down role os st up bytes e = absurd (false≢true (sym up ∙ sym (downs n role os st) ∙ is_down))
+
+-- ---- failures
+
+-- a step's error is none: where the disks failed, it is a step
+pub step_counts : (place at : Place) (old new : Pair) (e : NodeError) (r : Result Step RunFault) → IsStepOf place e r → IfErr r (CountsFault at old new)
+step_counts place at old new (error.Failed flight) r is = subst (λ (q : Result Step RunFault). IfErr q (CountsFault at old new)) (sym is) tt
+step_counts place at old new (error.Full full) r is = subst (λ (q : Result Step RunFault). IfErr q (CountsFault at old new)) (sym is) tt
+step_counts place at old new error.NoMemory r is = subst (λ (q : Result Step RunFault). IfErr q (CountsFault at old new)) (sym is) tt

@@ -10,7 +10,7 @@ use Rattle.history_rules.specs.Own.{Event, Given, Restarted, Own}
 use Rattle.history_rules.specs.Devices.{is_down, fault_entries}
 use Rattle.history_rules.specs.Nodes.{Role, writes_boot}
 use Rattle.history_text.specs.Durable.{own_faults}
-use Rattle.history_text.specs.Promises.{asked_bytes, BootOverflows, HasPlace}
+use Rattle.history_text.specs.Promises.{asked_bytes, BootOverflows, DisksFail, HasPlace}
 use Rattle.node_seat.specs.declared.faults.RunFault.{RunFault}
 use Rattle.node_seat.specs.declared.faults.RunFault.TheVariants as fault
 
@@ -20,6 +20,11 @@ open_fault place why.Failed = fault.Store place
 open_fault place (why.Damaged second at) = fault.Damaged place second at
 open_fault place (why.Full full) = fault.Full place full
 open_fault place why.NoMemory = fault.NoMemory
+
+-- The disks of the node at a place failed, and a fault of theirs was counted, whatever they tell; said of a failure alone.
+abbrev pub CountsFault : Place → (old new : Pair) → RunFault → Type 0
+CountsFault at old new (fault.Store place) = (place ≡ at) × DisksFail old new
+CountsFault at old new _ = Unit {0}
 
 -- a restart is the event
 abbrev pub IsRestart : Event → Type 0

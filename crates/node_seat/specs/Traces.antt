@@ -13,20 +13,21 @@ abbrev pub IsAfter : List Moment → ℕ → Type 0
 IsAfter [] stamp = Unit {0}
 IsAfter (m ∷ ms) stamp = m.stamp < stamp
 
--- the events that a cause brings to a node, some message of the place that it names among them
-abbrev pub Brings : Cause → Option Event → Type 0
-Brings Turn event = event ≡ Some (Given input.Turn)
-Brings (Deliver stamp from) event = (heard : Message) × (event ≡ Some (Given (input.Message from heard)))
-Brings (Stop calls) event = event ≡ Some (Stopped calls)
-Brings Crash event = event ≡ Some Crashed
-Brings (Restart pick calls) event = event ≡ Some (Restarted pick calls)
-Brings (Local number) event = event ≡ Some (Given (input.Local number))
-Brings (Outside number) event = event ≡ Some (Given (input.Outside number))
-Brings _ event = ⊥
+-- the events that a cause may bring to a node, each message of the place that it names among them
+abbrev pub MayBring : Cause → Option Event → Type 0
+MayBring Turn event = event ≡ Some (Given input.Turn)
+MayBring (Deliver stamp from) event = (heard : Message) × (event ≡ Some (Given (input.Message from heard)))
+MayBring (Stop calls) event = event ≡ Some (Stopped calls)
+MayBring Crash event = event ≡ Some Crashed
+MayBring (Restart pick calls) event = event ≡ Some (Restarted pick calls)
+MayBring (Local number) event = event ≡ Some (Given (input.Local number))
+MayBring (Outside number) event = event ≡ Some (Given (input.Outside number))
+MayBring _ event = ⊥
 
-abbrev pub IsDone : Role → List Own → ℕ → Option Event → Step → Type 0
-IsDone role owns now (Some event) step = Happens role owns now event step
-IsDone role owns now None step = ⊥
+-- at an event what may happen there, without one nothing
+abbrev pub IsDoneAlone : Role → List Own → ℕ → Option Event → Step → Type 0
+IsDoneAlone role owns now (Some event) step = Happens role owns now event step
+IsDoneAlone role owns now None step = ⊥
 
 -- a moment of a node may come after these: stamps rise, a message is received after it was sent, its clock doesn't fall, the
 -- cause brings the event, and what is done may happen
@@ -35,8 +36,8 @@ pub record StandsAlone (role : Role) (p : Place) (ms : List Moment) (m : Moment)
   pub rises : IsAfter ms m.stamp
   pub receives_later : ReceivesLater m.cause m.stamp
   pub clock_rises : last_now (own p ms) ≤ m.now
-  pub brought : Brings m.cause m.event
-  pub done : IsDone role (own p ms) m.now m.event m.step
+  pub brought : MayBring m.cause m.event
+  pub done : IsDoneAlone role (own p ms) m.now m.event m.step
 
 -- each moment of a trace stands after those before it
 abbrev pub Alone : Role → Place → List Moment → Type 0

@@ -6,6 +6,7 @@ ghost use Rattle.history_text.specs.Notes as notes;
 ghost use Rattle.history_text.specs.Framing.{ComesFramable, SendsFramable, IsFramableTo};
 ghost use Rattle.history_text.specs.Promises.{StaysItself};
 ghost use Rattle.node_seat.specs.Entering.{event_by, CanReact, IsEntered, entry_at, packet_at};
+ghost use Rattle.node_seat.specs.Faults.{CountsFault};
 
 use crate::faults::RunFault;
 use crate::reacting::react;
@@ -94,6 +95,7 @@ pub(crate) fn enter<N: Node>(
     requires framable { IfSome input ComesFramable }
     ensures entered { (event : Event) → event_by cause input ≡ Some event
         → IsEntered N.stands_for N.stands_at N.disks N.size node.old node.new trace.old.items trace.new.items stamp now cause event result }
+    ensures failed { IfErr result (CountsFault (N.stands_at node.old) (N.disks node.old) (N.disks node.new)) }
     ensures same { StaysItself N.stands_at N.serves N.disks node.old node.new }
     ensures counted { N.left node.old ≤ N.left node.new + 1 }
 {

@@ -6,6 +6,7 @@ ghost use Rattle.history_text.specs.Framing.{ComesFramable, SendsFramable};
 ghost use Rattle.history_text.specs.Promises.{StaysItself};
 ghost use Rattle.disk_model.specs.declared.disk.TheConstants.{LAST_PICK};
 ghost use Rattle.node_seat.specs.Entering.{event_by, IsOfDisks, CanReact, Does, HadPlaceFor, Misses, IsStepOf};
+ghost use Rattle.node_seat.specs.Faults.{CountsFault};
 
 use crate::faults::{RunFault, open_fault};
 use history_text::{Cause, Node, still};
@@ -36,6 +37,7 @@ fn step<N: Node>(node: &mut N, alloc: Global, now: u64, input: Input) -> Result<
     ensures does { IfOk result (Does N.stands_for N.disks node.old node.new (Given input) now) }
     ensures room { OnOk result (HadPlaceFor N.stands_for N.disks N.size node.old (Given input) now) }
     ensures missed { IfErr result (Misses N.stands_for N.stands_at N.disks N.size node.old node.new (Given input) now) }
+    ensures failed { IfErr result (CountsFault (N.stands_at node.old) (N.disks node.old) (N.disks node.new)) }
     ensures framable { ComesFramable input → IfOk result SendsFramable }
     ensures same { StaysItself N.stands_at N.serves N.disks node.old node.new }
     ensures counted { N.left node.old ≤ N.left node.new + 1 }
@@ -55,6 +57,7 @@ fn give<N: Node>(node: &mut N, alloc: Global, now: u64, input: Input) -> Result<
     ensures does { IfOk result (Does N.stands_for N.disks node.old node.new (Given input) now) }
     ensures room { OnOk result (HadPlaceFor N.stands_for N.disks N.size node.old (Given input) now) }
     ensures missed { IfErr result (Misses N.stands_for N.stands_at N.disks N.size node.old node.new (Given input) now) }
+    ensures failed { IfErr result (CountsFault (N.stands_at node.old) (N.disks node.old) (N.disks node.new)) }
     ensures framable { ComesFramable input → IfOk result SendsFramable }
     ensures same { StaysItself N.stands_at N.serves N.disks node.old node.new }
     ensures counted { N.left node.old ≤ N.left node.new + 1 }
@@ -112,6 +115,7 @@ fn restart<N: Node>(
     requires pick { pick ≤ LAST_PICK }
     ensures does { IfOk result (Does N.stands_for N.disks node.old node.new (Restarted pick calls) now) }
     ensures missed { IfErr result (Misses N.stands_for N.stands_at N.disks N.size node.old node.new (Restarted pick calls) now) }
+    ensures failed { IfErr result (CountsFault (N.stands_at node.old) (N.disks node.old) (N.disks node.new)) }
     ensures framable { IfOk result SendsFramable }
     ensures same { StaysItself N.stands_at N.serves N.disks node.old node.new }
     ensures counted { N.left node.new ≡ N.left node.old }
@@ -138,6 +142,7 @@ fn fall_or_rise<N: Node>(
     requires cause { IsOfDisks cause }
     ensures does { (event : Event) → event_by cause None ≡ Some event → IfOk result (Does N.stands_for N.disks node.old node.new event now) }
     ensures missed { (event : Event) → event_by cause None ≡ Some event → IfErr result (Misses N.stands_for N.stands_at N.disks N.size node.old node.new event now) }
+    ensures failed { IfErr result (CountsFault (N.stands_at node.old) (N.disks node.old) (N.disks node.new)) }
     ensures framable { IfOk result SendsFramable }
     ensures same { StaysItself N.stands_at N.serves N.disks node.old node.new }
     ensures counted { N.left node.new ≡ N.left node.old }
@@ -164,6 +169,7 @@ pub(crate) fn react<N: Node>(
     ensures does { (event : Event) → event_by cause input ≡ Some event → IfOk result (Does N.stands_for N.disks node.old node.new event now) }
     ensures room { (event : Event) → event_by cause input ≡ Some event → OnOk result (HadPlaceFor N.stands_for N.disks N.size node.old event now) }
     ensures missed { (event : Event) → event_by cause input ≡ Some event → IfErr result (Misses N.stands_for N.stands_at N.disks N.size node.old node.new event now) }
+    ensures failed { IfErr result (CountsFault (N.stands_at node.old) (N.disks node.old) (N.disks node.new)) }
     ensures framable { IfOk result SendsFramable }
     ensures same { StaysItself N.stands_at N.serves N.disks node.old node.new }
     ensures counted { N.left node.old ≤ N.left node.new + 1 }

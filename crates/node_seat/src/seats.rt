@@ -30,12 +30,13 @@ impl<N: Node, K: RunName> Model for Seat<N, K> {
 }
 
 impl<N: Node, K: RunName> Seat<N, K> {
-    ghost use Rattle.std.specs.Prelude.{◌≡◌, ◌≤◌, ◌+◌, [], Some, IfSome};
+    ghost use Rattle.std.specs.Prelude.{◌≡◌, ◌≤◌, ◌+◌, [], Some, IfErr, IfSome};
     ghost use Rattle.seata_types.specs.declared.limits.TheConstants.{LATEST_MOMENT};
     ghost use Rattle.history_rules.specs.Own.{Event};
     ghost use Rattle.history_text.specs.Framing.{ComesFramable};
     ghost use Rattle.history_text.specs.Promises.{StaysItself};
     ghost use Rattle.node_seat.specs.Entering.{event_by, CanReact, IsEntered};
+    ghost use Rattle.node_seat.specs.Faults.{CountsFault};
     ghost use Rattle.node_seat.specs.Keeping.{IsNext, IsFresh};
 
     /// A seat for a node of the run that did nothing yet.
@@ -55,7 +56,8 @@ impl<N: Node, K: RunName> Seat<N, K> {
 
     /// Makes one entry with a stamp, at a moment in ticks: the node is given the input, or without one its disk is stopped, it
     /// crashes or it is restarted, as the cause says. It gives the frame of the message that the entry sent. After a fault
-    /// nothing happened, or, after want of memory alone, the entry stands and its message is lost.
+    /// nothing happened, or, after want of memory alone, the entry stands and its message is lost. At `Store` the node's disks
+    /// counted a fault, whatever they tell.
     pub fn enter(
         &mut self,
         alloc: Global,
@@ -70,6 +72,7 @@ impl<N: Node, K: RunName> Seat<N, K> {
         requires framable { IfSome input ComesFramable }
         ensures entered { (event : Event) → event_by cause input ≡ Some event
             → IsEntered N.stands_for N.stands_at N.disks N.size self.old.node self.new.node self.old.trace self.new.trace stamp now cause event result }
+        ensures failed { IfErr result (CountsFault (N.stands_at self.old.node) (N.disks self.old.node) (N.disks self.new.node)) }
         ensures same { StaysItself N.stands_at N.serves N.disks self.old.node self.new.node }
         ensures counted { N.left self.old.node ≤ N.left self.new.node + 1 }
     {

@@ -14,13 +14,14 @@ pub struct Station<N> {
 }
 
 impl<N: Node> Station<N> {
-    ghost use Rattle.std.specs.Prelude.{◌≡◌, ◌≤◌, ◌+◌, Some, IfSome};
+    ghost use Rattle.std.specs.Prelude.{◌≡◌, ◌≤◌, ◌+◌, Some, IfErr, IfSome};
     ghost use Rattle.seata_types.specs.declared.limits.TheConstants.{LATEST_MOMENT};
     ghost use Rattle.history_rules.specs.Own.{Event};
     ghost use Rattle.history_rules.specs.Nodes.{World, Past};
     ghost use Rattle.history_text.specs.Framing.{ComesFramable};
     ghost use Rattle.history_text.specs.Promises.{StaysItself};
     ghost use Rattle.node_seat.specs.Entering.{event_by, CanReact, IsEntered};
+    ghost use Rattle.node_seat.specs.Faults.{CountsFault};
     ghost use Rattle.node_seat.specs.Keeping.{KeepsSome, IsNext};
 
     /// Makes one entry.
@@ -38,6 +39,7 @@ impl<N: Node> Station<N> {
         requires framable { IfSome input ComesFramable }
         ensures entered { (event : Event) → event_by cause input ≡ Some event
             → IsEntered N.stands_for N.stands_at N.disks N.size self.old.node self.new.node self.old.trace.items self.new.trace.items stamp now cause event result }
+        ensures failed { IfErr result (CountsFault (N.stands_at self.old.node) (N.disks self.old.node) (N.disks self.new.node)) }
         ensures same { StaysItself N.stands_at N.serves N.disks self.old.node self.new.node }
         ensures counted { N.left self.old.node ≤ N.left self.new.node + 1 }
         ensures keeps { (w : World) (past : Past) → KeepsSome N.stands_for N.disks w past self.old → KeepsSome N.stands_for N.disks w past self.new }

@@ -14,7 +14,7 @@ use Rattle.history_text.specs.Promises.{no_disks}
 use Rattle.node_seat.specs.declared.faults.RunFault.{RunFault}
 use Rattle.node_seat.specs.declared.faults.RunFault.TheVariants as fault
 use Rattle.scenario_nodes.specs.Shelves.{Showing, pair_of, second_name}
-use Rattle.replay_runner.specs.Leaving.{FirstGivenBack, IsCalmEnd, IsCalmShelf, Leaves, Replays, disks_in, nth_pair, server_names}
+use Rattle.replay_runner.specs.Leaving.{CountsFailure, FirstGivenBack, IsCalmEnd, IsCalmShelf, Leaves, Replays, disks_in, nth_pair, server_names}
 use Rattle.replay_runner.proofs.Lists.{member_at}
 use Rattle.replay_runner.proofs.Shown.{nth_map}
 
@@ -54,15 +54,8 @@ module _ {D : Type 0} (state : D → DiskState) (s : Scenario) (old new : Showin
   none_at (place.Man k) = refl
 
   -- no disk failed
-  not_stored : (q : Place) → Leaves s (map (pair_of state) disks) (Err (fault.Store q)) → ⊥
-  not_stored q (inl b) =
-      let counted = b.cause.blames.3 in
-      let none = none_at b.cause.at in
-      omega (arith, counted, none)
-  not_stored q (inr u) =
-      let counted = u.cause.1 in
-      let none = none_of u.opened in
-      omega (arith, counted, none)
+  not_stored : (q : Place) → CountsFailure (map (pair_of state) disks) (Err (fault.Store q)) → ⊥
+  not_stored q counted = let none = none_at q in omega (arith, counted, none)
 
 -- nor is a blank disk damaged, or another scenario's
 not_damaged : (s : Scenario) (disks : List Pair) (q : Place) (second : Bool) (offset : ℕ) → Leaves s disks (Err (fault.Damaged q second offset)) → ⊥
@@ -77,7 +70,7 @@ pub ends_calmly : {D : Type 0} (state : D → DiskState) (s : Scenario) (old new
 ends_calmly state s old new (Ok es) r calm = tt
 ends_calmly state s old new (Err (fault.Full q full)) r calm = tt
 ends_calmly state s old new (Err fault.NoMemory) r calm = tt
-ends_calmly state s old new (Err (fault.Store q)) (inl g) calm = not_stored state s old new calm g.disks g.back q (g.leaves calm.told)
+ends_calmly state s old new (Err (fault.Store q)) (inl g) calm = not_stored state s old new calm g.disks g.back q g.counted
 ends_calmly state s old new (Err (fault.Store q)) (inr n) calm = calm.shelf n.cause.1
 ends_calmly state s old new (Err (fault.Damaged q second offset)) (inl g) calm = not_damaged s (map (pair_of state) g.disks) q second offset (g.leaves calm.told)
 ends_calmly state s old new (Err (fault.Damaged q second offset)) (inr n) calm = n.cause

@@ -1,5 +1,5 @@
 -- How a replay ends, by the disks that are given back.
-use Rattle.std.proofs.Common.{inl, inr, ◌≡◌, ◌⊎◌, ◌+◌, ◌≤◌, ◌<◌, ℕ, Bool, List, [], ◌∷◌, ◌++◌, length, map, slice_get, Option, Some, None, Result, Ok, Err, refl, sym, subst, arith, length-append}
+use Rattle.std.proofs.Common.{inl, inr, ◌≡◌, ◌⊎◌, ◌+◌, ◌≤◌, ◌<◌, ℕ, Bool, List, [], ◌∷◌, ◌++◌, length, map, slice_get, Option, Some, None, Result, Ok, Err, IfErr, refl, ap, sym, subst, ◌∙◌, arith, length-append}
 use Rattle.std.proofs.lemmas.List.{map-append}
 use Rattle.std.proofs.lemmas.Option.{slice_get_within}
 use Rattle.disk_model.specs.Disk.{DiskState, Rose}
@@ -21,20 +21,21 @@ use Rattle.resource_core.specs.declared.nodes.Resource.{Resource}
 use Rattle.node_seat.specs.declared.faults.RunFault.{RunFault}
 use Rattle.node_seat.specs.declared.faults.RunFault.TheVariants as fault
 use Rattle.scenario_nodes.specs.Nodes.{IsNewCoordinator, coordinator_role, resource_role}
-use Rattle.scenario_nodes.specs.Opening.{IsNotHad, IsNotOpened, IsOpenFault, IsShelfFault}
+use Rattle.scenario_nodes.specs.Opening.{IsNotHad, IsNotOpened, IsOpenFault, IsReturned, IsShelfFault}
 use Rattle.scenario_nodes.specs.Shelves.{AllTell, AreGivenBack, IsDiskName, KeepsOthers, SamePlaces, Showing, coordinator_name, pair_of, second_name}
 use Rattle.replay_runner.specs.declared.members.Member.{Member}
 use Rattle.replay_runner.specs.declared.runs.Run.{Run}
 use Rattle.replay_runner.specs.Collecting.{AreTraces, trace_of}
-use Rattle.replay_runner.specs.Ends.{IsCause, StopsAt}
-use Rattle.replay_runner.specs.Leaving.{AreTaken, Broken, Done, FirstGivenBack, GivesBack, Leaves, Replays, disks_in}
-use Rattle.replay_runner.specs.Opened.{AreFirst, HaveTaken, IsNewResourceOf, IsOfOne, IsReturned, StopsOpening, server_disks}
+use Rattle.replay_runner.specs.Ends.{HaveCountedAt, IsCause, StopsAt}
+use Rattle.replay_runner.specs.Leaving.{AreTaken, Broken, Completed, CountsFailure, FirstGivenBack, GivesBack, Leaves, Replays, disks_in, nth_pair}
+use Rattle.replay_runner.specs.Opened.{AreFirst, HaveTaken, IsNewResourceOf, IsOfOne, StopsOpening, server_disks}
 use Rattle.replay_runner.specs.Plays.{Ends, HasPlayed, Plays}
 use Rattle.replay_runner.specs.Standing.{AllStand, disks_at}
 use Rattle.replay_runner.specs.Steps.{left_of}
 use Rattle.replay_runner.specs.Traces.{places_of}
 use Rattle.replay_runner.proofs.Blamed.{blames_alike}
 use Rattle.replay_runner.proofs.Closed.{both_stay, coordinator_back, count_servers, none_back, one_back}
+use Rattle.replay_runner.proofs.Failed.{failure_among, failure_back}
 use Rattle.replay_runner.proofs.Gathered.{gathered}
 use Rattle.replay_runner.proofs.Lists.{drop_all}
 use Rattle.replay_runner.proofs.Shown.{all_left, all_sized, all_show, all_stand, alike_in, count_disks, first_show, first_sized, none_show, none_sized, nth_end, one_shows, one_sized, place_behind, role_behind, show_more, sized_more}
@@ -91,7 +92,7 @@ module _ {D K : Type 0} (state : D → DiskState) (s : Scenario) (r : Run D K) w
       cause = cause_left e.history missed e.stands e.cause;
     }
 
-    done : (ms : List Moment) → Plays state s r ms → left_of s ms ≡ [] → (es : List Entry) → es ≡ entries ms → Done s left_disks es
+    done : (ms : List Moment) → Plays state s r ms → left_of s ms ≡ [] → (es : List Entry) → es ≡ entries ms → Completed s left_disks es
     done ms t left es printed = record {
       history = ms;
       is_run = record {
@@ -123,15 +124,17 @@ module _ {D K : Type 0} (state : D → DiskState) (s : Scenario) (r : Run D K) w
       count_all : length (server_disks r.nodes.coordinator.seat.node r.nodes.resources.items) ≡ length r.nodes.resources.items + 1
       count_all = count_servers s r.nodes.coordinator.seat.node r.nodes.resources.items (omega (arith, count)) tells given_back
 
-      pub ended : (played : Result (Unit {0}) RunFault) (missed : RunFault) → played ≡ Err missed → (AllTell state → HasPlayed state s r [] played) → GivesBack state had has tells given_back s (Err missed)
-      ended (Ok u) missed e has = absurd (let no : Ok u ≡ Err missed = e in cc)
-      ended (Err why) missed e has =
+      pub ended : (played : Result (Unit {0}) RunFault) (missed : RunFault) → played ≡ Err missed → (AllTell state → HasPlayed state s r [] played)
+          → IfErr played (HaveCountedAt (disks_at state r.nodes)) → GivesBack state had has tells given_back s (Err missed)
+      ended (Ok u) missed e has counted = absurd (let no : Ok u ≡ Err missed = e in cc)
+      ended (Err why) missed e has counted =
           let same : why ≡ missed = let is : Err why ≡ Err missed = e in cc in
           record {
             disks = server_disks r.nodes.coordinator.seat.node r.nodes.resources.items;
             taken = taken;
             back = back;
             count = let size = count_all in omega (arith, size);
+            counted = subst (λ (f : RunFault). CountsFailure left_disks (Err f)) same (failure_back state r.nodes why counted);
             leaves = λ all. inl (subst (Broken s left_disks) same (broken why (has all)));
           }
 
@@ -143,10 +146,11 @@ module _ {D K : Type 0} (state : D → DiskState) (s : Scenario) (r : Run D K) w
         taken = taken;
         back = back;
         count = let size = count_all in omega (arith, size, count);
+        counted = tt;
         leaves = λ all. whole (has all);
       }
         where
-          whole : HasPlayed state s r [] (Ok v) → Done s left_disks es
+          whole : HasPlayed state s r [] (Ok v) → Completed s left_disks es
           whole (ms, plays, left) = done ms plays left es (collected ms plays.standing (gathered state s r.network.items r.nodes ms plays.nodes plays.passed plays.legal))
 
       pub unfinished : (played : Result (Unit {0}) RunFault) (u : Unit {0}) → played ≡ Ok u → (AllTell state → HasPlayed state s r [] played) → GivesBack state had has tells given_back s (Err fault.NoMemory)
@@ -156,6 +160,7 @@ module _ {D K : Type 0} (state : D → DiskState) (s : Scenario) (r : Run D K) w
         taken = taken;
         back = back;
         count = let size = count_all in omega (arith, size);
+        counted = tt;
         leaves = λ all. inl (whole (has all));
       }
         where
@@ -165,7 +170,14 @@ module _ {D K : Type 0} (state : D → DiskState) (s : Scenario) (r : Run D K) w
 -- the same on a shelf with whatever places
 pub gives_back_on : {D : Type 0} (state : D → DiskState) (had has : List ℕ → Type 0) (tells : Bool) (given_back : List ℕ → D → Type 0) (s : Scenario) (result : Result (List Entry) RunFault)
     → GivesBack state (λ n. ⊥) has tells given_back s result → GivesBack state had has tells given_back s result
-gives_back_on state had has tells given_back s result g = record { disks = g.disks; taken = taken_on s had has (length g.disks) g.taken; back = g.back; count = g.count; leaves = g.leaves }
+gives_back_on state had has tells given_back s result g = record {
+  disks = g.disks;
+  taken = taken_on s had has (length g.disks) g.taken;
+  back = g.back;
+  count = g.count;
+  counted = g.counted;
+  leaves = g.leaves;
+}
 
 -- ---- a node that wasn't opened
 
@@ -208,6 +220,7 @@ module _ {D : Type 0} (state : D → DiskState) (s : Scenario) where
     taken = coordinators_alone s old.has_place new.has_place runs keeps.made g.taken;
     back = coordinator_back s old.tells new.given_back g.disks (subst (λ (t : Bool). AreGivenBack t new.given_back coordinator_name g.disks) keeps.tells g.back);
     count = omega arith;
+    counted = failure_among (pair_of state g.disks ∷ []) place.Tc (pair_of state g.disks) refl missed g.counted;
     leaves = λ all. inr (record {
       opened = 0;
       count = refl;
@@ -231,6 +244,7 @@ module _ {D : Type 0} (state : D → DiskState) (s : Scenario) where
       disks = g.disks;
       taken = g.taken;
       back = subst (λ (t : Bool). AreGivenBack t new.given_back def.name g.disks) same g.back;
+      counted = g.counted;
       unopened = g.unopened;
     });
   }
@@ -286,6 +300,11 @@ module _ {D : Type 0} (state : D → DiskState) (s : Scenario) where
       back = one_back s old.tells after.given_back (server_disks c opened) (length opened) t.def g.disks disks_count t.there
           (let same = stays t.def t.there in both_stay old.tells before after.given_back t.def.name g.disks same.0 same.1 g.back) back;
       count = let more = length-append (server_disks c opened) (g.disks ∷ []) in omega (arith, more);
+      counted = subst (λ (ds : List Pair). CountsFailure ds (Err missed)) (sym (map-append (pair_of state) (server_disks c opened) (g.disks ∷ [])))
+          (failure_among (map (pair_of state) (server_disks c opened) ++ pair_of state g.disks ∷ []) (place.Res (length opened + 1)) (pair_of state g.disks)
+          (ap (nth_pair (map (pair_of state) (server_disks c opened) ++ pair_of state g.disks ∷ [])) (sym (count_disks state c opened))
+          ∙ nth_end (map (pair_of state) (server_disks c opened)) (pair_of state g.disks))
+          missed g.counted);
       leaves = λ all.
           subst (λ (ds : List Pair). Leaves s ds (Err missed)) (sym (map-append (pair_of state) (server_disks c opened) (g.disks ∷ [])))
           (inr (record {

@@ -28,6 +28,7 @@ mod Names
 mod NewNodes
 mod Closed
 mod Shown
+mod Failed
 mod Starting
 mod Returning
 mod Taken

@@ -91,7 +91,7 @@ nth_end [] p = refl
 nth_end (q ∷ ps) p = nth_end ps p
 
 module _ {D K : Type 0} (state : D → DiskState) (c : Coordinator D) (resources : List (Member (Resource D) K)) where
-  abbrev all_disks : List Pair
+  abbrev pub all_disks : List Pair
   all_disks = map (pair_of state) (server_disks c resources)
 
   resource_there : (k : ℕ) (m : Member (Resource D) K) → slice_get resources k ≡ Some m → nth_pair (map (pair_of state) (map (member_pair {D = D} {K = K}) resources)) k ≡ pair_of state (resource_disks m.seat.node)

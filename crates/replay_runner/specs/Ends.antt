@@ -1,11 +1,12 @@
 -- How a replay ends before its schedule does.
-use Rattle.std.specs.Prelude.{◌≡◌, ℕ, List, Some}
+use Rattle.std.specs.Prelude.{◌≡◌, ◌≤◌, ℕ, List, Some}
 use Rattle.journal_checkpoint.specs.Images.{Pair}
 use Rattle.seata_types.specs.declared.ids.Place.{Place}
 use Rattle.scenario_reader.specs.declared.scenarios.Scenario.{Scenario}
 use Rattle.history_rules.specs.Own.{Event}
 use Rattle.history_rules.specs.Nodes.{Role, no_past, role_at}
 use Rattle.history_rules.specs.Histories.{Moment, own}
+use Rattle.history_text.specs.Durable.{own_faults}
 use Rattle.history_text.specs.Worlds.{world_of}
 use Rattle.node_seat.specs.Faults.{Blames}
 use Rattle.node_seat.specs.declared.faults.RunFault.{RunFault}
@@ -26,3 +27,8 @@ pub record StopsAt (s : Scenario) (ms : List Moment) (disks : Place → Pair) (m
 abbrev pub IsCause : Scenario → List Moment → (disks : Place → Pair) → RunFault → Type 0
 IsCause s ms disks fault.NoMemory = Unit {0}
 IsCause s ms disks missed = StopsAt s ms disks missed
+
+-- These are the disks of each node. Those of the node at a place counted a fault, whatever they tell; said of a failure alone.
+abbrev pub HaveCountedAt : (disks : Place → Pair) → RunFault → Type 0
+HaveCountedAt disks (fault.Store at) = 1 ≤ own_faults (disks at)
+HaveCountedAt disks _ = Unit {0}

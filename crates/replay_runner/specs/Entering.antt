@@ -56,7 +56,7 @@ pub record Unsent {D K : Type 0} (state : D → DiskState) (s : Scenario) (old n
   pub stands : AllStand state s new (moment step ∷ os)
 
 -- the node did what may happen there, with a place for its record, all nodes stand for the history with that moment, and this is the message that it sent
-pub record IsEntered {D K : Type 0} (state : D → DiskState) (s : Scenario) (old new : Nodes D K) (role : Role) (os : List Moment) (at : Place) (now : ℕ) (event : Event) (moment : Step → Moment) (letter : Option Letter) : Type 0 where
+pub record MadeAndSent {D K : Type 0} (state : D → DiskState) (s : Scenario) (old new : Nodes D K) (role : Role) (os : List Moment) (at : Place) (now : ℕ) (event : Event) (moment : Step → Moment) (letter : Option Letter) : Type 0 where
   pub step : Step
   pub happens : Happens role (own at os) now event step
   pub room : EventFits (disks_at state old at) s.disk role (own at os) now event
@@ -65,7 +65,7 @@ pub record IsEntered {D K : Type 0} (state : D → DiskState) (s : Scenario) (ol
 
 abbrev pub Entered : {D K : Type 0} → (state : D → DiskState) → (old new : Nodes D K) (stamp now : ℕ) (at : Place) (printed : Cause) (given : Option Input) → Comes state old stamp at printed given
     → Result (Option Letter) RunFault → Type 0
-Entered state old new stamp now at printed given c (Ok letter) = IsEntered state c.s old new c.role c.ms at now c.event (moment_by at now c) letter
+Entered state old new stamp now at printed given c (Ok letter) = MadeAndSent state c.s old new c.role c.ms at now c.event (moment_by at now c) letter
 Entered state old new stamp now at printed given c (Err missed) =
     Unmade state c.s new c.ms at c.role now c.event missed ⊎ Unsent state c.s old new c.role c.ms at now c.event (moment_by at now c) missed
 

@@ -90,7 +90,8 @@ pub record AreLocals (resources : ℕ) (locals : List (ℕ × List Stmt)) : Type
 abbrev pub have_resources : (resources : ℕ) → List RowKey → Bool
 have_resources resources rows = list_all (has_resource resources) rows
 
--- a message that the coordinator of so many managers and resources may hear: the numbers that it names are counted
+-- A message that the coordinator of so many managers and resources may hear: the numbers that it names are counted. It serves no other, and
+-- where disks don't tell their bytes only this test shows that none comes.
 abbrev pub may_hear : (managers resources : ℕ) → Message → Bool
 may_hear managers resources (message.Begin manager timeout) = is_counted managers manager
 may_hear managers resources (message.Register xid resource call ticket kind hold check) = is_counted resources resource && have_resources resources hold

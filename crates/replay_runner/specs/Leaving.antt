@@ -11,7 +11,7 @@ use Rattle.history_rules.specs.Nodes.{Role, Coordinator, Resource, Manager, no_p
 use Rattle.history_rules.specs.Histories.{Moment, own, Legal}
 use Rattle.history_rules.specs.Schedules.{Follows}
 use Rattle.history_text.specs.declared.entries.Entry.{Entry}
-use Rattle.history_text.specs.Durable.{AreCoordinatorDisks, AreNodeDisks, AreResourceDisks}
+use Rattle.history_text.specs.Durable.{AreCoordinatorDisks, AreNodeDisks, AreResourceDisks, own_faults}
 use Rattle.history_text.specs.History.{entries, IsRun}
 use Rattle.history_text.specs.Promises.{no_disks}
 use Rattle.history_text.specs.Worlds.{items_of, world_of}
@@ -58,7 +58,7 @@ abbrev pub HaveSizes : Scenario → List Pair → Type 0
 HaveSizes s disks = (k : ℕ) → k < length disks → HaveSize s.disk (nth_pair disks k)
 
 -- the history of the whole schedule was made, these are its entries, and the disks of each node, of the scenario's size, show it
-pub record Done (s : Scenario) (disks : List Pair) (es : List Entry) : Type 0 where
+pub record Completed (s : Scenario) (disks : List Pair) (es : List Entry) : Type 0 where
   pub history : List Moment
   pub is_run : IsRun s history
   pub printed : es ≡ entries history
@@ -91,9 +91,14 @@ pub record Unopened (s : Scenario) (disks : List Pair) (missed : RunFault) : Typ
   pub there : role_at (world_of s) no_past (server_at opened) ≡ Some role
   pub cause : IsOpenFault role s.disk (nth_pair disks opened) missed
 
+-- a replay that ended since the disks of a node failed: these have counted a fault, whatever they tell
+abbrev pub CountsFailure : List Pair → Result (List Entry) RunFault → Type 0
+CountsFailure disks (Err (fault.Store at)) = 1 ≤ own_faults (disks_in disks at)
+CountsFailure disks _ = Unit {0}
+
 -- what a replay on disks leaves
 abbrev pub Leaves : Scenario → List Pair → Result (List Entry) RunFault → Type 0
-Leaves s disks (Ok es) = Done s disks es
+Leaves s disks (Ok es) = Completed s disks es
 Leaves s disks (Err missed) = Broken s disks missed ⊎ Unopened s disks missed
 
 -- ---- the shelf
@@ -114,12 +119,14 @@ abbrev pub IsNodeCount : Scenario → Result (List Entry) RunFault → ℕ → T
 IsNodeCount s (Ok es) count = count ≡ length s.resources + 1
 IsNodeCount s (Err missed) count = 1 ≤ count
 
--- the disks of all nodes that were taken were given back; where disks tell their bytes, they show how the replay ended
+-- the disks of all nodes that were taken were given back; those that failed counted a fault, and where disks tell their bytes, they show how
+-- the replay ended
 pub record GivesBack {D : Type 0} (state : D → DiskState) (had has : List ℕ → Type 0) (tells : Bool) (given_back : List ℕ → D → Type 0) (s : Scenario) (result : Result (List Entry) RunFault) : Type 0 where
   pub disks : List (D × D)
   pub taken : AreTaken had has s (length disks)
   pub back : FirstGivenBack tells given_back s disks
   pub count : IsNodeCount s result (length disks)
+  pub counted : CountsFailure (map (pair_of state) disks) result
   pub leaves : AllTell state → Leaves s (map (pair_of state) disks) result
 
 -- A disk wasn't had for the node behind those whose disks were taken and given back: the shelf failed, or memory was refused. No entry was

@@ -6,14 +6,13 @@ use Rattle.seata_types.specs.declared.ids.Place.TheVariants as place
 use Rattle.scenario_reader.specs.declared.scenarios.ManagerDef.{ManagerDef}
 use Rattle.scenario_reader.specs.declared.scenarios.ResourceDef.{ResourceDef}
 use Rattle.scenario_reader.specs.declared.scenarios.Scenario.{Scenario}
-use Rattle.history_rules.specs.Nodes.{Role}
 use Rattle.coordinator_core.specs.declared.nodes.Coordinator.{Coordinator}
 use Rattle.resource_core.specs.declared.nodes.Resource.{Resource}
 use Rattle.manager_core.specs.declared.nodes.Manager.{Manager}
 use Rattle.node_seat.specs.declared.faults.RunFault.{RunFault}
 use Rattle.scenario_nodes.specs.Nodes.{IsNewCoordinator, IsNewManager, IsNewResource, coordinator_disks, resource_disks, resource_role}
-use Rattle.scenario_nodes.specs.Opening.{IsNotHad, IsUnopened}
-use Rattle.scenario_nodes.specs.Shelves.{AllTell, AreGivenBack, HasBoth, IsDiskName, coordinator_name, pair_of, second_name}
+use Rattle.scenario_nodes.specs.Opening.{IsNotHad, IsReturned}
+use Rattle.scenario_nodes.specs.Shelves.{AreGivenBack, HasBoth, IsDiskName, coordinator_name, second_name}
 use Rattle.replay_runner.specs.declared.members.Member.{Member}
 use Rattle.replay_runner.specs.declared.nodes.Nodes.{Nodes}
 
@@ -105,13 +104,6 @@ abbrev pub AreReturned : {D K : Type 0} → (tells : Bool) → (List ℕ → D �
 AreReturned {D} {K} tells given_back defs resources =
     (k : ℕ) (def : ResourceDef) (m : Member (Resource D) K) → slice_get defs k ≡ Some def → slice_get resources k ≡ Some m
     → AreGivenBack tells given_back def.name (resource_disks m.seat.node)
-
--- the disks of a node that wasn't opened were taken and given back, and show it where they tell their bytes
-pub record IsReturned {D : Type 0} (state : D → DiskState) (has : List ℕ → Type 0) (tells : Bool) (given_back : List ℕ → D → Type 0) (role : Role) (name : List ℕ) (bytes : ℕ) (missed : RunFault) : Type 0 where
-  pub disks : D × D
-  pub taken : HasBoth has name
-  pub back : AreGivenBack tells given_back name disks
-  pub unopened : AllTell state → IsUnopened role bytes (pair_of state disks) missed
 
 -- so many resources were opened, and the next one wasn't
 pub record StopsOpening {D : Type 0} (state : D → DiskState) (had has : List ℕ → Type 0) (tells : Bool) (given_back : List ℕ → D → Type 0) (rose : Type 0) (s : Scenario) (count : ℕ) (missed : RunFault) : Type 0 where

@@ -16,12 +16,13 @@ pub struct Member<N: Node, K: RunName> {
 }
 
 impl<N: Node, K: RunName> Member<N, K> {
-    ghost use Rattle.std.specs.Prelude.{◌≡◌, ◌≤◌, ◌+◌, [], Some, IfSome};
+    ghost use Rattle.std.specs.Prelude.{◌≡◌, ◌≤◌, ◌+◌, [], Some, IfErr, IfSome};
     ghost use Rattle.seata_types.specs.declared.limits.TheConstants.{LATEST_MOMENT};
     ghost use Rattle.history_rules.specs.Own.{Event};
     ghost use Rattle.history_text.specs.Framing.{ComesFramable};
     ghost use Rattle.history_text.specs.Promises.{StaysItself};
     ghost use Rattle.node_seat.specs.Entering.{event_by, CanReact};
+    ghost use Rattle.node_seat.specs.Faults.{CountsFault};
     ghost use Rattle.node_seat.specs.Keeping.{IsNext, IsFresh};
     ghost use Rattle.replay_runner.specs.Members.{IsMade};
 
@@ -53,6 +54,7 @@ impl<N: Node, K: RunName> Member<N, K> {
         requires framable { IfSome input ComesFramable }
         ensures made { (event : Event) → event_by cause input ≡ Some event
             → IsMade N.stands_for N.stands_at N.disks N.size self.old self.new stamp now cause event result }
+        ensures failed { IfErr result (CountsFault (N.stands_at self.old.seat.node) (N.disks self.old.seat.node) (N.disks self.new.seat.node)) }
         ensures same { StaysItself N.stands_at N.serves N.disks self.old.seat.node self.new.seat.node }
         ensures counted { N.left self.old.seat.node ≤ N.left self.new.seat.node + 1 }
     {

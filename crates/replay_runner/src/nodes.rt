@@ -22,10 +22,12 @@ pub struct Nodes<D: Disk, K: RunName> {
 }
 
 impl<D: Disk, K: RunName> Nodes<D, K> {
-    ghost use Rattle.std.specs.Prelude.{◌≡◌, ◌+◌, ℕ, length, OnOk};
+    ghost use Rattle.std.specs.Prelude.{◌≡◌, ◌+◌, ℕ, length, IfErr, OnOk};
     ghost use Rattle.scenario_reader.specs.Runnable.{IsPlaceAmong};
     ghost use Rattle.replay_runner.specs.Going.{CanEnter, NodesGo};
+    ghost use Rattle.replay_runner.specs.Ends.{HaveCountedAt};
     ghost use Rattle.replay_runner.specs.Entering.{Comes, Entered, IsEarliest};
+    ghost use Rattle.replay_runner.specs.Standing.{disks_at};
 
     /// Makes one entry at a node, and gives the message that it sent.
     pub fn enter(
@@ -39,6 +41,7 @@ impl<D: Disk, K: RunName> Nodes<D, K> {
     ) -> Result<Option<Letter>, RunFault>
         requires can { CanEnter self.old stamp now place cause input }
         ensures entered { (c : Comes D.state self.old stamp place cause input) → Entered D.state self.old self.new stamp now place cause input c result }
+        ensures failed { IfErr result (HaveCountedAt (disks_at D.state self.new)) }
         ensures goes { OnOk result (NodesGo (length self.old.managers.items) (length self.old.resources.items) (stamp + 1) now self.new) }
         ensures count { length self.new.resources.items ≡ length self.old.resources.items }
     {

@@ -13,7 +13,8 @@ fn have_resources(resources: usize, rows: &[RowKey]) -> bool
     rows.iter().all(|row| is_counted(resources, row.resource))
 }
 
-/// Whether the coordinator of so many managers and resources may hear a message: the numbers that it names are counted.
+/// Whether the coordinator of so many managers and resources may hear a message: the numbers that it names are counted. It
+/// serves no other, and where disks don't tell their bytes only this test shows that none comes.
 fn may_hear(managers: usize, resources: usize, message: &Message) -> bool
     ensures { result ≡ going.may_hear managers resources message.now }
 {

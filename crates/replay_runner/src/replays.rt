@@ -114,9 +114,9 @@ fn replay_named<H: Shelf, K: RunName>(
 }
 
 /// Replays the schedule of a scenario, step by step, with the coordinator and each resource on two disks of the shelf, which
-/// are given back however it ends: the entries of its history, or why it ended early. Where the disks tell their bytes,
-/// `Damaged` and `Other` never come: blank disks are no other scenario's, and each message fits a node. `Store` then comes
-/// only by a fault that the shelf or a disk counted.
+/// are given back however it ends: the entries of its history, or why it ended early. `Store` comes only by a fault that the
+/// shelf or a disk of the node counted, whatever the disks tell. Where they tell their bytes, `Damaged` and `Other` never
+/// come: blank disks are no other scenario's, and each message fits a node.
 pub fn replay<H: Shelf>(
     alloc: Global,
     scenario: &Scenario,

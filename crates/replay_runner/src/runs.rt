@@ -43,10 +43,11 @@ impl<D: Disk, K: RunName> Run<D, K> {
     ghost use Rattle.frame_codec.specs.Limits.{IsFramable};
     ghost use Rattle.history_rules.specs.Schedules.{Auto, DeliverOf, TurnOf, singles_of, times};
     ghost use Rattle.history_text.specs.Worlds.{item_of};
+    ghost use Rattle.replay_runner.specs.Ends.{HaveCountedAt};
     ghost use Rattle.replay_runner.specs.Going.{AreLocals, CanGo, CanMake, Goes, NodesGo, Went};
     ghost use Rattle.replay_runner.specs.Letters.{delivery_of, letter_at};
     ghost use Rattle.replay_runner.specs.Plays.{Brings, HasMade, HasPlayed, Hears, IsPassed, Made, Names, Plays, Ready, ReadyWith};
-    ghost use Rattle.replay_runner.specs.Standing.{AreNodes};
+    ghost use Rattle.replay_runner.specs.Standing.{AreNodes, disks_at};
 
     /// A replay that made no entry yet.
     pub fn new(alloc: Global, nodes: Nodes<D, K>) -> Run<D, K>
@@ -97,6 +98,7 @@ impl<D: Disk, K: RunName> Run<D, K> {
     ) -> Result<(), RunFault>
         requires can { CanMake self.old place cause input }
         ensures made { (b : Brings D.state self.old place cause input) → Made D.state self.old self.new place cause input b result }
+        ensures failed { IfErr result (HaveCountedAt (disks_at D.state self.new.nodes)) }
         ensures went { OnOk result (Went self.old self.new 1) }
         ensures count { length self.new.nodes.resources.items ≡ length self.old.nodes.resources.items }
     {
@@ -112,10 +114,11 @@ impl<D: Disk, K: RunName> Run<D, K> {
         }
     }
 
-    /// Adds an entry of the network, at which nothing is done.
-    fn pass(&mut self, cause: Cause) -> Result<(), NoMemory>
+    /// Makes one entry of the network, at which nothing comes to a node.
+    fn make_without_node(&mut self, cause: Cause) -> Result<(), RunFault>
         requires short { length self.old.places.items < STEPS }
         ensures passed { OnOk result (IsPassed self.old self.new cause) }
+        ensures fault { IfErr result (λ fault. fault ≡ RunFault.NoMemory) }
         ensures waiting { self.new.messages.waiting ≡ self.old.messages.waiting }
         ensures nodes { self.new.nodes ≡ self.old.nodes }
         ensures clock { self.new.clock ≡ self.old.clock }
@@ -128,21 +131,10 @@ impl<D: Disk, K: RunName> Run<D, K> {
             act: Act::Nothing,
             sent: None,
         };
-        self.network.push(entry).map_err(|_| NoMemory)?;
-        self.keep(Place::Net, None)?;
-        Ok(())
-    }
-
-    /// The same, as an end of the replay where memory is refused.
-    fn wait(&mut self, cause: Cause) -> Result<(), RunFault>
-        requires short { length self.old.places.items < STEPS }
-        ensures passed { OnOk result (IsPassed self.old self.new cause) }
-        ensures fault { IfErr result (λ fault. fault ≡ RunFault.NoMemory) }
-        ensures waiting { self.new.messages.waiting ≡ self.old.messages.waiting }
-        ensures nodes { self.new.nodes ≡ self.old.nodes }
-        ensures clock { self.new.clock ≡ self.old.clock }
-    {
-        match self.pass(cause) {
+        if self.network.push(entry).is_err() {
+            return Err(RunFault::NoMemory);
+        }
+        match self.keep(Place::Net, None) {
             Ok(()) => Ok(()),
             Err(NoMemory) => Err(RunFault::NoMemory),
         }
@@ -153,6 +145,7 @@ impl<D: Disk, K: RunName> Run<D, K> {
         requires can { CanGo self.old 1 }
         requires there { IsPlaceAmong (length self.old.nodes.resources.items) (length self.old.nodes.managers.items) place }
         ensures made { (names : Names D.state self.old (TurnOf place)) → HasMade D.state self.old self.new names.here result }
+        ensures failed { IfErr result (HaveCountedAt (disks_at D.state self.new.nodes)) }
         ensures went { OnOk result (Went self.old self.new 1) }
         ensures count { length self.new.nodes.resources.items ≡ length self.old.nodes.resources.items }
     {
@@ -165,6 +158,7 @@ impl<D: Disk, K: RunName> Run<D, K> {
         requires sent { option_map delivery_of (letter_at stamp self.old.messages.letters.items) ≡ Some delivery }
         requires framable { IsFramable delivery.message }
         ensures made { (hears : Hears D.state self.old stamp delivery) → HasMade D.state self.old self.new hears.step.here result }
+        ensures failed { IfErr result (HaveCountedAt (disks_at D.state self.new.nodes)) }
         ensures went { OnOk result (Went self.old self.new 1) }
         ensures count { length self.new.nodes.resources.items ≡ length self.old.nodes.resources.items }
     {
@@ -189,12 +183,13 @@ impl<D: Disk, K: RunName> Run<D, K> {
     fn deliver(&mut self, alloc: Global, stamp: u32) -> Result<(), RunFault>
         requires can { CanGo self.old 1 }
         ensures made { (names : Names D.state self.old (DeliverOf stamp)) → HasMade D.state self.old self.new names.here result }
+        ensures failed { IfErr result (HaveCountedAt (disks_at D.state self.new.nodes)) }
         ensures went { OnOk result (Went self.old self.new 1) }
         ensures count { length self.new.nodes.resources.items ≡ length self.old.nodes.resources.items }
     {
         match self.messages.delivery(alloc, stamp) {
             Ok(Some(delivery)) => self.hear(alloc, stamp, delivery),
-            Ok(None) => self.wait(Cause::Missing { stamp }),
+            Ok(None) => self.make_without_node(Cause::Missing { stamp }),
             Err(NoMemory) => Err(RunFault::NoMemory),
         }
     }
@@ -203,6 +198,7 @@ impl<D: Disk, K: RunName> Run<D, K> {
     fn choose(&mut self, alloc: Global) -> Result<(), RunFault>
         requires can { CanGo self.old 1 }
         ensures made { (names : Names D.state self.old (Auto 1)) → HasMade D.state self.old self.new names.here result }
+        ensures failed { IfErr result (HaveCountedAt (disks_at D.state self.new.nodes)) }
         ensures went { OnOk result (Went self.old self.new 1) }
         ensures count { length self.new.nodes.resources.items ≡ length self.old.nodes.resources.items }
     {
@@ -219,6 +215,7 @@ impl<D: Disk, K: RunName> Run<D, K> {
     fn choose_each(&mut self, alloc: Global, steps: u32) -> Result<(), RunFault>
         requires can { CanGo self.old steps }
         ensures played { (ready : Ready D.state self.old (times steps (Auto 1))) → HasPlayed D.state ready.s self.new ready.rest result }
+        ensures failed { IfErr result (HaveCountedAt (disks_at D.state self.new.nodes)) }
         ensures went { OnOk result (Went self.old self.new steps) }
         ensures count { length self.new.nodes.resources.items ≡ length self.old.nodes.resources.items }
     {
@@ -241,6 +238,7 @@ impl<D: Disk, K: RunName> Run<D, K> {
         requires locals { AreLocals (length self.old.nodes.resources.items) locals.now }
         requires fits { FitsNodes (length self.old.nodes.resources.items) (length self.old.nodes.managers.items) (length locals.now) item }
         ensures played { (ready : ReadyWith D.state self.old locals.now (singles_of (item_of item))) → HasPlayed D.state ready.ready.s self.new ready.ready.rest result }
+        ensures failed { IfErr result (HaveCountedAt (disks_at D.state self.new.nodes)) }
         ensures went { OnOk result (Went self.old self.new (steps_of item)) }
         ensures count { length self.new.nodes.resources.items ≡ length self.old.nodes.resources.items }
     {
@@ -249,7 +247,7 @@ impl<D: Disk, K: RunName> Run<D, K> {
             ScheduleItem::Deliver { stamp } => self.deliver(alloc, stamp),
             ScheduleItem::Wait { ticks } => {
                 self.clock += ticks;
-                self.wait(Cause::Wait { ticks })
+                self.make_without_node(Cause::Wait { ticks })
             }
             ScheduleItem::Stop { place, calls } => {
                 self.make(alloc, place, Cause::Stop { calls }, None)
@@ -285,6 +283,7 @@ impl<D: Disk, K: RunName> Run<D, K> {
         requires locals { AreLocals (length self.old.nodes.resources.items) locals.now }
         requires fits { All (FitsNodes (length self.old.nodes.resources.items) (length self.old.nodes.managers.items) (length locals.now)) schedule.now }
         ensures played { (s : TheScenario) → IsRunnable s → s.locals ≡ locals.now → s.schedule ≡ schedule.now → Plays D.state s self.old [] → HasPlayed D.state s self.new [] result }
+        ensures failed { IfErr result (HaveCountedAt (disks_at D.state self.new.nodes)) }
         ensures count { length self.new.nodes.resources.items ≡ length self.old.nodes.resources.items }
     {
         for item in schedule {

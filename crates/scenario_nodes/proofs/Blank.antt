@@ -3,11 +3,16 @@ use Rattle.std.proofs.Common.{inl, inr, ◌≡◌, ◌⊎◌, ◌≤◌, ℕ, tr
 use Rattle.std.proofs.lemmas.List.Elements.{All-nil}
 use Rattle.disk_model.specs.Disk.{Content, DiskState, Rose, present}
 use Rattle.disk_model.specs.Shelf.{IsBlank}
+use Rattle.seata_types.specs.declared.errors.OpenError.{OpenError}
+use Rattle.seata_types.specs.declared.errors.OpenError.TheVariants as why
+use Rattle.seata_types.specs.declared.ids.Place.{Place}
 use Rattle.session_store.specs.Standing.{StandsForSessions}
 use Rattle.resource_store.specs.Meaning.{Setting, Opens}
 use Rattle.resource_store.specs.Standing.{StandsForRecords}
 use Rattle.history_text.specs.Durable.{own_faults}
 use Rattle.coordinator_core.proofs.Blank.{blank_pair, blank_sessions, nothing}
+use Rattle.node_seat.specs.Faults.{open_fault}
+use Rattle.scenario_nodes.specs.Opening.{HaveCounted}
 use Rattle.scenario_nodes.specs.Shelves.{pair_of}
 
 present_some : (o : Option Content) → is_some o ≡ true → (x : List ℕ) × (option_map (λ (k : Content). k.present) o ≡ Some x)
@@ -38,3 +43,11 @@ pub rise_counted : {D : Type 0} (state : D → DiskState) (one two : D) (before 
     → 1 ≤ own_faults (pair_of state (one, two))
 rise_counted state one two before other (inl rose) = omega (arith, rose)
 rise_counted state one two before other (inr rose) = omega (arith, rose)
+
+-- so it was where an opening failed
+pub failure_counted : {D : Type 0} (state : D → DiskState) (at : Place) (one two : D) (before other : ℕ) (e : OpenError)
+    → (e ≡ why.Failed → Rose before (state one).counts.faults ⊎ Rose other (state two).counts.faults) → HaveCounted at (pair_of state (one, two)) (open_fault at e)
+failure_counted state at one two before other why.Failed cause = (refl, rise_counted state one two before other (cause refl))
+failure_counted state at one two before other (why.Damaged second offset) cause = tt
+failure_counted state at one two before other (why.Full full) cause = tt
+failure_counted state at one two before other why.NoMemory cause = tt

@@ -1,5 +1,5 @@
 -- How the opening of a node ends that gives no node.
-use Rattle.std.specs.Prelude.{◌≡◌, ◌⊎◌, ◌≤◌, ℕ, List, [], ◌∷◌}
+use Rattle.std.specs.Prelude.{◌≡◌, ◌⊎◌, ◌≤◌, ℕ, Bool, List, [], ◌∷◌}
 use Rattle.disk_model.specs.Disk.{DiskState, Rose}
 use Rattle.journal_checkpoint.specs.Images.{Pair}
 use Rattle.seata_types.specs.declared.ids.Place.{Place}
@@ -35,6 +35,11 @@ IsOpenFault role bytes disks (fault.Damaged at second offset) = ⊥
 IsOpenFault role bytes disks fault.Other = ⊥
 IsOpenFault role bytes disks fault.NoMemory = Unit {0}
 
+-- The two disks of the node at a place counted a fault, whatever they tell; said of a failure alone.
+abbrev pub HaveCounted : Place → (disks : Pair) → RunFault → Type 0
+HaveCounted at disks (fault.Store place) = (place ≡ at) × (1 ≤ own_faults disks)
+HaveCounted at disks _ = Unit {0}
+
 -- a node wasn't opened, and its two disks, of so many bytes, show it
 pub record IsUnopened (role : Role) (bytes : ℕ) (disks : Pair) (missed : RunFault) : Type 0 where
   pub device : HaveNoEntry role disks
@@ -46,14 +51,16 @@ pub record IsNotHad (at : Place) (rose : Type 0) (had has : List ℕ → Type 0)
   pub cause : IsShelfFault at rose missed
   pub not_made : has (second_name name) → had (second_name name)
 
--- both were taken and given back, and show it where they tell their bytes
-pub record GivesBack {D : Type 0} (state : D → DiskState) (new : Showing D) (role : Role) (name : List ℕ) (bytes : ℕ) (missed : RunFault) : Type 0 where
+-- both were taken and given back; they counted a fault if they failed, and show the rest where they tell their bytes
+pub record IsReturned {D : Type 0} (state : D → DiskState) (has : List ℕ → Type 0) (tells : Bool) (given_back : List ℕ → D → Type 0) (role : Role) (name : List ℕ) (bytes : ℕ) (missed : RunFault) : Type 0 where
   pub disks : D × D
-  pub taken : HasBoth new.has_place name
-  pub back : AreGivenBack new.tells new.given_back name disks
+  pub taken : HasBoth has name
+  pub back : AreGivenBack tells given_back name disks
+  pub counted : HaveCounted (place_of role) (pair_of state disks) missed
   pub unopened : AllTell state → IsUnopened role bytes (pair_of state disks) missed
 
 -- a node of a role wasn't opened: its disks weren't had, or were given back
 abbrev pub IsNotOpened : {D : Type 0} → (D → DiskState) → (old new : Showing D) → Role → (name : List ℕ) → (bytes : ℕ) → RunFault → Type 0
 IsNotOpened state old new role name bytes missed =
-    IsNotHad (place_of role) (Rose old.faults new.faults) old.has_place new.has_place name missed ⊎ GivesBack state new role name bytes missed
+    IsNotHad (place_of role) (Rose old.faults new.faults) old.has_place new.has_place name missed
+    ⊎ IsReturned state new.has_place new.tells new.given_back role name bytes missed

@@ -13,7 +13,8 @@ use scenario_reader::Scenario;
 use seata_types::Place;
 use std::alloc::Global;
 
-/// Takes the coordinator's two disks from the shelf and opens it on them. Where it isn't opened they are given back.
+/// Takes the coordinator's two disks from the shelf and opens it on them. Where it isn't opened they are given back; at `Store`
+/// the shelf or one of them counted a fault, whatever they tell.
 pub fn open_coordinator<H: Shelf>(
     alloc: Global,
     scenario: &Scenario,

@@ -16,7 +16,8 @@ use seata_types::{NoMemory, Place};
 use std::alloc::Global;
 
 /// Takes the two disks of a resource from the shelf, under its name and its second name, and opens it on them: it has a number,
-/// counted from 1, and a definition. Where it isn't opened they are given back.
+/// counted from 1, and a definition. Where it isn't opened they are given back; at `Store` the shelf or one of them counted a
+/// fault, whatever they tell.
 pub fn open_resource<H: Shelf>(
     alloc: Global,
     scenario: &Scenario,

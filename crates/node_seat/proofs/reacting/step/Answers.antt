@@ -1,7 +1,7 @@
 use Rattle.std.proofs.Common.{subst}
 use Rattle.history_text.specs.Promises.{DisksFail}
 use Rattle.node_seat.specs.Entering.{IsStepOf}
-use Rattle.node_seat.proofs.Reacted.{step_ok, step_room}
+use Rattle.node_seat.proofs.Reacted.{step_counts, step_ok, step_room}
 use Rattle.node_seat.proofs.reacting.step.Goals as goal
 
 pub returns-in-Err-clause-does : goal.returns-in-Err-clause-does
@@ -14,3 +14,7 @@ pub returns-in-Err-clause-room : goal.returns-in-Err-clause-room
 returns-in-Err-clause-room g c =
     step_room g.N.Node.stands_for g.N.Node.disks g.N.Node.size (g.N.Node.stands_at c.args.node.now) c.args.node.now c.args.input c.args.now c.in-Err.error c.step_of.result c.in-Err.ensures.room
     (subst (λ p. IsStepOf p c.in-Err.error c.step_of.result) c.place-place.ensures c.step_of.ensures.step)
+
+pub returns-in-Err-clause-failed : goal.returns-in-Err-clause-failed
+returns-in-Err-clause-failed g c =
+    step_counts c.place-place.result (g.N.Node.stands_at c.args.node.now) (g.N.Node.disks c.args.node.now) (g.N.Node.disks c.step.new.self) c.in-Err.error c.step_of.result c.step_of.ensures.step

@@ -38,6 +38,7 @@ returns-in-Err-clause-back g c =
     c.play_all-played.result c.in-Err.fault c.in-Err.is
     (λ all. c.play_all-played.ensures.played c.args.scenario.now c.requires.runnable (sym c.as_slice-locals.ensures) (sym c.as_slice.ensures)
     (c.new-run.ensures.plays c.args.scenario.now (are_nodes g.H.D.Disk.state c.args.scenario.now c.args.nodes c.requires.new all)))
+    c.play_all-played.ensures.failed
 
 pub returns-in-Ok-clause-back : goal.returns-in-Ok-clause-back
 returns-in-Ok-clause-back g c =

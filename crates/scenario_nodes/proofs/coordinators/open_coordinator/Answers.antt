@@ -1,6 +1,8 @@
 use Rattle.std.proofs.Common.{inr, ◌≡◌, ℕ, length, refl, ap, subst}
+use Rattle.seata_types.specs.declared.ids.Place.TheVariants as place
 use Rattle.scenario_nodes.specs.Nodes.{IsNewCoordinator, coordinator_role}
 use Rattle.scenario_nodes.specs.Shelves.{coordinator_name}
+use Rattle.scenario_nodes.proofs.Blank.{failure_counted}
 use Rattle.scenario_nodes.proofs.NotOpened.{handed_back}
 use Rattle.scenario_nodes.proofs.OpenedCoordinator.{opened, unopened}
 use Rattle.scenario_nodes.proofs.Returned.{node_in, showing}
@@ -22,6 +24,7 @@ returns-in-Err-opened-clause-refused g c =
     let e = c.in-Err-opened in
     inr (handed_back g.H.D.Disk.state _ _ (coordinator_role s) coordinator_name coordinator_name s.disk _ c.open_fault.result e.first e.second refl c.in-Ok.ensures.both c.give_disks.ensures.keeps c.give_disks.ensures.back
     c.open_fault.ensures
+    (failure_counted g.H.D.Disk.state place.Tc e.first e.second (g.H.D.Disk.state c.in-Ok.disks.0).counts.faults (g.H.D.Disk.state c.in-Ok.disks.1).counts.faults e.error e.ensures.refused.cause)
     (unopened g.H.D.Disk.state s c.in-Ok.disks.0 c.in-Ok.disks.1 c.in-Ok.ensures.first c.in-Ok.ensures.second c.requires.set.disk.0 (length c.as_slice.result.now) (length c.as_slice-2.result.now)
     (e.error, e.first, e.second) e.ensures.refused))
 

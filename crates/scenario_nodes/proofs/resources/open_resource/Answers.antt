@@ -1,5 +1,7 @@
 use Rattle.std.proofs.Common.{inr}
+use Rattle.seata_types.specs.declared.ids.Place.TheVariants as place
 use Rattle.scenario_nodes.specs.Nodes.{resource_role}
+use Rattle.scenario_nodes.proofs.Blank.{failure_counted}
 use Rattle.scenario_nodes.proofs.NotOpened.{handed_back}
 use Rattle.scenario_nodes.proofs.OpenedResource.{opened, unopened}
 use Rattle.scenario_nodes.proofs.Returned.{node_in, showing}
@@ -19,6 +21,7 @@ returns-in-Err-open-clause-refused g c =
     let e = c.in-Err-open in
     inr (handed_back g.H.D.Disk.state _ _ (resource_role s c.args.number def) c.as_str-name.result.now def.name s.disk _ c.open_fault.result e.first e.other c.as_str-name.ensures d.ensures.both
     c.give_disks.ensures.keeps c.give_disks.ensures.back c.open_fault.ensures
+    (failure_counted g.H.D.Disk.state (place.Res c.args.number) e.first e.other (g.H.D.Disk.state d.disks.0).counts.faults (g.H.D.Disk.state d.disks.1).counts.faults e.error e.ensures.refused.cause)
     (unopened g.H.D.Disk.state s d.disks.0 d.disks.1 d.ensures.first d.ensures.second c.requires.runnable.set.disk.0 c.args.number def c.in-Ok.setup c.in-Ok.ensures.setup c.in-Ok.ensures.within
     (e.error, e.first, e.other) e.ensures.refused))
 

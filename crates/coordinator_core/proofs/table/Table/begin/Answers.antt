@@ -6,7 +6,7 @@ use Rattle.seata_types.specs.declared.messages.Input.TheVariants as input
 use Rattle.seata_types.specs.declared.messages.Message.TheVariants as message
 use Rattle.durable_records.specs.declared.coordinators.SessionRecord.TheVariants as log
 use Rattle.history_rules.specs.Own.{sends}
-use Rattle.history_text.specs.Framing.{ComesFramable}
+use Rattle.coordinator_core.specs.Answers.{Always}
 use Rattle.coordinator_core.specs.Knowledge.{knowledge}
 use Rattle.coordinator_core.proofs.Errors.{answers_quiet, answers_made, unmade, would}
 use Rattle.coordinator_core.proofs.Takes.{begin_known, begin_made}
@@ -15,7 +15,7 @@ use Rattle.coordinator_core.proofs.table.Table.begin.Goals as goal
 pub returns-in-Some-clause-answers : goal.returns-in-Some-clause-answers
 returns-in-Some-clause-answers g c =
     let given = input.Message c.args.from (message.Begin c.args.manager c.args.timeout) in
-    answers_quiet g.D.Disk.state (λ owns. ComesFramable given) c.args.self.now c.args.self.now given c.args.now c.begun.result
+    answers_quiet g.D.Disk.state Always c.args.self.now c.args.self.now given c.args.now c.begun.result
     (begin_known (knowledge c.args.self.now) (knowledge c.args.self.now) c.args.now c.begun.result c.args.from c.args.manager c.args.timeout c.in-Some.xid (sym c.in-Some.ensures) c.begun.ensures.value)
     (act.Known c.in-Some.xid) (Some (record { to = place.Man c.args.manager; message = message.Begun c.in-Some.xid })) c.begun.ensures.value refl refl
 
@@ -23,7 +23,7 @@ pub returns-else-not-made-clause-answers : goal.returns-else-not-made-clause-ans
 returns-else-not-made-clause-answers g c =
     let given = input.Message c.args.from (message.Begin c.args.manager c.args.timeout) in
     let xid = c.next_xid-xid.result in
-    answers_made g.D.Disk.state (λ owns. ComesFramable given) c.args.self.now c.make.new.self given c.args.now c.begun-in-Ok.result
+    answers_made g.D.Disk.state Always c.args.self.now c.make.new.self given c.args.now c.begun-in-Ok.result
     (begin_made (knowledge c.args.self.now) (knowledge c.make.new.self) c.args.now c.begun-in-Ok.result c.args.from c.args.manager c.args.timeout c.in-Ok.made xid
     (omega (arith, c.requires.moment)) (sym c.manager_xid.ensures ∙ c.in_default.is) c.next_xid-xid.ensures c.in-Ok.ensures.0 c.if-not-made.false c.begun-in-Ok.ensures.value)
     (log.Begun xid c.args.manager c.args.now c.args.timeout) (durable.Begun xid) (Some (record { to = place.Man c.args.manager; message = message.Begun xid })) c.begun-in-Ok.ensures.value refl
@@ -35,8 +35,8 @@ returns-in-Err-clause-answers g c =
     let xid = c.next_xid-xid.result in
     let done = sends (act.Durable (durable.Begun xid)) (place.Man c.args.manager) (message.Begun xid) in
     let item = log.Begun xid c.args.manager c.args.now c.args.timeout in
-    unmade g.D.Disk.state (λ owns. ComesFramable given) c.args.self.now c.make.new.self given c.args.now item (durable.Begun xid)
-    (λ k makes. would (λ owns. ComesFramable given) (knowledge c.args.self.now) k given c.args.now done (durable.Begun xid) item refl refl
+    unmade g.D.Disk.state Always c.args.self.now c.make.new.self given c.args.now item (durable.Begun xid)
+    (λ k makes. would Always (knowledge c.args.self.now) k given c.args.now done (durable.Begun xid) item refl refl
     (begin_made (knowledge c.args.self.now) k c.args.now done c.args.from c.args.manager c.args.timeout true xid
     (omega (arith, c.requires.moment)) (sym c.manager_xid.ensures ∙ c.in_default.is) c.next_xid-xid.ensures makes refl refl))
     c.in-Err.error c.in-Err.ensures c.node_error.result c.node_error.ensures

@@ -3,7 +3,7 @@ use Rattle.seata_types.specs.declared.acts.Act.TheVariants as act
 use Rattle.seata_types.specs.declared.messages.Input.TheVariants as input
 use Rattle.seata_types.specs.declared.messages.Message.TheVariants as message
 use Rattle.history_rules.specs.CoordinatorRules.{end_answer}
-use Rattle.history_text.specs.Framing.{ComesFramable}
+use Rattle.coordinator_core.specs.Answers.{Always}
 use Rattle.coordinator_core.specs.Knowledge.{knowledge}
 use Rattle.coordinator_core.proofs.Errors.{answers_quiet}
 use Rattle.coordinator_core.proofs.Takes.{of_act}
@@ -13,7 +13,7 @@ use Rattle.coordinator_core.proofs.table.Table.branch_rollbacked.Goals as goal
 pub returns-then-not-may_roll_back-clause-answers : goal.returns-then-not-may_roll_back-clause-answers
 returns-then-not-may_roll_back-clause-answers g c =
     let given = input.Message c.args.from (message.BranchRollbacked c.args.leg.xid c.args.leg.branch c.args.status c.args.stmt) in
-    answers_quiet g.D.Disk.state (λ owns. ComesFramable given) c.args.self.now c.args.self.now given c.args.now c.still.result
+    answers_quiet g.D.Disk.state Always c.args.self.now c.args.self.now given c.args.now c.still.result
     (rollback_ignored (knowledge c.args.self.now) c.args.now c.still.result c.args.from c.args.leg c.args.status c.args.stmt (sym c.may_roll_back.ensures ∙ c.if-not-may_roll_back.true) c.still.ensures.value)
     act.Ignored None c.still.ensures.value refl refl
 
@@ -21,6 +21,6 @@ pub returns-clause-answers : goal.returns-clause-answers
 returns-clause-answers g c =
     let given = input.Message c.args.from (message.BranchRollbacked c.args.leg.xid c.args.leg.branch c.args.status c.args.stmt) in
     let k = knowledge c.args.self.now in
-    weaken_result g.D.Disk.state (RuleIs (λ rs. end_answer rs c.args.leg.xid c.args.leg.branch c.args.status c.args.stmt) k given c.args.now) (λ owns. ComesFramable given) c.args.self.now c.end.new.self given c.args.now c.end.result
+    weaken_result g.D.Disk.state (RuleIs (λ rs. end_answer rs c.args.leg.xid c.args.leg.branch c.args.status c.args.stmt) k given c.args.now) Always c.args.self.now c.end.new.self given c.args.now c.end.result
     (λ owns s f. rollback_counted k c.args.now (of_act act.Nothing None) c.args.from c.args.leg c.args.status c.args.stmt (sym c.may_roll_back.ensures ∙ c.if-not-may_roll_back.false) owns s)
     (c.end.ensures.answers given)

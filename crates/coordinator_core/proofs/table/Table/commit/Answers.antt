@@ -6,8 +6,8 @@ use Rattle.seata_types.specs.declared.messages.Message.TheVariants as message
 use Rattle.seata_types.specs.declared.statuses.Decision.TheVariants as how
 use Rattle.durable_records.specs.declared.coordinators.SessionRecord.TheVariants as log
 use Rattle.history_rules.specs.Own.{sends}
-use Rattle.history_text.specs.Framing.{ComesFramable}
 use Rattle.session_memory.specs.Lookups.{status_in}
+use Rattle.coordinator_core.specs.Answers.{Always}
 use Rattle.coordinator_core.specs.Knowledge.{knowledge}
 use Rattle.coordinator_core.proofs.Errors.{answers_either, unmade, would}
 use Rattle.coordinator_core.proofs.Takes.{commit_answered}
@@ -18,8 +18,8 @@ returns-in-Ok-clause-answers g c =
     let given = input.Message c.args.from (message.GlobalCommit c.args.xid) in
     let d = c.commit_or_timeout-how.result in
     let st = c.status-status.result in
-    let is = c.sends.ensures.value ∙ ap (λ done. sends done c.args.from (message.CommitStatus c.args.xid st)) c.decided_or_told-act.ensures in
-    answers_either g.D.Disk.state (λ owns. ComesFramable given) c.args.self.now c.make.new.self given c.args.now c.sends.result
+    let is = c.sends.ensures.value ∙ ap (λ done. sends done c.args.from (message.CommitStatus c.args.xid st)) c.decided_or_told-act.ensures.value in
+    answers_either g.D.Disk.state Always c.args.self.now c.make.new.self given c.args.now c.sends.result
     (commit_answered (knowledge c.args.self.now) (knowledge c.make.new.self) c.args.now (omega (arith, c.requires.moment)) c.sends.result c.args.from c.args.xid st c.status-status.ensures
     c.in-Ok.made d (c.commit_or_timeout-how.ensures ∙ ap (λ b. if b then how.Timeout else how.Commit) c.is_past.ensures) c.in-Ok.ensures.0 is)
     (log.Decided c.args.xid d) (durable.Decided c.args.xid d) (act.Told c.args.xid st) (Some (record { to = c.args.from; message = message.CommitStatus c.args.xid st })) refl refl c.in-Ok.made is c.in-Ok.ensures.1
@@ -28,9 +28,9 @@ pub returns-in-Err-clause-answers : goal.returns-in-Err-clause-answers
 returns-in-Err-clause-answers g c =
     let given = input.Message c.args.from (message.GlobalCommit c.args.xid) in
     let d = c.commit_or_timeout-how.result in
-    unmade g.D.Disk.state (λ owns. ComesFramable given) c.args.self.now c.make.new.self given c.args.now (log.Decided c.args.xid d) (durable.Decided c.args.xid d)
+    unmade g.D.Disk.state Always c.args.self.now c.make.new.self given c.args.now (log.Decided c.args.xid d) (durable.Decided c.args.xid d)
     (λ k makes. let st = status_in k.memory c.args.xid.0 in
     let done = sends (act.Durable (durable.Decided c.args.xid d)) c.args.from (message.CommitStatus c.args.xid st) in
-    would (λ owns. ComesFramable given) (knowledge c.args.self.now) k given c.args.now done (durable.Decided c.args.xid d) (log.Decided c.args.xid d) refl refl
+    would Always (knowledge c.args.self.now) k given c.args.now done (durable.Decided c.args.xid d) (log.Decided c.args.xid d) refl refl
     (commit_answered (knowledge c.args.self.now) k c.args.now (omega (arith, c.requires.moment)) done c.args.from c.args.xid st refl true d (c.commit_or_timeout-how.ensures ∙ ap (λ b. if b then how.Timeout else how.Commit) c.is_past.ensures) makes refl))
     c.in-Err.error c.in-Err.ensures c.node_error.result c.node_error.ensures

@@ -21,6 +21,11 @@ returns-in-Err-clause-framable g c =
     (refused_answers g.D.Disk.state c.args.self.now c.register.new.self c.args.now (omega (arith, c.requires.moment)) c.args.from c.args.xid c.args.place c.args.hold.now c.args.check.now c.requires.new c.requires.begin c.requires.timely
     c.next_branch-branch.result c.in-Err.error c.refuse.result c.next_branch-branch.ensures c.in-Err.ensures.made c.refuse.ensures.why).1
 
+pub returns-in-Err-clause-named : goal.returns-in-Err-clause-named
+returns-in-Err-clause-named g c =
+    (refused_answers g.D.Disk.state c.args.self.now c.register.new.self c.args.now (omega (arith, c.requires.moment)) c.args.from c.args.xid c.args.place c.args.hold.now c.args.check.now c.requires.new c.requires.begin c.requires.timely
+    c.next_branch-branch.result c.in-Err.error c.refuse.result c.next_branch-branch.ensures c.in-Err.ensures.made c.refuse.ensures.why).2
+
 pub register-requires-clause-new : goal.register-requires-clause-new
 register-requires-clause-new g c = is_new_branch (memory c.args.self.now) c.args.xid c.args.place c.requires.new
 

@@ -4,7 +4,7 @@ use Rattle.seata_types.specs.declared.messages.Input.TheVariants as input
 use Rattle.seata_types.specs.declared.messages.Message.TheVariants as message
 use Rattle.seata_types.specs.declared.statuses.Decision.TheVariants as how
 use Rattle.durable_records.specs.declared.coordinators.SessionRecord.TheVariants as log
-use Rattle.history_text.specs.Framing.{ComesFramable}
+use Rattle.coordinator_core.specs.Answers.{Always}
 use Rattle.coordinator_core.specs.Knowledge.{knowledge}
 use Rattle.coordinator_core.specs.Steps.{late_step}
 use Rattle.coordinator_core.proofs.Errors.{answers_made, unmade, would}
@@ -15,7 +15,7 @@ pub returns-else-not-made-clause-answers : goal.returns-else-not-made-clause-ans
 returns-else-not-made-clause-answers g c =
     let place = c.args.place in
     let given = input.Message c.args.from (message.Register c.args.xid place.resource place.call place.ticket place.kind c.args.hold.now c.args.check.now) in
-    answers_made g.D.Disk.state (λ owns. ComesFramable given) c.args.self.now c.make.new.self given c.args.now c.late.result
+    answers_made g.D.Disk.state Always c.args.self.now c.make.new.self given c.args.now c.late.result
     (late_answered (knowledge c.args.self.now) c.args.now (omega (arith, c.requires.moment)) c.late.result c.args.from c.args.xid place c.args.hold.now c.args.check.now c.requires.new c.requires.begin
     (knowledge c.make.new.self) c.in-Ok.made c.requires.past c.in-Ok.ensures.0 c.if-not-made.false c.late.ensures.value)
     (log.Decided c.args.xid how.Timeout) (durable.Late c.args.xid) (late_step place c.args.xid).sent c.late.ensures.value refl c.in-Ok.made c.if-not-made.false c.in-Ok.ensures.1
@@ -25,8 +25,8 @@ returns-in-Err-clause-answers g c =
     let place = c.args.place in
     let given = input.Message c.args.from (message.Register c.args.xid place.resource place.call place.ticket place.kind c.args.hold.now c.args.check.now) in
     let done = late_step place c.args.xid in
-    unmade g.D.Disk.state (λ owns. ComesFramable given) c.args.self.now c.make.new.self given c.args.now (log.Decided c.args.xid how.Timeout) (durable.Late c.args.xid)
-    (λ k makes. would (λ owns. ComesFramable given) (knowledge c.args.self.now) k given c.args.now done (durable.Late c.args.xid) (log.Decided c.args.xid how.Timeout) refl refl
+    unmade g.D.Disk.state Always c.args.self.now c.make.new.self given c.args.now (log.Decided c.args.xid how.Timeout) (durable.Late c.args.xid)
+    (λ k makes. would Always (knowledge c.args.self.now) k given c.args.now done (durable.Late c.args.xid) (log.Decided c.args.xid how.Timeout) refl refl
     (late_answered (knowledge c.args.self.now) c.args.now (omega (arith, c.requires.moment)) done c.args.from c.args.xid place c.args.hold.now c.args.check.now c.requires.new c.requires.begin
     k true c.requires.past makes refl refl))
     c.in-Err.error c.in-Err.ensures c.node_error.result c.node_error.ensures

@@ -6,6 +6,8 @@ use Rattle.scenario_reader.specs.Steps.{steps_of}
 use Rattle.history_rules.specs.Schedules.{DeliverOf, TurnOf}
 use Rattle.history_text.specs.declared.entries.Cause.TheVariants as cause
 use Rattle.replay_runner.specs.Going.{CanGo, Went}
+use Rattle.replay_runner.specs.Standing.{disks_at}
+use Rattle.replay_runner.proofs.Failed.{memory_at}
 use Rattle.replay_runner.proofs.Playing.{crash_made, enters_disks, enters_local, enters_outside, local_made, outside_made, ready_as, restart_made, single, stop_made}
 use Rattle.replay_runner.proofs.Sound.{went_waiting}
 use Rattle.replay_runner.proofs.Stepping.{waited_or_ends}
@@ -32,15 +34,15 @@ returns-in-Deliver-clause-played g c = λ ready.
     (single g.D.Disk.state c.args.self.now (DeliverOf c.in-Deliver.stamp) refl (ready_as g.D.Disk.state c.args.self.now c.args.item (item.Deliver c.in-Deliver.stamp) c.in-Deliver.is ready.ready))
 
 -- ticks that pass
-pub wait-requires : goal.wait-requires
-wait-requires g c =
+pub make_without_node-requires : goal.make_without_node-requires
+make_without_node-requires g c =
     let can = subst (λ (i : ScheduleItem). CanGo c.args.self.now (steps_of i)) c.in-Wait.is c.requires.can in
     let room = can.room in
     record { short = omega (arith, room) }
 
 pub returns-in-Wait-clause-played : goal.returns-in-Wait-clause-played
 returns-in-Wait-clause-played g c = λ ready.
-    waited_or_ends g.D.Disk.state c.args.self.now c.wait.new.self (record {
+    waited_or_ends g.D.Disk.state c.args.self.now c.make_without_node.new.self (record {
       nodes = c.args.self.now.nodes;
       network = c.args.self.now.network;
       places = c.args.self.now.places;
@@ -48,20 +50,23 @@ returns-in-Wait-clause-played g c = λ ready.
       clock = c.args.self.now.clock + c.in-Wait.ticks;
     }) c.in-Wait.ticks (ready_as g.D.Disk.state c.args.self.now c.args.item (item.Wait c.in-Wait.ticks) c.in-Wait.is ready.ready)
     (subst (FitsNodes (length c.args.self.now.nodes.resources.items) (length c.args.self.now.nodes.managers.items) (length c.args.locals.now)) c.in-Wait.is c.requires.fits).1
-    c.wait.result c.wait.ensures.passed c.wait.ensures.fault refl refl refl refl c.wait.ensures.nodes c.wait.ensures.waiting c.wait.ensures.clock
+    c.make_without_node.result c.make_without_node.ensures.passed c.make_without_node.ensures.fault refl refl refl refl c.make_without_node.ensures.nodes c.make_without_node.ensures.waiting c.make_without_node.ensures.clock
+
+pub returns-in-Wait-clause-failed : goal.returns-in-Wait-clause-failed
+returns-in-Wait-clause-failed g c = memory_at (disks_at g.D.Disk.state c.make_without_node.new.self.nodes) c.make_without_node.result c.make_without_node.ensures.fault
 
 pub returns-in-Wait-clause-went : goal.returns-in-Wait-clause-went
 returns-in-Wait-clause-went g c =
-    subst (λ (i : ScheduleItem). OnOk c.wait.result (Went c.args.self.now c.wait.new.self (steps_of i))) (sym c.in-Wait.is)
+    subst (λ (i : ScheduleItem). OnOk c.make_without_node.result (Went c.args.self.now c.make_without_node.new.self (steps_of i))) (sym c.in-Wait.is)
     (went_waiting (length c.args.self.now.nodes.managers.items) (length c.args.self.now.nodes.resources.items) (length c.args.self.now.places.items) c.args.self.now (record {
       nodes = c.args.self.now.nodes;
       network = c.args.self.now.network;
       places = c.args.self.now.places;
       messages = c.args.self.now.messages;
       clock = c.args.self.now.clock + c.in-Wait.ticks;
-    }) c.wait.new.self c.requires.can.goes (cause.Wait c.in-Wait.ticks) c.in-Wait.ticks
+    }) c.make_without_node.new.self c.requires.can.goes (cause.Wait c.in-Wait.ticks) c.in-Wait.ticks
     (subst (FitsNodes (length c.args.self.now.nodes.resources.items) (length c.args.self.now.nodes.managers.items) (length c.args.locals.now)) c.in-Wait.is c.requires.fits).1
-    c.wait.result c.wait.ensures.passed refl refl refl c.wait.ensures.nodes c.wait.ensures.waiting c.wait.ensures.clock)
+    c.make_without_node.result c.make_without_node.ensures.passed refl refl refl c.make_without_node.ensures.nodes c.make_without_node.ensures.waiting c.make_without_node.ensures.clock)
 
 -- a stop, a crash and a restart come to a node with disks
 pub make-requires : goal.make-requires

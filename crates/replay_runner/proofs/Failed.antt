@@ -1,0 +1,83 @@
+-- A replay that ends since the disks of a node failed: these counted a fault, whatever they tell.
+use Rattle.std.proofs.Common.{◌≡◌, ◌+◌, ◌-◌, ◌≤◌, ◌^◌, ℕ, min, List, set, Option, Some, None, Result, Ok, Err, IfErr, refl, ap, sym, subst, ◌∙◌, arith}
+use Rattle.std.specs.Prelude.{Vec}
+use Rattle.std.specs.declared.alloc.Global.{Global}
+use Rattle.disk_model.specs.Disk.{DiskState}
+use Rattle.journal_checkpoint.specs.Images.{Pair}
+use Rattle.seata_types.specs.declared.ids.Place.{Place}
+use Rattle.seata_types.specs.declared.ids.Place.TheVariants as place
+use Rattle.history_rules.specs.Nodes.{counted_at}
+use Rattle.history_text.specs.Durable.{own_faults}
+use Rattle.resource_core.specs.declared.nodes.Resource.{Resource}
+use Rattle.resource_core.specs.Shown as shown
+use Rattle.node_seat.specs.Faults.{CountsFault}
+use Rattle.node_seat.specs.declared.faults.RunFault.{RunFault}
+use Rattle.node_seat.specs.declared.faults.RunFault.TheVariants as fault
+use Rattle.scenario_nodes.specs.Opening.{HaveCounted}
+use Rattle.replay_runner.specs.declared.members.Member.{Member}
+use Rattle.replay_runner.specs.declared.nodes.Nodes.{Nodes}
+use Rattle.replay_runner.specs.Ends.{HaveCountedAt}
+use Rattle.replay_runner.specs.Leaving.{CountsFailure, disks_in}
+use Rattle.replay_runner.specs.Standing.{disks_at, member_disks}
+use Rattle.replay_runner.proofs.Counted.{counted_set}
+use Rattle.replay_runner.proofs.Shown.{all_disks, resource_in}
+
+-- ---- on its way
+
+module _ (disks : Place → Pair) (p at : Place) (before after : Pair) (here : at ≡ p) (shows : disks p ≡ after) where
+  fault_counted : (missed : RunFault) → CountsFault at before after missed → HaveCountedAt disks missed
+  fault_counted (fault.Store q) (same, rose) =
+      let grown : min (own_faults before + 1) (2 ^ 64 - 1) ≤ own_faults after = rose in
+      let some : 1 ≤ own_faults after = omega (arith, grown) in
+      subst (λ r. 1 ≤ own_faults (disks r)) (sym (same ∙ here)) (subst (λ d. 1 ≤ own_faults d) (sym shows) some)
+  fault_counted (fault.Full q full) counts = tt
+  fault_counted (fault.Damaged q second offset) counts = tt
+  fault_counted fault.Other counts = tt
+  fault_counted fault.NoMemory counts = tt
+
+  -- the node at a place counted a fault, if its disks failed
+  pub failed_at : {T : Type 0} (r : Result T RunFault) → IfErr r (CountsFault at before after) → IfErr r (HaveCountedAt disks)
+  failed_at (Ok done) counts = tt
+  failed_at (Err missed) counts = fault_counted missed counts
+
+-- want of memory is no failure
+pub memory_at : {T : Type 0} (disks : Place → Pair) (r : Result T RunFault) → IfErr r (λ (missed : RunFault). missed ≡ fault.NoMemory) → IfErr r (HaveCountedAt disks)
+memory_at disks (Ok done) is = tt
+memory_at disks (Err missed) is = subst (HaveCountedAt disks) (sym is) tt
+
+-- the disks of a resource that was put in place of another
+pub resource_set : {D K : Type 0} (state : D → DiskState) (old resources : Vec (Member (Resource D) K) Global) (n : ℕ) (before after : Member (Resource D) K) → counted_at old.items n ≡ Some before
+    → resources.items ≡ set old.items (n - 1) after → member_disks state (counted_at resources.items n) ≡ shown.disks_of state after.seat.node
+resource_set state old resources n before after placed changed = ap (member_disks state) (ap (λ l. counted_at l n) changed ∙ counted_set old.items n after before placed)
+
+-- ---- by the disks that are given back
+
+module _ {D K : Type 0} (state : D → DiskState) (n : Nodes D K) where
+  abbrev back_disks : List Pair
+  back_disks = all_disks state n.coordinator.seat.node n.resources.items
+
+  counted_back : (p : Place) → 1 ≤ own_faults (disks_at state n p) → 1 ≤ own_faults (disks_in back_disks p)
+  counted_back place.Net some = some
+  counted_back place.Tc some = some
+  counted_back (place.Man k) some = some
+  counted_back (place.Res k) some = by (counted_at n.resources.items k) refl some
+    where
+      by : (o : Option (Member (Resource D) K)) → counted_at n.resources.items k ≡ o → 1 ≤ own_faults (member_disks state o) → 1 ≤ own_faults (disks_in back_disks (place.Res k))
+      by None e some = let no : 1 ≤ 0 = some in absurd (omega (arith, no))
+      by (Some m) e some = subst (λ d. 1 ≤ own_faults d) (sym (resource_in state n.coordinator.seat.node n.resources.items k m e)) some
+
+  -- those of the nodes counted what they counted on their way
+  pub failure_back : (missed : RunFault) → HaveCountedAt (disks_at state n) missed → CountsFailure back_disks (Err missed)
+  failure_back (fault.Store q) counted = counted_back q counted
+  failure_back (fault.Full q full) counted = tt
+  failure_back (fault.Damaged q second offset) counted = tt
+  failure_back fault.Other counted = tt
+  failure_back fault.NoMemory counted = tt
+
+-- those of a node that wasn't opened are among them
+pub failure_among : (disks : List Pair) (at : Place) (p : Pair) → disks_in disks at ≡ p → (missed : RunFault) → HaveCounted at p missed → CountsFailure disks (Err missed)
+failure_among disks at p here (fault.Store q) (same, some) = subst (λ r. 1 ≤ own_faults (disks_in disks r)) (sym same) (subst (λ d. 1 ≤ own_faults d) (sym here) some)
+failure_among disks at p here (fault.Full q full) counted = tt
+failure_among disks at p here (fault.Damaged q second offset) counted = tt
+failure_among disks at p here fault.Other counted = tt
+failure_among disks at p here fault.NoMemory counted = tt
