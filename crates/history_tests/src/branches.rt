@@ -295,17 +295,46 @@ fn input(alloc: Global, given: Given) -> Result<Input, Fail>
     }
 }
 
-/// A new coordinator answers these rows so; and how many transactions are then neither finished nor failed.
-fn plays(rt: &impl Abort, alloc: Global, rows: &[Row], unended: usize) -> Result<(), Fail> {
-    let mut tc = served::open(alloc)?;
+/// The first line that isn't the wanted one.
+fn first_other(
+    alloc: Global,
+    tc: &mut Coordinator<MemDisk>,
+    rows: &[Row],
+) -> Result<Option<String>, Fail>
+    requires { Serves tc.old }
+{
     for (now, given, wanted) in rows {
-        let line = line(alloc, &mut tc, *given, *now)?;
-        assert_eq!(rt; line.as_str(), *wanted);
+        let line = line(alloc, tc, *given, *now)?;
+        if line.as_str() != *wanted {
+            return Ok(Some(line));
+        }
     }
+    Ok(None)
+}
+
+/// How many transactions are neither finished nor failed, where it is up.
+fn unended(tc: &Coordinator<MemDisk>) -> Option<usize> {
     if tc.is_down() {
-        return Err(Fail::from("down"));
+        None
+    } else {
+        Some(tc.unended())
     }
-    assert_eq!(rt; tc.unended(), unended);
+}
+
+/// The first line that a new coordinator answers otherwise, and how many transactions it has then that haven't ended.
+fn played(alloc: Global, rows: &[Row]) -> Result<(Option<String>, Option<usize>), Fail> {
+    let mut tc = served::open(alloc)?;
+    let other = first_other(alloc, &mut tc, rows);
+    let unended = unended(&tc);
+    drop(tc);
+    Ok((other?, unended))
+}
+
+/// A new coordinator answers these rows so; and how many transactions are then neither finished nor failed.
+fn plays(rt: &impl Abort, alloc: Global, rows: &[Row], wanted: usize) -> Result<(), Fail> {
+    let (other, unended) = played(alloc, rows)?;
+    assert_eq!(rt; other, None);
+    assert_eq!(rt; unended, Some(wanted));
     Ok(())
 }
 

@@ -88,10 +88,15 @@ fn registers<L: Ledger, P: Ledger>(
     Ok(granted && begun.as_str() == "1 tc 0 turn | begun tc:1 | begun tc:1 to m1")
 }
 
+fn counts(alloc: Global) -> Result<bool, Fail> {
+    let mut tc = served::open(alloc)?;
+    let good = registers::<Brand, Brand>(alloc, &mut tc, Blank::new(1), Blank::new(1));
+    drop(tc);
+    good
+}
+
 #[test]
 fn counts_a_registration(rt: HostRuntime) -> Result<(), Fail> {
-    let mut tc = served::open(rt.alloc())?;
-    let good = registers::<Brand, Brand>(rt.alloc(), &mut tc, Blank::new(1), Blank::new(1))?;
-    assert!(rt; good);
+    assert!(rt; counts(rt.alloc())?);
     Ok(())
 }

@@ -56,7 +56,9 @@ fn leaves_begun(alloc: Global, tc: &mut Coordinator<MemDisk>) -> Result<bool, Fa
 
 fn is_left(alloc: Global) -> Result<bool, Fail> {
     let mut tc = served::open(alloc)?;
-    leaves_begun(alloc, &mut tc)
+    let left = leaves_begun(alloc, &mut tc);
+    drop(tc);
+    left
 }
 
 /// Writes bytes to the front of a disk, where they fit.
@@ -98,7 +100,9 @@ fn knows_begun(alloc: Global, tc: &mut Coordinator<MemDisk>) -> Result<bool, Fai
 
 fn is_known(alloc: Global) -> Result<bool, Fail> {
     let mut tc = open_begun(alloc)?;
-    knows_begun(alloc, &mut tc)
+    let known = knows_begun(alloc, &mut tc);
+    drop(tc);
+    known
 }
 
 #[test]

@@ -246,28 +246,38 @@ fn put_all(out: &mut String, names: &Names) -> Result<(), AllocError> {
     put_place(out, Place::Man(1), names)
 }
 
-#[test]
-fn writes_causes(rt: HostRuntime) -> Result<(), Fail> {
-    let Ok(names) = names(rt.alloc()) else {
-        return Err(Fail::from("no memory"));
-    };
+/// The first line of a cause that isn't written so.
+fn unwritten_cause(alloc: Global, names: &Names) -> Option<&'static str> {
     for (cause, text) in CAUSES {
-        let line = line_of(rt.alloc(), silent(Place::Net, cause, Act::Nothing), &names);
-        assert!(rt; is_text(line, text));
+        let line = line_of(alloc, silent(Place::Net, cause, Act::Nothing), names);
+        if !is_text(line, text) {
+            return Some(text);
+        }
     }
-    Ok(())
+    None
+}
+
+/// The first line of a durable act that isn't written so.
+fn unwritten_act(alloc: Global, names: &Names) -> Option<&'static str> {
+    for (done, text) in DURABLES {
+        let entry = silent(Place::Tc, Cause::Turn, Act::Durable(done));
+        if !is_text(line_of(alloc, entry, names), text) {
+            return Some(text);
+        }
+    }
+    None
 }
 
 #[test]
-fn writes_durable_acts(rt: HostRuntime) -> Result<(), Fail> {
+fn writes_causes_and_durable_acts(rt: HostRuntime) -> Result<(), Fail> {
     let Ok(names) = names(rt.alloc()) else {
         return Err(Fail::from("no memory"));
     };
-    for (done, text) in DURABLES {
-        let entry = silent(Place::Tc, Cause::Turn, Act::Durable(done));
-        let line = line_of(rt.alloc(), entry, &names);
-        assert!(rt; is_text(line, text));
-    }
+    let cause = unwritten_cause(rt.alloc(), &names);
+    let act = unwritten_act(rt.alloc(), &names);
+    drop(names);
+    assert_eq!(rt; cause, None);
+    assert_eq!(rt; act, None);
     Ok(())
 }
 

@@ -2,7 +2,7 @@
 ghost use Rattle.std.specs.Prelude.{◌≤◌, ◌^◌, length, All, IfOk};
 ghost use Rattle.manager_core.specs.Within.{IsCallWithin};
 
-use crate::steps::line_of;
+use crate::steps::answer_line;
 use history_text::Node;
 use manager_core::Manager;
 use seata_types::{
@@ -10,7 +10,6 @@ use seata_types::{
     Text, Ticket, Why, Work, Xid,
 };
 use std::alloc::Global;
-use std::process::Abort;
 use std::test::Fail;
 
 const XID: Xid = Xid(1);
@@ -155,33 +154,45 @@ fn manager(alloc: Global) -> Result<Manager, NoMemory> {
     Ok(Manager::new(1, 5, 2, calls, Ending::Commit, None, true))
 }
 
-/// A manager answers each of these as said.
-fn answers(rt: &impl Abort, alloc: Global, rows: &[(Given, &str)]) -> Result<Manager, Fail> {
+/// The line of its next step.
+fn line(alloc: Global, manager: &mut Manager, given: Given) -> Result<String, Fail> {
+    if manager.steps_left() == 0 {
+        return Err(Fail::from("no step is left"));
+    }
+    let answer = manager.step(alloc, input(alloc, given), 0);
+    answer_line(alloc, Place::Man(1), answer)
+}
+
+/// The first line that isn't the wanted one.
+fn first_other(
+    alloc: Global,
+    manager: &mut Manager,
+    rows: &[(Given, &str)],
+) -> Result<Option<String>, Fail> {
+    for (given, wanted) in rows {
+        let line = line(alloc, manager, *given)?;
+        if line.as_str() != *wanted {
+            return Ok(Some(line));
+        }
+    }
+    Ok(None)
+}
+
+/// The first line that a new manager answers otherwise, and whether it is at its end then.
+fn played(alloc: Global, rows: &[(Given, &str)]) -> Result<(Option<String>, bool), Fail> {
     let Ok(mut manager) = manager(alloc) else {
         return Err(Fail::from("no memory"));
     };
-    for (given, wanted) in rows {
-        if manager.steps_left() == 0 {
-            return Err(Fail::from("no step is left"));
-        }
-        let Ok(step) = manager.step(alloc, input(alloc, *given), 0) else {
-            return Err(Fail::from("no memory"));
-        };
-        let Ok(line) = line_of(alloc, Place::Man(1), step) else {
-            return Err(Fail::from("no memory"));
-        };
-        assert_eq!(rt; line.as_str(), *wanted);
-    }
-    Ok(manager)
+    let other = first_other(alloc, &mut manager, rows);
+    let ends = manager.at_end();
+    drop(manager);
+    Ok((other?, ends))
 }
 
 #[test]
 fn makes_its_calls(rt: HostRuntime) -> Result<(), Fail> {
-    let closed = answers(&rt, rt.alloc(), &COMMITS)?;
-    assert!(rt; closed.at_end());
-    let closed = answers(&rt, rt.alloc(), &GIVES_UP)?;
-    assert!(rt; closed.at_end());
-    let waiting = answers(&rt, rt.alloc(), &FAILS)?;
-    assert!(rt; !waiting.at_end());
+    assert_eq!(rt; played(rt.alloc(), &COMMITS)?, (None, true));
+    assert_eq!(rt; played(rt.alloc(), &GIVES_UP)?, (None, true));
+    assert_eq!(rt; played(rt.alloc(), &FAILS)?, (None, false));
     Ok(())
 }

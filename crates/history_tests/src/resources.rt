@@ -258,12 +258,24 @@ fn has_lines(
 }
 
 /// Whether a resource that is stopped has them.
+fn stops_with_lines(
+    alloc: Global,
+    resource: &mut Resource<MemDisk>,
+    count: u32,
+    keeps: bool,
+    wanted: [&str; 4],
+) -> Result<bool, Fail>
+    requires { ServesAll resource.old }
+{
+    Ok(arm(alloc, resource, count)? && has_lines(alloc, resource, keeps, count < 4, wanted)?)
+}
+
+/// Whether a new resource that is stopped has them.
 fn comes_back(alloc: Global, count: u32, keeps: bool, wanted: [&str; 4]) -> Result<bool, Fail> {
     let mut resource = open(alloc)?;
-    Ok(
-        arm(alloc, &mut resource, count)?
-            && has_lines(alloc, &mut resource, keeps, count < 4, wanted)?,
-    )
+    let has = stops_with_lines(alloc, &mut resource, count, keeps, wanted);
+    drop(resource);
+    has
 }
 
 /// The first stop from which a resource doesn't come back so.

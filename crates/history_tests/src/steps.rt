@@ -20,24 +20,27 @@ fn sent_of(sent: Option<Outgoing>) -> Option<Sent> {
 
 fn entry_of(place: Place, step: Step) -> Entry {
     let Step { act, sent } = step;
+    let sent = sent_of(sent);
     Entry {
         stamp: 1,
         place,
         now: 0,
         cause: Cause::Turn,
         act,
-        sent: sent_of(sent),
+        sent,
     }
 }
 
 /// The line of a step at a place, as the first entry, at moment 0.
-pub fn line_of(alloc: Global, place: Place, step: Step) -> Result<String, NoMemory> {
+fn line_of(alloc: Global, place: Place, step: Step) -> Result<String, NoMemory> {
     let names = Names {
         resources: List::of(Vec::new(alloc)),
         managers: List::of(Vec::new(alloc)),
     };
     let entry = entry_of(place, step);
-    write_entry(alloc, &entry, &names)
+    let line = write_entry(alloc, &entry, &names);
+    drop(entry);
+    line
 }
 
 fn told(line: Result<String, NoMemory>) -> Result<String, Fail> {

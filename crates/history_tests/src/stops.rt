@@ -126,7 +126,9 @@ fn lent_has_lines(
 fn comes_back(alloc: Global, calls: u32, keeps: bool, wanted: [&str; 3]) -> Result<bool, Fail> {
     let mut tc = served::open(alloc)?;
     arm(&mut tc, calls);
-    has_lines(alloc, &mut tc, keeps, wanted)
+    let has = has_lines(alloc, &mut tc, keeps, wanted);
+    drop(tc);
+    has
 }
 
 /// Whether one that is stopped by the disk that it lends has them.
@@ -138,7 +140,9 @@ fn lent_comes_back(
 ) -> Result<bool, Fail> {
     let mut tc = served::open(alloc)?;
     arm_lent(&mut tc, calls);
-    lent_has_lines(alloc, &mut tc, keeps, calls < 4, wanted)
+    let has = lent_has_lines(alloc, &mut tc, keeps, calls < 4, wanted);
+    drop(tc);
+    has
 }
 
 /// The first stop from which a coordinator doesn't come back so.

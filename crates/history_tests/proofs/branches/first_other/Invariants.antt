@@ -1,5 +1,5 @@
 use Rattle.history_tests.specs.Served.{Serves}
-use Rattle.history_tests.proofs.branches.plays.Given as goal
+use Rattle.history_tests.proofs.branches.first_other.Given as goal
 
 abbrev pub invariant-loop-now : goal.invariant-loop-now
-invariant-loop-now g l = Serves l.tc
+invariant-loop-now l = Serves l.tc
