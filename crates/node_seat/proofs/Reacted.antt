@@ -16,7 +16,7 @@ use Rattle.history_text.specs.Durable.{HavePick, SamePicks}
 use Rattle.history_text.specs.Promises as promises
 use Rattle.history_text.specs.Promises.{AfterError, cut, has_disks, own_entry}
 use Rattle.node_seat.specs.declared.faults.RunFault.{RunFault}
-use Rattle.node_seat.specs.Entering.{Does, HadPlaceFor, HaveLast, IsStepOf}
+use Rattle.node_seat.specs.Entering.{Does, HadPlaceFor, HaveLast, IsStepOf, Misses}
 use Rattle.node_seat.specs.Faults.{CountsFault}
 
 tells_same : (pick : ℕ) (old new : Pair) → SamePicks old new → HavePick pick old → HavePick pick new
@@ -109,3 +109,18 @@ pub step_counts : (place at : Place) (old new : Pair) (e : NodeError) (r : Resul
 step_counts place at old new (error.Failed flight) r is = subst (λ (q : Result Step RunFault). IfErr q (CountsFault at old new)) (sym is) tt
 step_counts place at old new (error.Full full) r is = subst (λ (q : Result Step RunFault). IfErr q (CountsFault at old new)) (sym is) tt
 step_counts place at old new error.NoMemory r is = subst (λ (q : Result Step RunFault). IfErr q (CountsFault at old new)) (sym is) tt
+
+-- a step's error that is no step: nothing happened to the node, which was up, since the record has no place or for want of memory
+pub step_missed : {N : Type 0} (stands_for : N → Role → List Own → Type 0) (place : N → Place) (disks : N → Pair) (size : N → ℕ) (down : N → Bool)
+    → ((n : N) (role : Role) (os : List Own) → stands_for n role os → down n ≡ is_down os) → (old new : N) (given : Input) (now : ℕ) (failed : Type 0) → down old ≡ false
+    → (at : Place) → at ≡ place old → (e : NodeError) (r : Result Step RunFault) → AfterError stands_for failed (disks new) (size new) old new given now e → IsStepOf at e r
+    → IfErr r (Misses stands_for place disks size old new (Given given) now)
+step_missed stands_for place disks size down downs old new given now failed up at here (error.Failed flight) r after is =
+    subst (λ (q : Result Step RunFault). IfErr q (Misses stands_for place disks size old new (Given given) now)) (sym is) tt
+step_missed stands_for place disks size down downs old new given now failed up at here (error.Full full) r after is =
+    subst (λ (q : Result Step RunFault). IfErr q (Misses stands_for place disks size old new (Given given) now)) (sym is) (record {
+      stands = λ told. after.0;
+      blames = λ told role os st. let o = after.1 role os st in (here, (sym (downs old role os st) ∙ up, o.0, o.1, o.2));
+    })
+step_missed stands_for place disks size down downs old new given now failed up at here error.NoMemory r after is =
+    subst (λ (q : Result Step RunFault). IfErr q (Misses stands_for place disks size old new (Given given) now)) (sym is) (record { stands = λ told. after; blames = λ told role os st. tt })

@@ -29,8 +29,8 @@ module _ (disks others : Pair) (alike : Alike disks others) (size : ℕ) where
   boot_overflows (Manager settings) full is = absurd is
 
   overflows : (role : Role) (owns : List Own) (now : ℕ) (event : Event) (full : Full) → Overflows disks size role owns now event full → Overflows others size role owns now event full
-  overflows role owns now (Given given) full (bytes, asked, is) = (bytes, asked, no_place _ full is)
-  overflows role owns now (Restarted pick calls) full is = boot_overflows role full is
+  overflows role owns now (Given given) full (up, bytes, asked, is) = (up, bytes, asked, no_place _ full is)
+  overflows role owns now (Restarted pick calls) full (down, is) = (down, boot_overflows role full is)
   overflows role owns now (Stopped calls) full is = absurd is
   overflows role owns now Crashed full is = absurd is
 

@@ -155,7 +155,7 @@ manager_told m disks (Restarted pick calls) fits = absurd fits
 only_memory : (m : Settings) (at : Place) (owns : List Own) (now : ℕ) (event : Event) (disks : Pair) (size : ℕ) (missed : RunFault) → ComesTo (ManagerRole m) event
     → Blames at (ManagerRole m) owns now event disks size missed → missed ≡ fault.NoMemory
 only_memory m at owns now (Given given) disks size (fault.Store q) fits b = absurd b.2
-only_memory m at owns now (Given given) disks size (fault.Full q full) fits b = absurd (let no : None ≡ Some b.1.0 = b.1.1 in cc)
+only_memory m at owns now (Given given) disks size (fault.Full q full) fits b = absurd (let no : None ≡ Some b.1.1 = b.1.2 in cc)
 only_memory m at owns now (Given given) disks size (fault.Damaged q second offset) fits b = absurd b
 only_memory m at owns now (Given given) disks size fault.Other fits b = absurd b
 only_memory m at owns now (Given given) disks size fault.NoMemory fits b = refl
