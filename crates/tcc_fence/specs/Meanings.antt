@@ -1,5 +1,5 @@
 -- What the statuses and answers of the code are in the words of a resource's records, and the fences that a map holds.
-use Rattle.std.specs.Prelude.{◌≡◌, ℕ, List, map, Option}
+use Rattle.std.specs.Prelude.{◌≡◌, ℕ, List, map, Option, None, Some}
 use Rattle.std.specs.BTreeMap.{is_at}
 use Rattle.std.specs.Map.{lookup, remove_entry}
 use Rattle.seata_types.specs.declared.ids.Leg.{Leg}
@@ -56,3 +56,12 @@ without_fence fences leg = remove_entry (is_at (leg_cmp (pair_of leg))) fences
 -- what stands at a branch among all fences of a resource's records is its fence, by its last record
 abbrev pub FencesStandAtBranches : Type 0
 FencesStandAtBranches = (rs : List ResourceRecord) (leg : Leg) → fence_at (fences rs) leg ≡ fence rs leg.xid.0 leg.branch.0
+
+-- The fence's table: what a Try, a Confirm and a Cancel are answered, by the status of the branch. `durable_records` has a function for
+-- each of the three.
+abbrev pub table : Option FenceStatus → FenceAnswer × FenceAnswer × FenceAnswer
+table None = (answer.Run, answer.Refuse, answer.Suspend)
+table (Some status.Tried) = (answer.Refuse, answer.Run, answer.Run)
+table (Some status.Committed) = (answer.Refuse, answer.Already, answer.Refuse)
+table (Some status.Rollbacked) = (answer.Refuse, answer.Refuse, answer.Already)
+table (Some status.Suspended) = (answer.Refuse, answer.Refuse, answer.Already)

@@ -1,7 +1,7 @@
 //! The fences of a resource.
 ghost use Rattle.std.specs.Prelude.{◌≡◌, option_map};
 ghost use Rattle.durable_records.specs.Fences.{on_try, on_confirm, on_cancel};
-ghost use Rattle.tcc_fence.specs.Meanings.{status_of, answer_of};
+ghost use Rattle.tcc_fence.specs.Meanings.{status_of, answer_of, table};
 
 use crate::statuses::{FenceAnswer, FenceStatus};
 use seata_types::{Leg, List, NoMemory};
@@ -127,6 +127,7 @@ fn row(on_try: FenceAnswer, on_confirm: FenceAnswer, on_cancel: FenceAnswer) -> 
 
 /// The fence's table: what a Try, a Confirm and a Cancel are answered, by the status of the branch.
 fn answers(status: Option<FenceStatus>) -> TableRow
+    ensures table { (result.on_try, result.on_confirm, result.on_cancel) ≡ table status }
     ensures on_try { answer_of result.on_try ≡ on_try (option_map status_of status) }
     ensures on_confirm { answer_of result.on_confirm ≡ on_confirm (option_map status_of status) }
     ensures on_cancel { answer_of result.on_cancel ≡ on_cancel (option_map status_of status) }
