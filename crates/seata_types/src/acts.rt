@@ -1,4 +1,6 @@
 //! What a step did. Durable acts are those that a journal keeps.
+ghost use Rattle.std.specs.Prelude.{◌≡◌, IfOk};
+
 use crate::copies::{Duplicate, NoMemory};
 use crate::errors::{StmtError, Why};
 use crate::ids::{BranchId, Ticket, Xid};
@@ -251,6 +253,18 @@ pub enum Act {
     },
 }
 
+/// Copies of a dirty row's key, and of the row as it should be and as it is.
+fn dirty_row(
+    alloc: Global,
+    key: &RowKey,
+    after: &Option<Row>,
+    now: &Option<Row>,
+) -> Result<(RowKey, Option<Row>, Option<Row>), NoMemory>
+    ensures { IfOk result (λ copied. copied ≡ (key.now, after.now, now.now)) }
+{
+    Ok((key.copy(alloc)?, after.copy(alloc)?, now.copy(alloc)?))
+}
+
 impl Duplicate for Act {
     fn copy(&self, alloc: Global) -> Result<Self, NoMemory> {
         match self {
@@ -358,13 +372,16 @@ impl Duplicate for Act {
                 key,
                 after,
                 now,
-            } => Ok(Act::Dirty {
-                xid: *xid,
-                branch: *branch,
-                key: key.copy(alloc)?,
-                after: after.copy(alloc)?,
-                now: now.copy(alloc)?,
-            }),
+            } => {
+                let (key, after, now) = dirty_row(alloc, key, after, now)?;
+                Ok(Act::Dirty {
+                    xid: *xid,
+                    branch: *branch,
+                    key,
+                    after,
+                    now,
+                })
+            }
             Act::Already { xid, branch } => Ok(Act::Already {
                 xid: *xid,
                 branch: *branch,

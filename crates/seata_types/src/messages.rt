@@ -356,9 +356,13 @@ pub struct Step {
 
 impl Duplicate for Step {
     fn copy(&self, alloc: Global) -> Result<Self, NoMemory> {
-        Ok(Step {
-            act: self.act.copy(alloc)?,
-            sent: self.sent.copy(alloc)?,
-        })
+        let act = self.act.copy(alloc)?;
+        match self.sent.copy(alloc) {
+            Ok(sent) => Ok(Step { act, sent }),
+            Err(NoMemory) => {
+                drop(act);
+                Err(NoMemory)
+            }
+        }
     }
 }
