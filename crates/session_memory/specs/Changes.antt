@@ -1,6 +1,7 @@
 -- What one more record does to a snapshot, and when it may come. Statuses follow Seata's table.
-use Rattle.std.specs.Prelude.{ℕ, ◌+◌, ◌==◌, ◌&&◌, nat_lt, Bool, true, false, if◌then◌else◌, List, [], ◌∷◌, ◌++◌, Option, Some, None, is_none}
+use Rattle.std.specs.Prelude.{◌≡◌, ℕ, ◌+◌, ◌<◌, ◌^◌, ◌==◌, ◌&&◌, nat_lt, Bool, true, false, if◌then◌else◌, List, [], ◌∷◌, ◌++◌, Option, Some, None, is_none, Result, OnOk, OnErr}
 use Rattle.std.specs.List.{list_all, list_any}
+use Rattle.seata_types.specs.declared.copies.NoMemory.{NoMemory}
 use Rattle.seata_types.specs.declared.ids.Xid.{Xid}
 use Rattle.seata_types.specs.declared.ids.BranchId.{BranchId}
 use Rattle.seata_types.specs.declared.ids.Ticket.{Ticket}
@@ -209,3 +210,15 @@ abbrev pub locks_after : SessionRecord → Holds → Holds
 locks_after (log.Decided xid how.Commit) hs = without_xid hs xid
 locks_after (log.Ended xid branch) hs = without_leg hs (record { xid = xid; branch = branch })
 locks_after _ hs = hs
+
+-- ---- taking it in
+
+-- a record that may be taken in: it may come, and there is room to count it
+pub record MayTake (s : Snapshot) (r : SessionRecord) : Type 0 where
+  pub allowed : may_come s r ≡ true
+  pub room : s.acts + 1 < 2 ^ 32
+
+-- after Ok the snapshot is that with the record, after an error it is as before
+pub record TakesIn (r : SessionRecord) (result : Result (Unit {0}) NoMemory) (old new : Snapshot) : Type 0 where
+  pub ok : OnOk result (new ≡ after r old)
+  pub err : OnErr result (new ≡ old)

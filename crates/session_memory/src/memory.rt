@@ -8,7 +8,7 @@ ghost use Rattle.session_log.specs.SnapshotOf.{snapshot_of};
 ghost use Rattle.session_log.specs.Soundness.{all_differ, same_ticket_key, tickets};
 ghost use Rattle.session_memory.specs.Lookups.{session_in, status_in, xid_for, ticket_leg, call_leg, branches_in, leg_with, has_ticket, xid_of};
 ghost use Rattle.session_memory.specs.Holding.{held_in};
-ghost use Rattle.session_memory.specs.Changes.{is_begin, is_new, is_open, may_come, after, granted_record, turns};
+ghost use Rattle.session_memory.specs.Changes.{is_begin, is_new, is_open, may_come, after, granted_record, turns, MayTake, TakesIn};
 ghost use Rattle.session_memory.specs.Order.{IsCounted};
 ghost use Rattle.session_memory.specs.Answers.{Grants};
 ghost use Rattle.session_memory.specs.Loading.{LoadsSnapshot};
@@ -404,10 +404,8 @@ impl Memory {
         hold: &[RowKey],
         steps: &mut Steps<L>,
     ) -> Result<(), NoMemory>
-        requires allowed { may_come self.old (granted_record xid branch.0 place hold.now) ≡ true }
-        requires room { self.old.acts + 1 < 2 ^ 32 }
-        ensures ok { OnOk result (self.new ≡ after (granted_record xid branch.0 place hold.now) self.old) }
-        ensures err { OnErr result (self.new ≡ self.old) }
+        requires { MayTake self.old (granted_record xid branch.0 place hold.now) }
+        ensures { TakesIn (granted_record xid branch.0 place hold.now) result self.old self.new }
     {
         match self.register(alloc, xid, place, hold, &[], steps) {
             Ok(()) => Ok(()),
@@ -426,8 +424,7 @@ impl Memory {
     ) -> Result<(), NoMemory>
         requires next { xid.0 ≡ self.old.begun + 1 }
         requires room { self.old.acts + 1 < 2 ^ 32 }
-        ensures ok { OnOk result (self.new ≡ after (log.Begun xid manager begun timeout) self.old) }
-        ensures err { OnErr result (self.new ≡ self.old) }
+        ensures { TakesIn (log.Begun xid manager begun timeout) result self.old self.new }
     {
         let _next = self.next_xid();
         snapshots::begin(alloc, &mut self.snapshot, xid, manager, begun, timeout)
@@ -436,8 +433,7 @@ impl Memory {
     // A transaction is known no more, and holds nothing.
     fn forget(&mut self, alloc: Global, xid: Xid) -> Result<(), NoMemory>
         requires room { self.old.acts + 1 < 2 ^ 32 }
-        ensures ok { OnOk result (self.new ≡ after (log.Forgot xid) self.old) }
-        ensures err { OnErr result (self.new ≡ self.old) }
+        ensures { TakesIn (log.Forgot xid) result self.old self.new }
     {
         snapshots::forget(alloc, &mut self.snapshot, &mut self.owners, xid)?;
         self.locks.release_all(xid);
@@ -447,10 +443,8 @@ impl Memory {
     // A record changes its transaction, and registers no branch.
     fn turn(&mut self, alloc: Global, item: &SessionRecord) -> Result<(), NoMemory>
         requires turns { turns item.now ≡ true }
-        requires allowed { may_come self.old item.now ≡ true }
-        requires room { self.old.acts + 1 < 2 ^ 32 }
-        ensures ok { OnOk result (self.new ≡ after item.now self.old) }
-        ensures err { OnErr result (self.new ≡ self.old) }
+        requires may { MayTake self.old item.now }
+        ensures { TakesIn item.now result self.old self.new }
     {
         snapshots::turn(alloc, &mut self.snapshot, item);
         allowing::give_back(&mut self.locks, item);

@@ -1,7 +1,7 @@
 //! Calls of a memory whose comparisons nobody counts. The others are methods of `Memory`.
 ghost use Rattle.std.specs.Prelude.{◌≡◌, ◌<◌, ◌+◌, ◌^◌, true, OnOk, OnErr};
 ghost use Rattle.session_log.specs.Soundness.{all_differ, same_ticket_key, tickets};
-ghost use Rattle.session_memory.specs.Changes.{after, may_come};
+ghost use Rattle.session_memory.specs.Changes.{after, may_come, MayTake, TakesIn};
 ghost use Rattle.session_memory.specs.Loading.{LoadsSnapshot};
 ghost use Rattle.session_memory.specs.Order.{IsCounted};
 
@@ -41,10 +41,8 @@ fn apply_by<L: Ledger>(
     requires name { blank.name ≡ L.name }
     requires parts { blank.parts ≡ L.parts }
     requires some { 0 < blank.parts }
-    requires allowed { may_come memory.old item.now ≡ true }
-    requires room { memory.old.acts + 1 < 2 ^ 32 }
-    ensures ok { OnOk result (memory.new ≡ after item.now memory.old) }
-    ensures err { OnErr result (memory.new ≡ memory.old) }
+    requires may { MayTake memory.old item.now }
+    ensures { TakesIn item.now result memory.old memory.new }
 {
     let mut steps = Steps::<L>::new(blank);
     memory.apply(alloc, item, &mut steps)
