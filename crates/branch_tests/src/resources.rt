@@ -1,6 +1,6 @@
 //! A resource with the table acc and the row (1, 1000) at its opening, on two disks, and the records of what its calls do.
 ghost use Rattle.std.specs.Prelude.{◌≡◌, ◌≤◌, true, length, Ok, IfOk};
-ghost use Rattle.seata_types.specs.declared.limits.TheConstants.{BODY_BYTES};
+ghost use Rattle.seata_types.specs.declared.limits.TheConstants.{BODY_BYTES, FIELD_ITEMS};
 ghost use Rattle.resource_log.specs.Records.{FitsRecord, record_bytes};
 ghost use Rattle.local_tables.specs.Calls.{effect};
 ghost use Rattle.local_tables.specs.declared.schemas.Effect.{Effect as Found};
@@ -15,7 +15,7 @@ use durable_records::ResourceRecord;
 use local_tables::{EffectError, Schema};
 use resource_log::{read_record, write_record};
 use resource_store::Store;
-use seata_types::limits::BODY_BYTES;
+use seata_types::limits::{BODY_BYTES, FIELD_ITEMS};
 use seata_types::{Image, List, Row, Stmt, Text, Value};
 use std::alloc::Global;
 use std::test::Fail;
@@ -129,10 +129,10 @@ pub fn record(alloc: Global, parts: &[&[u8]]) -> Result<ResourceRecord, Fail>
 
 /// Whether these images are those of the statements' effect now, if they have one.
 pub fn has_images(alloc: Global, store: &Resource, stmts: &[Stmt], images: &List<Image>) -> bool
-    ensures few { result ≡ true → length stmts.now ≤ 65535 }
+    ensures few { result ≡ true → length stmts.now ≤ FIELD_ITEMS }
     ensures same { result ≡ true → (e : Found) → effect (known store.now).tables stmts.now ≡ Ok e → e.images ≡ images.now }
 {
-    if stmts.len() > 65535 {
+    if stmts.len() > FIELD_ITEMS {
         return false;
     }
     match store.tables().effect(alloc, stmts) {

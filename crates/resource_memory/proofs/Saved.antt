@@ -203,7 +203,7 @@ saved_keys resource schema (e ∷ es) all =
     ap (λ (o : Option (RowKey × Row)). option_and_then (λ y. option_map (λ ys. y ∷ ys) (row_keys resource schema (map named_row es))) (option_map entry_key o)) all.0
     ∙ ap (λ (o : Option (List RowKey)). option_map (λ ys. e.0 ∷ ys) o) (saved_keys resource schema es all.1)
 
-pub saved_sound : (k : Known) → IsKept k → k.acts < 2 ^ 31 → is_sound k.tables.resource k.tables.schema (snapshot_in k) ≡ true
+pub saved_sound : (k : Known) → IsKept k → k.acts < ACTS → is_sound k.tables.resource k.tables.schema (snapshot_in k) ≡ true
 unfolding is_sound
 saved_sound k kept few =
     and_from _ _ (and_from _ _ (lt-ltb k.acts ACTS few) (le-leb k.boots k.acts kept.counted))
@@ -239,10 +239,10 @@ fence_items_order : (calls : Calls) (fences : Fences) → IsStrictlySortedBy leg
 fence_items_order calls fences s =
     order_from_sorted leg_cmp pair_total item_pair (map (fence_item calls) fences) (subst (λ (ks : List (ℕ × ℕ)). IsStrictlySortedBy leg_cmp ks) (sym (fence_pairs calls fences)) s)
 
-below_more : (n : ℕ) → n < 2 ^ 31 → n < 2 ^ 32
+below_more : (n : ℕ) → n < ACTS → n < 2 ^ 32
 below_more n e = omega arith
 
-below_both : (b n : ℕ) → b ≤ n → n < 2 ^ 31 → b < 2 ^ 32
+below_both : (b n : ℕ) → b ≤ n → n < ACTS → b < 2 ^ 32
 below_both b n le e = omega arith
 
 saved_fits : (k : Known) → IsKept k → FitsParts k → HasCounts k → FitsSnapshot (snapshot_in k)

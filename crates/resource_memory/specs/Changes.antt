@@ -1,6 +1,7 @@
 -- What one more record does to what a resource knows, and when it may come.
-use Rattle.std.specs.Prelude.{ℕ, ◌+◌, ◌==◌, ◌&&◌, nat_le, Bool, true, false, List, [], length, Option, Some, None, is_none}
+use Rattle.std.specs.Prelude.{◌≡◌, ℕ, ◌+◌, ◌<◌, ◌^◌, ◌==◌, ◌&&◌, nat_le, Bool, true, false, List, [], length, Option, Some, None, is_none, Result, OnOk, OnErr}
 use Rattle.std.specs.List.{list_all}
+use Rattle.seata_types.specs.declared.copies.NoMemory.{NoMemory}
 use Rattle.seata_types.specs.declared.ids.Leg.{Leg}
 use Rattle.seata_types.specs.declared.limits.TheConstants.{CALL_ROWS}
 use Rattle.seata_types.specs.declared.rows.Image.{Image}
@@ -127,3 +128,15 @@ after (log.Cancelled xid branch images) k = with_ran k (leg_of xid branch) IsRol
 after (log.Suspended xid branch) k = record k { acts = k.acts + 1; fences = with_fence xid.0 branch.0 IsSuspended k.fences }
 after (log.LocalCommitted number images) k = with_rows k images
 after (log.Outside number images) k = with_rows k images
+
+-- ---- taking it in
+
+-- a record that may be taken in: it may come, and there is room to count it
+pub record MayTake (k : Known) (r : ResourceRecord) : Type 0 where
+  pub allowed : may_come k r ≡ true
+  pub room : k.acts + 1 < 2 ^ 32
+
+-- after Ok what is known is that with the record, after an error it is as before
+pub record TakesIn (r : ResourceRecord) (result : Result (Unit {0}) NoMemory) (old new : Known) : Type 0 where
+  pub ok : OnOk result (new ≡ after r old)
+  pub err : OnErr result (new ≡ old)

@@ -4,6 +4,7 @@ use Rattle.std.specs.List.{AllByRecursion}
 use Rattle.std.specs.List.Sorted.{IsStrictlySortedBy}
 use Rattle.std.specs.Map.{lookup, keys_of}
 use Rattle.seata_types.specs.declared.ids.Leg.{Leg}
+use Rattle.seata_types.specs.declared.limits.TheConstants.{ACTS}
 use Rattle.byte_fields.specs.declared.layouts.KeyLayout.TheVariants as layout
 use Rattle.byte_fields.specs.Parts.{FitsLeg, FitsNamedRow}
 use Rattle.local_tables.specs.Rows.{Database}
@@ -65,7 +66,7 @@ has_room k = nat_lt (length k.tables.rows) (2 ^ 32) && (nat_lt (length k.undo_lo
 
 -- fewer acts than a snapshot stands for, and no list is longer than it counts
 pub record HasCounts (k : Known) : Type 0 where
-  pub acts : k.acts < 2 ^ 31
+  pub acts : k.acts < ACTS
   pub rows : length k.tables.rows < 2 ^ 32
   pub undos : length k.undo_log < 2 ^ 32
   pub fences : length k.fences < 2 ^ 32

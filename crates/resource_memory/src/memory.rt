@@ -1,13 +1,13 @@
 //! The memory of a resource.
-ghost use Rattle.std.specs.Prelude.{◌≡◌, ◌<◌, ◌+◌, ◌^◌, ◌&&◌, ◌==◌, [], not, true, IfOk, OnOk, OnErr};
+ghost use Rattle.std.specs.Prelude.{◌≡◌, ◌<◌, ◌+◌, ◌^◌, [], true, IfOk, OnOk, OnErr};
 ghost use Rattle.durable_records.specs.declared.resources.ResourceRecord.TheVariants as log;
 ghost use Rattle.local_tables.specs.Rows.{IsOpening, opened};
 ghost use Rattle.resource_log.specs.Snapshots.{FitsSnapshot, snapshot_bytes};
 ghost use Rattle.resource_log.specs.Records.{leg_of};
 ghost use Rattle.resource_log.specs.Soundness.{is_sound};
 ghost use Rattle.tcc_fence.specs.Meanings.{answer_of};
-ghost use Rattle.resource_memory.specs.Known.{Known, known_of};
-ghost use Rattle.resource_memory.specs.Changes.{after, may_come, has_no_entry, has_undo_record, runs, suspends, fit};
+ghost use Rattle.resource_memory.specs.Known.{known_of};
+ghost use Rattle.resource_memory.specs.Changes.{after, may_come, has_no_entry, has_undo_record, runs, suspends, fit, MayTake, TakesIn};
 ghost use Rattle.resource_memory.specs.Keeping.{IsKept, has_room};
 ghost use Rattle.resource_memory.specs.Lookups.{tried_leg};
 ghost use Rattle.resource_memory.specs.Snapshots.{snapshot_in, known_in};
@@ -286,10 +286,8 @@ impl Memory {
     }
 
     fn boot(&mut self, number: u32) -> Result<(), NoMemory>
-        requires allowed { may_come self.old (log.Boot number) ≡ true }
-        requires room { self.old.acts + 1 < 2 ^ 32 }
-        ensures ok { OnOk result (self.new ≡ after (log.Boot number) self.old) }
-        ensures err { OnErr result (self.new ≡ self.old) }
+        requires { MayTake self.old (log.Boot number) }
+        ensures { TakesIn (log.Boot number) result self.old self.new }
     {
         self.acts += 1;
         self.boots = number;
@@ -328,10 +326,8 @@ impl Memory {
         images: List<Image>,
         reads: List<ReadRow>,
     ) -> Result<(), NoMemory>
-        requires allowed { may_come self.old (log.Committed xid branch call images reads) ≡ true }
-        requires room { self.old.acts + 1 < 2 ^ 32 }
-        ensures ok { OnOk result (self.new ≡ after (log.Committed xid branch call images reads) self.old) }
-        ensures err { OnErr result (self.new ≡ self.old) }
+        requires { MayTake self.old (log.Committed xid branch call images reads) }
+        ensures { TakesIn (log.Committed xid branch call images reads) result self.old self.new }
     {
         let leg = Leg { xid, branch };
         parts::commit(
@@ -357,20 +353,16 @@ impl Memory {
         images: &List<Image>,
         reads: &List<ReadRow>,
     ) -> Result<(), NoMemory>
-        requires allowed { may_come self.old (log.Committed xid branch call images.now reads.now) ≡ true }
-        requires room { self.old.acts + 1 < 2 ^ 32 }
-        ensures ok { OnOk result (self.new ≡ after (log.Committed xid branch call images.now reads.now) self.old) }
-        ensures err { OnErr result (self.new ≡ self.old) }
+        requires { MayTake self.old (log.Committed xid branch call images.now reads.now) }
+        ensures { TakesIn (log.Committed xid branch call images.now reads.now) result self.old self.new }
     {
         let (images, reads) = (images.copy(alloc)?, reads.copy(alloc)?);
         self.commit(alloc, xid, branch, call, images, reads)
     }
 
     fn undo(&mut self, alloc: Global, xid: Xid, branch: BranchId) -> Result<(), NoMemory>
-        requires allowed { may_come self.old (log.Undone xid branch) ≡ true }
-        requires room { self.old.acts + 1 < 2 ^ 32 }
-        ensures ok { OnOk result (self.new ≡ after (log.Undone xid branch) self.old) }
-        ensures err { OnErr result (self.new ≡ self.old) }
+        requires { MayTake self.old (log.Undone xid branch) }
+        ensures { TakesIn (log.Undone xid branch) result self.old self.new }
     {
         let leg = Leg { xid, branch };
         parts::undo(alloc, &mut self.tables, &mut self.undo_log, leg)?;
@@ -379,10 +371,8 @@ impl Memory {
     }
 
     fn mark(&mut self, xid: Xid, branch: BranchId) -> Result<(), NoMemory>
-        requires allowed { may_come self.old (log.Marked xid branch) ≡ true }
-        requires room { self.old.acts + 1 < 2 ^ 32 }
-        ensures ok { OnOk result (self.new ≡ after (log.Marked xid branch) self.old) }
-        ensures err { OnErr result (self.new ≡ self.old) }
+        requires { MayTake self.old (log.Marked xid branch) }
+        ensures { TakesIn (log.Marked xid branch) result self.old self.new }
     {
         let leg = Leg { xid, branch };
         parts::enter(&mut self.undo_log, leg, UndoEntry::Finished)?;
@@ -391,10 +381,8 @@ impl Memory {
     }
 
     fn clear(&mut self, xid: Xid, branch: BranchId) -> Result<(), NoMemory>
-        requires allowed { may_come self.old (log.Cleared xid branch) ≡ true }
-        requires room { self.old.acts + 1 < 2 ^ 32 }
-        ensures ok { OnOk result (self.new ≡ after (log.Cleared xid branch) self.old) }
-        ensures err { OnErr result (self.new ≡ self.old) }
+        requires { MayTake self.old (log.Cleared xid branch) }
+        ensures { TakesIn (log.Cleared xid branch) result self.old self.new }
     {
         drop(self.undo_log.remove(Leg { xid, branch }));
         self.acts += 1;
@@ -409,10 +397,8 @@ impl Memory {
         call: u16,
         images: &List<Image>,
     ) -> Result<(), NoMemory>
-        requires allowed { may_come self.old (log.Tried xid branch call images.now) ≡ true }
-        requires room { self.old.acts + 1 < 2 ^ 32 }
-        ensures ok { OnOk result (self.new ≡ after (log.Tried xid branch call images.now) self.old) }
-        ensures err { OnErr result (self.new ≡ self.old) }
+        requires { MayTake self.old (log.Tried xid branch call images.now) }
+        ensures { TakesIn (log.Tried xid branch call images.now) result self.old self.new }
     {
         let leg = Leg { xid, branch };
         parts::run_try(
@@ -435,10 +421,8 @@ impl Memory {
         branch: BranchId,
         images: &List<Image>,
     ) -> Result<(), NoMemory>
-        requires allowed { may_come self.old (log.Confirmed xid branch images.now) ≡ true }
-        requires room { self.old.acts + 1 < 2 ^ 32 }
-        ensures ok { OnOk result (self.new ≡ after (log.Confirmed xid branch images.now) self.old) }
-        ensures err { OnErr result (self.new ≡ self.old) }
+        requires { MayTake self.old (log.Confirmed xid branch images.now) }
+        ensures { TakesIn (log.Confirmed xid branch images.now) result self.old self.new }
     {
         let leg = Leg { xid, branch };
         let rows = images.as_slice();
@@ -455,10 +439,8 @@ impl Memory {
         branch: BranchId,
         images: &List<Image>,
     ) -> Result<(), NoMemory>
-        requires allowed { may_come self.old (log.Cancelled xid branch images.now) ≡ true }
-        requires room { self.old.acts + 1 < 2 ^ 32 }
-        ensures ok { OnOk result (self.new ≡ after (log.Cancelled xid branch images.now) self.old) }
-        ensures err { OnErr result (self.new ≡ self.old) }
+        requires { MayTake self.old (log.Cancelled xid branch images.now) }
+        ensures { TakesIn (log.Cancelled xid branch images.now) result self.old self.new }
     {
         let leg = Leg { xid, branch };
         let rows = images.as_slice();
@@ -469,10 +451,8 @@ impl Memory {
     }
 
     fn suspend(&mut self, xid: Xid, branch: BranchId) -> Result<(), NoMemory>
-        requires allowed { may_come self.old (log.Suspended xid branch) ≡ true }
-        requires room { self.old.acts + 1 < 2 ^ 32 }
-        ensures ok { OnOk result (self.new ≡ after (log.Suspended xid branch) self.old) }
-        ensures err { OnErr result (self.new ≡ self.old) }
+        requires { MayTake self.old (log.Suspended xid branch) }
+        ensures { TakesIn (log.Suspended xid branch) result self.old self.new }
     {
         let leg = Leg { xid, branch };
         self.fence.set(leg, FenceStatus::Suspended)?;
@@ -486,10 +466,8 @@ impl Memory {
         number: u16,
         images: &List<Image>,
     ) -> Result<(), NoMemory>
-        requires allowed { may_come self.old (log.LocalCommitted number images.now) ≡ true }
-        requires room { self.old.acts + 1 < 2 ^ 32 }
-        ensures ok { OnOk result (self.new ≡ after (log.LocalCommitted number images.now) self.old) }
-        ensures err { OnErr result (self.new ≡ self.old) }
+        requires { MayTake self.old (log.LocalCommitted number images.now) }
+        ensures { TakesIn (log.LocalCommitted number images.now) result self.old self.new }
     {
         self.tables.apply(alloc, images.as_slice(), Way::Do)?;
         self.acts += 1;
@@ -502,10 +480,8 @@ impl Memory {
         number: u16,
         images: &List<Image>,
     ) -> Result<(), NoMemory>
-        requires allowed { may_come self.old (log.Outside number images.now) ≡ true }
-        requires room { self.old.acts + 1 < 2 ^ 32 }
-        ensures ok { OnOk result (self.new ≡ after (log.Outside number images.now) self.old) }
-        ensures err { OnErr result (self.new ≡ self.old) }
+        requires { MayTake self.old (log.Outside number images.now) }
+        ensures { TakesIn (log.Outside number images.now) result self.old self.new }
     {
         self.tables.apply(alloc, images.as_slice(), Way::Do)?;
         self.acts += 1;

@@ -96,10 +96,9 @@ fn add_ref<L: Ledger>(
     item: &SessionRecord,
     steps: &mut Steps<L>,
 ) -> bool {
-    if memory.snapshot().acts > 100 {
-        return false;
-    }
-    memory.allows(item, steps) && memory.apply(alloc, item, steps).is_ok()
+    memory.snapshot().acts <= 100
+        && memory.allows(item, steps)
+        && memory.apply(alloc, item, steps).is_ok()
 }
 
 /// Takes a record in, where it may come.
@@ -123,9 +122,9 @@ fn add_granted<L: Ledger>(
     let Ok(key) = row(alloc) else {
         return false;
     };
-    if rows.push(key).is_err() {
+    let Ok(()) = rows.push(key) else {
         return false;
-    }
+    };
     add(alloc, memory, granted(number, List::of(rows)), steps)
 }
 

@@ -3,6 +3,7 @@ ghost use Rattle.std.specs.Prelude.{◌≡◌, []};
 
 use crate::tellings::{tell_effect, tell_error};
 use local_tables::{ColType, Schema, TableDef, Tables, Way};
+use seata_types::limits::FIELD_ITEMS;
 use seata_types::{BranchKind, List, Row, RowKey, Stmt, Text, Value};
 use sql_reader::read_stmt;
 use std::alloc::Global;
@@ -72,7 +73,7 @@ fn tried(
     stmts: &[Stmt],
     is_kept: bool,
 ) -> Result<String, Fail> {
-    if stmts.len() > 65535 {
+    if stmts.len() > FIELD_ITEMS {
         return Err(Fail::from("too many statements"));
     }
     match tables.effect(alloc, stmts) {
