@@ -1,5 +1,5 @@
 //! Writes statements.
-ghost use Rattle.std.specs.Prelude.{◌≡◌, ◌<◌, ◌≤◌, ◌+◌, ◌*◌, ◌∷◌, ◌++◌, [], ◌||◌, OnOk, IfOk, string_bytes, Ok};
+ghost use Rattle.std.specs.Prelude.{List as Items, ◌≡◌, ◌<◌, ◌≤◌, ◌+◌, ◌*◌, ◌∷◌, ◌++◌, [], ◌||◌, OnOk, IfOk, string_bytes, Ok};
 ghost use Rattle.seata_types.specs.Condition.{nodes};
 ghost use Rattle.sql_reader.specs.Pending.{stacked, turns};
 ghost use Rattle.sql_reader.specs.Canonical as spec;
@@ -173,82 +173,69 @@ fn filter(alloc: Global, writer: &mut Writer, cond: &Option<Cond>) -> Result<(),
     Ok(())
 }
 
-#[tactic(auto, unfolding(crate::specs::Canonical::assignment_pieces))]
-fn assignment(writer: &mut Writer, set: &(Text, Expr)) -> Result<(), NoMemory>
-    ensures { OnOk result (writer.new ≡ written writer.old (spec.assignment_pieces set.now)) }
-{
-    writer.name(set.0.as_str())?;
-    writer.symbol(Symbol::Equal)?;
-    expr(writer, &set.1)?;
-    Ok(())
+/// An item of a list, which can be written.
+trait Writable {
+    // its pieces
+    ghost pieces: { Self → Items spec.Piece };
+
+    /// Writes its pieces.
+    fn write(&self, writer: &mut Writer) -> Result<(), NoMemory>
+        ensures { OnOk result (writer.new ≡ written writer.old (pieces self.now)) };
 }
 
-fn names(writer: &mut Writer, names: &[Text]) -> Result<(), NoMemory>
-    ensures { OnOk result (writer.new ≡ written writer.old (spec.comma_separated (λ n. spec.Name n ∷ []) names.now)) }
+/// Items, with commas between.
+fn separated<T: Writable>(writer: &mut Writer, items: &[T]) -> Result<(), NoMemory>
+    ensures { OnOk result (writer.new ≡ written writer.old (spec.comma_separated T.pieces items.now)) }
 {
-    let [first, rest @ ..] = names else {
+    let [first, rest @ ..] = items else {
         return Ok(());
     };
-    writer.name(first.as_str())?;
-    for name in rest {
-        writer.symbol(Symbol::Comma)?;
-        writer.name(name.as_str())?;
-    }
-    Ok(())
-}
-
-fn values(writer: &mut Writer, values: &[Value]) -> Result<(), NoMemory>
-    ensures { OnOk result (writer.new ≡ written writer.old (spec.comma_separated (λ v. spec.value_piece v ∷ []) values.now)) }
-{
-    let [first, rest @ ..] = values else {
-        return Ok(());
-    };
-    value(writer, first)?;
+    first.write(writer)?;
     for next in rest {
         writer.symbol(Symbol::Comma)?;
-        value(writer, next)?;
+        next.write(writer)?;
     }
     Ok(())
+}
+
+impl Writable for Text {
+    ghost pieces = { λ n. spec.Name n ∷ [] };
+
+    fn write(&self, writer: &mut Writer) -> Result<(), NoMemory> {
+        writer.name(self.as_str())
+    }
+}
+
+impl Writable for Value {
+    ghost pieces = { λ v. spec.value_piece v ∷ [] };
+
+    fn write(&self, writer: &mut Writer) -> Result<(), NoMemory> {
+        value(writer, self)
+    }
 }
 
 #[tactic(auto, using(crate::proofs::Written::written_append), unfolding(crate::specs::Canonical::tuple_pieces))]
-fn tuple(writer: &mut Writer, tuple: &List<Value>) -> Result<(), NoMemory>
-    ensures { OnOk result (writer.new ≡ written writer.old (spec.tuple_pieces tuple.now)) }
-{
-    writer.symbol(Symbol::Open)?;
-    values(writer, tuple.as_slice())?;
-    writer.symbol(Symbol::Close)?;
-    Ok(())
+impl Writable for List<Value> {
+    ghost pieces = { spec.tuple_pieces };
+
+    fn write(&self, writer: &mut Writer) -> Result<(), NoMemory> {
+        writer.symbol(Symbol::Open)?;
+        separated(writer, self.as_slice())?;
+        writer.symbol(Symbol::Close)?;
+        Ok(())
+    }
 }
 
-#[tactic(auto, using(crate::proofs::Written::written_append))]
-fn tuples(writer: &mut Writer, tuples: &[List<Value>]) -> Result<(), NoMemory>
-    ensures { OnOk result (writer.new ≡ written writer.old (spec.comma_separated spec.tuple_pieces tuples.now)) }
-{
-    let [first, rest @ ..] = tuples else {
-        return Ok(());
-    };
-    tuple(writer, first)?;
-    for next in rest {
-        writer.symbol(Symbol::Comma)?;
-        tuple(writer, next)?;
-    }
-    Ok(())
-}
+#[tactic(auto, unfolding(crate::specs::Canonical::assignment_pieces))]
+impl Writable for (Text, Expr) {
+    ghost pieces = { spec.assignment_pieces };
 
-#[tactic(auto, using(crate::proofs::Written::written_append))]
-fn assignments(writer: &mut Writer, sets: &[(Text, Expr)]) -> Result<(), NoMemory>
-    ensures { OnOk result (writer.new ≡ written writer.old (spec.comma_separated spec.assignment_pieces sets.now)) }
-{
-    let [first, rest @ ..] = sets else {
-        return Ok(());
-    };
-    assignment(writer, first)?;
-    for next in rest {
-        writer.symbol(Symbol::Comma)?;
-        assignment(writer, next)?;
+    fn write(&self, writer: &mut Writer) -> Result<(), NoMemory> {
+        writer.name(self.0.as_str())?;
+        writer.symbol(Symbol::Equal)?;
+        expr(writer, &self.1)?;
+        Ok(())
     }
-    Ok(())
 }
 
 #[tactic(auto, using(crate::proofs::Written::written_append), unfolding(crate::specs::Canonical::pieces))]
@@ -265,16 +252,16 @@ fn statement(alloc: Global, writer: &mut Writer, stmt: &Stmt) -> Result<(), NoMe
             writer.symbol(Symbol::Into)?;
             writer.name(table.as_str())?;
             writer.symbol(Symbol::Open)?;
-            names(writer, columns.as_slice())?;
+            separated(writer, columns.as_slice())?;
             writer.symbol(Symbol::Close)?;
             writer.symbol(Symbol::Values)?;
-            tuples(writer, rows.as_slice())?;
+            separated(writer, rows.as_slice())?;
         }
         Stmt::Update { table, sets, cond } => {
             writer.symbol(Symbol::Update)?;
             writer.name(table.as_str())?;
             writer.symbol(Symbol::Set)?;
-            assignments(writer, sets.as_slice())?;
+            separated(writer, sets.as_slice())?;
             filter(alloc, writer, cond)?;
         }
         Stmt::Delete { table, cond } => {
