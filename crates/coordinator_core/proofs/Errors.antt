@@ -26,7 +26,7 @@ use Rattle.coordinator_core.specs.Plain.{is_failure, node_error}
 use Rattle.coordinator_core.specs.Knowledge.{Knowledge, knowledge, memory}
 use Rattle.coordinator_core.specs.Changes.{prepared, settled, GivesUp, IsPlannedFor, IsMade, Makes}
 use Rattle.coordinator_core.specs.Tracks.{Course}
-use Rattle.coordinator_core.specs.Answers.{IsAnswered, WouldMake, Puts, PutsWhere, AnswersWhere, IsUnmade}
+use Rattle.coordinator_core.specs.Answers.{IsAnswered, WouldMake, Puts, PutsWhere, AnswersWhere, Answers, IsUnmade}
 
 -- what is known after a record that may come
 abbrev would_know : Knowledge → SessionRecord → ℕ → Knowledge
@@ -41,11 +41,11 @@ pub would : (Applies : Course → Type 0) (old new : Knowledge) (given : Input) 
 would Applies old new given now step done r durable asked answered = record { step = step; durable = durable; asked = asked; answered = answered }
 
 module _ {D : Type 0} (state : D → DiskState) (Applies : Course → Type 0) (old new : Table D) (given : Input) (now : ℕ) (r : SessionRecord) where
-  -- a step ends with the error of its record, whatever act it has by what would be known
-  pub unmade_by : (at : Knowledge → Durable) → ((k : Knowledge) → Makes (knowledge old) k r now → WouldMake Applies (knowledge old) k given now (at k) r)
+  -- the answer of a step that ends with the error of its record, whatever act it has by what would be known
+  unmade_where : (at : Knowledge → Durable) → ((k : Knowledge) → Makes (knowledge old) k r now → WouldMake Applies (knowledge old) k given now (at k) r)
       → (error : StoreError) → IsUnmade state old new r now error → AnswersWhere state Applies old new given now (Err (node_error error (at (knowledge new))))
-  unmade_by at due store_error.Failed u = record { r = r; due = due (knowledge new) u.0; loses = u.1 }
-  unmade_by at due (store_error.Full full) u = record {
+  unmade_where at due store_error.Failed u = record { r = r; due = due (knowledge new) u.0; loses = u.1 }
+  unmade_where at due (store_error.Full full) u = record {
     done = at (would_know (knowledge old) r now);
     r = r;
     after = would_know (knowledge old) r now;
@@ -54,12 +54,17 @@ module _ {D : Type 0} (state : D → DiskState) (Applies : Course → Type 0) (o
     unanswered = u.2;
     sessions = u.3;
   }
-  unmade_by at due store_error.NoMemory u = u
+  unmade_where at due store_error.NoMemory u = u
+
+  -- such a step, which sends nothing
+  pub unmade_by : (at : Knowledge → Durable) → ((k : Knowledge) → Makes (knowledge old) k r now → WouldMake Applies (knowledge old) k given now (at k) r)
+      → (error : StoreError) → IsUnmade state old new r now error → Answers state Applies old new given now (Err (node_error error (at (knowledge new))))
+  unmade_by at due error u = record { answers = unmade_where at due error u; framable = λ f. tt; named = λ n. tt }
 
   -- the same with one act
   pub unmade : (at : Durable) → ((k : Knowledge) → Makes (knowledge old) k r now → WouldMake Applies (knowledge old) k given now at r)
-      → (error : StoreError) → IsUnmade state old new r now error → (result : NodeError) → result ≡ node_error error at → AnswersWhere state Applies old new given now (Err result)
-  unmade at due error u result is = subst (λ e. AnswersWhere state Applies old new given now (Err e)) (sym is) (unmade_by (λ k. at) due error u)
+      → (error : StoreError) → IsUnmade state old new r now error → (result : NodeError) → result ≡ node_error error at → Answers state Applies old new given now (Err result)
+  unmade at due error u result is = subst (λ e. Answers state Applies old new given now (Err e)) (sym is) (unmade_by (λ k. at) due error u)
 
 -- ---- a record that may come
 

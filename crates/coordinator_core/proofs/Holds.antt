@@ -26,7 +26,7 @@ use Rattle.session_store.specs.declared.errors.RegisterError.TheVariants as regi
 use Rattle.session_store.specs.declared.sessions.Sessions.{Sessions}
 use Rattle.session_store.specs.Keeping.{known, managers_of, resources_of, Fails, Registers, register_record}
 use Rattle.coordinator_core.specs.declared.table.Table.{Table}
-use Rattle.coordinator_core.specs.Answers.{Always, AnswersWhere, IsAnswered, WouldMake, IsUnmade, Frames, Names}
+use Rattle.coordinator_core.specs.Answers.{Always, Answers, AnswersWhere, IsAnswered, WouldMake, IsUnmade}
 use Rattle.coordinator_core.specs.Changes.{Makes}
 use Rattle.coordinator_core.specs.Choices.{has_passed_in, leg_in, is_rolling}
 use Rattle.coordinator_core.specs.Knowledge.{Knowledge, knowledge, memory}
@@ -93,26 +93,26 @@ module _ {D : Type 0} (state : D → DiskState) (t : Table D) (s : Sessions D) (
   due free k m = would Always (knowledge t) k given now done (durable.Granted xid next) item refl refl
       (granted_answered (knowledge t) now in_time done from xid p hold check new begins timely k next refl free m.memory (m.moments tt) m.same refl)
 
-  store_error_by : (failed : StoreError) → Whole failed → AnswersWhere state Always t t' given now (Err (node_error failed (durable.Granted xid next)))
+  store_error_by : (failed : StoreError) → Whole failed → Answers state Always t t' given now (Err (node_error failed (durable.Granted xid next)))
   store_error_by store_error.Failed w = unmade_by state Always t t' given now item (λ k. durable.Granted xid next) (due (w.0 (λ e. absurd cc))) store_error.Failed (unmade_here store_error.Failed w)
   store_error_by (store_error.Full full) w = unmade_by state Always t t' given now item (λ k. durable.Granted xid next) (due (w.0 (λ e. absurd cc))) (store_error.Full full) (unmade_here (store_error.Full full) w)
-  store_error_by store_error.NoMemory w = unmade_here store_error.NoMemory w
+  store_error_by store_error.NoMemory w = record { answers = unmade_here store_error.NoMemory w; framable = λ f. tt; named = λ n. tt }
 
   held_by : (key : RowKey) (by : Xid) (result : Result Step NodeError) → first_held (held_in (memory t)) xid (hold ++ check) ≡ Some (key, by) → s ≡ t.sessions → TellsHeld (known s) xid p key by result
-      → AnswersWhere state Always t t' given now result × Frames given result × Names t given result
+      → Answers state Always t t' given now result
   held_by key by (Ok step) there same told =
-      let is : step ≡ conflict_step p xid key by (is_rolling (status_in (memory t) by.0)) = told.0 ∙ ap (λ q. conflict_step p xid key by (is_rolling (status_in (known q) by.0))) same in (
-        answers_quiet state Always t t' given now step
+      let is : step ≡ conflict_step p xid key by (is_rolling (status_in (memory t) by.0)) = told.0 ∙ ap (λ q. conflict_step p xid key by (is_rolling (status_in (known q) by.0))) same in record {
+        answers = answers_quiet state Always t t' given now step
             (subst (λ q. IsAnswered Always (knowledge t) (knowledge (with_sessions t q)) given now step) (sym same) (conflict_answered (knowledge t) now in_time step from xid p hold check new begins timely key by there is))
-            (act.Conflict xid key by (is_rolling (status_in (memory t) by.0))) (conflict_step p xid key by (is_rolling (status_in (memory t) by.0))).sent is refl same,
-        (λ f. told.1 (conflict_framable (memory t) from xid p hold check key by there f)),
-        (λ n. conflict_named (memory t) (managers_of t.sessions) (resources_of t.sessions) from xid p hold check key by _ step there is n),
-      )
-  held_by key by (Err failed) there same told = (
-    subst (λ e. AnswersWhere state Always t t' given now (Err e)) (sym told) (unanswered_same (knowledge t) (knowledge t') (ap known same) refl refl refl, same),
-    (λ f. tt),
-    (λ n. tt),
-  )
+            (act.Conflict xid key by (is_rolling (status_in (memory t) by.0))) (conflict_step p xid key by (is_rolling (status_in (memory t) by.0))).sent is refl same;
+        framable = λ f. told.1 (conflict_framable (memory t) from xid p hold check key by there f);
+        named = λ n. conflict_named (memory t) (managers_of t.sessions) (resources_of t.sessions) from xid p hold check key by _ step there is n;
+      }
+  held_by key by (Err failed) there same told = record {
+    answers = subst (λ e. AnswersWhere state Always t t' given now (Err e)) (sym told) (unanswered_same (knowledge t) (knowledge t') (ap known same) refl refl refl, same);
+    framable = λ f. tt;
+    named = λ n. tt;
+  }
 
   -- a branch that is registered
   pub registered_answers : (branch answer : BranchId) (step : Step) → branch.0 ≡ (memory t).granted + 1 → Registers state item xid (hold ++ check) (Ok answer) t.sessions s → step ≡ granted_step p (record { xid = xid; branch = branch })
@@ -126,8 +126,8 @@ module _ {D : Type 0} (state : D → DiskState) (t : Table D) (s : Sessions D) (
 
   -- one that isn't
   pub refused_answers : (branch : BranchId) (failed : RegisterError) (result : Result Step NodeError) → branch.0 ≡ (memory t).granted + 1 → Registers state item xid (hold ++ check) (Err failed) t.sessions s
-      → Refuses (known s) xid p branch failed result → AnswersWhere state Always t t' given now result × Frames given result × Names t given result
+      → Refuses (known s) xid p branch failed result → Answers state Always t t' given now result
   refused_answers branch (register_error.Held key by) result number r told = held_by key by result r.0 r.1 told
   refused_answers branch (register_error.Store failed) result number r told =
       let is : result ≡ Err (node_error failed (durable.Granted xid next)) = told ∙ ap (λ b. failed_by failed b xid) (same_branch branch ((memory t).granted + 1) number) in
-      subst (λ q. AnswersWhere state Always t t' given now q × Frames given q × Names t given q) (sym is) (store_error_by failed r, (λ f. tt), (λ n. tt))
+      subst (λ q. Answers state Always t t' given now q) (sym is) (store_error_by failed r)

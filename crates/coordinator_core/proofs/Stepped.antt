@@ -29,7 +29,7 @@ use Rattle.history_text.specs.Promises.{TakesStep, FailsAt, StandsAsBefore, Over
 use Rattle.history_text.proofs.Places.{has_place}
 use Rattle.coordinator_core.specs.declared.nodes.Coordinator.{Coordinator}
 use Rattle.coordinator_core.specs.Knowledge.{Knowledge, SameTimes, knowledge, times_in}
-use Rattle.coordinator_core.specs.Answers.{is_answer, Frames, Names, IsWithin, IsUnanswered, IsCut, IsOver, Puts, AnswersWhere}
+use Rattle.coordinator_core.specs.Answers.{is_answer, IsWithin, IsUnanswered, IsCut, IsOver, Puts, AnswersWhere, Answers}
 use Rattle.coordinator_core.specs.Moving.{Misses}
 use Rattle.coordinator_core.specs.Standing.{StandsAs, StandsOver, OnDisks, course, active_of, disks_of, pair_of, sessions_of, start_of, is_down, needs, size_of, times_of}
 use Rattle.coordinator_core.specs.Tracks.{with_own, rule_answer, Follows}
@@ -300,20 +300,19 @@ module _ {D : Type 0} (state : D → DiskState) (law : (d : Stoppable D) → IsL
   up_after (act.Durable done) p = p.2.up
   up_after _ p = ap sessions_down p ∙ up
 
-  pub stepped : (step : Step) → AnswersWhere (state_of state) (IsWithin c.table) c.table c'.table given now (Ok step) → Frames given (Ok step) → Names c.table given (Ok step) → c'.left + 1 ≡ c.left
-      → StepsBy state c c' given now (Ok step)
-  stepped step a f n counted =
-      let remains = remains_put state (Given given) now step.act (sessions_of c) (sessions_of c') a.1 in record {
-        answers = takes_step state law c c' given now up clock step a;
-        framable = f;
-        named = n;
+  pub stepped : (step : Step) → Answers (state_of state) (IsWithin c.table) c.table c'.table given now (Ok step) → c'.left + 1 ≡ c.left → StepsBy state c c' given now (Ok step)
+  stepped step a counted =
+      let remains = remains_put state (Given given) now step.act (sessions_of c) (sessions_of c') a.answers.1 in record {
+        answers = takes_step state law c c' given now up clock step a.answers;
+        framable = a.framable;
+        named = a.named;
         after = tt;
-        room = room_taken state law c c' given now up clock step a;
-        placed = placed state law c c' given now up clock (room_taken state law c c' given now up clock step a);
+        room = room_taken state law c c' given now up clock step a.answers;
+        placed = placed state law c c' given now up clock (room_taken state law c c' given now up clock step a.answers);
         same = stays_itself state c c' remains;
         picks = same_picks state c c' remains;
         counted = counted;
-        down = up_after step.act a.1;
+        down = up_after step.act a.answers.1;
         opening = remains.opening;
       }
 

@@ -30,7 +30,7 @@ use Rattle.session_memory.proofs.Small.{false_true, true_false, and_left}
 use Rattle.session_memory.proofs.Lists.{and_false}
 use Rattle.coordinator_core.specs.Knowledge.{Knowledge, knowledge, times_in}
 use Rattle.coordinator_core.specs.declared.table.Table.{Table}
-use Rattle.coordinator_core.specs.Answers.{IsAnswered, WouldMake, AnswersWhere, Always}
+use Rattle.coordinator_core.specs.Answers.{IsAnswered, WouldMake, AnswersWhere, Answers, AnswersAs, Always}
 use Rattle.coordinator_core.specs.Changes.{IsMade, PlansAgain}
 use Rattle.coordinator_core.specs.Tracks.{Course, rule_answer, due_on, rests_on, Follows, records}
 use Rattle.coordinator_core.proofs.Kept.{may_by, may_is}
@@ -50,7 +50,7 @@ would_weaken : (P Q : Course → Type 0) (old new : Knowledge) (given : Input) (
 would_weaken P Q old new given now done r implies w =
     record { step = w.step; durable = w.durable; asked = w.asked; answered = weaken P Q old new given now w.step implies w.answered }
 
-pub weaken_result : {D : Type 0} (state : D → DiskState) (P Q : Course → Type 0) (old new : Table D) (given : Input) (now : ℕ) (result : Result Step NodeError)
+weaken_result : {D : Type 0} (state : D → DiskState) (P Q : Course → Type 0) (old new : Table D) (given : Input) (now : ℕ) (result : Result Step NodeError)
     → ((owns : Course) → Follows (knowledge old) owns → Q owns → P owns)
     → AnswersWhere state P old new given now result → AnswersWhere state Q old new given now result
 weaken_result state P Q old new given now (Ok step) implies a = (weaken P Q (knowledge old) (knowledge new) given now step implies a.0, a.1)
@@ -67,15 +67,34 @@ weaken_result state P Q old new given now (Err (error.Full full)) implies a = re
 }
 weaken_result state P Q old new given now (Err error.NoMemory) implies a = a
 
+pub weaken_answers : {D : Type 0} (state : D → DiskState) (P Q : Course → Type 0) (old new : Table D) (given : Input) (now : ℕ) (result : Result Step NodeError)
+    → ((owns : Course) → Follows (knowledge old) owns → Q owns → P owns)
+    → Answers state P old new given now result → Answers state Q old new given now result
+weaken_answers state P Q old new given now result implies a =
+    record { answers = weaken_result state P Q old new given now result implies a.answers; framable = a.framable; named = a.named }
+
 -- the rule's answer to this input is this step by the records
 abbrev pub RuleIs : (List SessionRecord → Step) → Knowledge → Input → ℕ → Course → Type 0
 RuleIs rule t given now owns = rule_answer (times_in t) owns now given ≡ rule (records owns)
 
 -- the same where two rules give one step
-pub same_rule : {D : Type 0} (state : D → DiskState) (rule other : List SessionRecord → Step) → ((rs : List SessionRecord) → other rs ≡ rule rs) → (old new : Table D) (given : Input) (now : ℕ)
-    (result : Result Step NodeError) → AnswersWhere state (RuleIs rule (knowledge old) given now) old new given now result → AnswersWhere state (RuleIs other (knowledge old) given now) old new given now result
-same_rule state rule other h old new given now result a =
-    weaken_result state (RuleIs rule (knowledge old) given now) (RuleIs other (knowledge old) given now) old new given now result (λ owns s q. q ∙ h (records owns)) a
+pub same_rule : {D : Type 0} (state : D → DiskState) (rule other : List SessionRecord → Step) → ((rs : List SessionRecord) → other rs ≡ rule rs) → (old new : Table D) (now : ℕ)
+    (result : Result Step NodeError) → AnswersAs state rule old new now result → AnswersAs state other old new now result
+same_rule state rule other h old new now result a = record {
+  answers = λ given. weaken_result state (RuleIs rule (knowledge old) given now) (RuleIs other (knowledge old) given now) old new given now result (λ owns s q. q ∙ h (records owns)) (a.answers given);
+  framable = a.framable;
+  named = a.named;
+}
+
+-- an input to which this is the rule's answer is answered so
+pub answers_to : {D : Type 0} (state : D → DiskState) (rule : List SessionRecord → Step) (old new : Table D) (given : Input) (now : ℕ) (result : Result Step NodeError)
+    → ((owns : Course) → Follows (knowledge old) owns → RuleIs rule (knowledge old) given now owns)
+    → AnswersAs state rule old new now result → Answers state Always old new given now result
+answers_to state rule old new given now result is a = record {
+  answers = weaken_result state (RuleIs rule (knowledge old) given now) Always old new given now result (λ owns s q. is owns s) (a.answers given);
+  framable = λ f. a.framable;
+  named = λ n. a.named;
+}
 
 module _ (t t' : Knowledge) (now : ℕ) (in_time : now < 2 ^ 64) (step : Step) (xid : Xid) (b : BranchId) (opened : is_open t.memory xid.0 b.0 ≡ true) (given : Input) where
   -- the transaction is in its second phase

@@ -92,13 +92,29 @@ AnswersWhere state Applies old new given now (Err (error.Failed done)) = IsCut s
 AnswersWhere state Applies old new given now (Err (error.Full full)) = IsOver state Applies old new given now full
 AnswersWhere state Applies old new given now (Err error.NoMemory) = IsUnanswered (knowledge old) (knowledge new) × (new.sessions ≡ old.sessions)
 
+-- a step names nodes of the table's scenario
+abbrev pub IsNamedBy : {D : Type 0} → Table D → Step → Type 0
+IsNamedBy t step = IsNamed (managers_of t.sessions) (resources_of t.sessions) step
+
+-- What the table does at an input, by the rules where Applies holds of the own entries: what it sends can be framed where the input
+-- came so, and names nodes of its scenario where the input does.
+pub record Answers {D : Type 0} (state : D → DiskState) (Applies : Course → Type 0) (old new : Table D) (given : Input) (now : ℕ) (result : Result Step NodeError) : Type 0 where
+  pub answers : AnswersWhere state Applies old new given now result
+  pub framable : ComesFramable given → IfOk result SendsFramable
+  pub named : ComesNamed (managers_of old.sessions) (resources_of old.sessions) given → IfOk result (IsNamedBy old)
+
+-- The same at each input to which the rule's answer is this step by the records; what is sent can be framed and names nodes of the
+-- scenario whatever came.
+pub record AnswersAs {D : Type 0} (state : D → DiskState) (rule : List SessionRecord → Step) (old new : Table D) (now : ℕ) (result : Result Step NodeError) : Type 0 where
+  pub answers : (given : Input) → AnswersWhere state (λ owns. rule_answer (times_of old) owns now given ≡ rule (records owns)) old new given now result
+  pub framable : IfOk result SendsFramable
+  pub named : IfOk result (IsNamedBy old)
+
+-- ---- where the rules apply
+
 -- at all own entries
 abbrev pub Always : Course → Type 0
 Always owns = Unit {0}
-
--- the same at all own entries
-abbrev pub Answers : {D : Type 0} → (D → DiskState) → Table D → Table D → Input → ℕ → Result Step NodeError → Type 0
-Answers state old new given now result = AnswersWhere state Always old new given now result
 
 -- these records are of a scenario with so many managers and resources, and a message may have the number of each manager
 pub record AreWithin (managers resources : ℕ) (rs : List SessionRecord) : Type 0 where
@@ -108,27 +124,6 @@ pub record AreWithin (managers resources : ℕ) (rs : List SessionRecord) : Type
 -- the records that stand are of the table's scenario
 abbrev pub IsWithin : {D : Type 0} → Table D → Course → Type 0
 IsWithin t owns = AreWithin (managers_of t.sessions) (resources_of t.sessions) (records owns)
-
--- the same where they are
-abbrev pub AnswersWithin : {D : Type 0} → (D → DiskState) → Table D → Table D → Input → ℕ → Result Step NodeError → Type 0
-AnswersWithin state old new given now result = AnswersWhere state (IsWithin old) old new given now result
-
--- the same where the rule's answer is this step by the records
-abbrev pub AnswersAs : {D : Type 0} → (D → DiskState) → (List SessionRecord → Step) → Table D → Table D → ℕ → Result Step NodeError → Type 0
-AnswersAs state rule old new now result =
-    (given : Input) → AnswersWhere state (λ owns. rule_answer (times_of old) owns now given ≡ rule (records owns)) old new given now result
-
--- what is sent can be framed where the input came so
-abbrev pub Frames : Input → Result Step NodeError → Type 0
-Frames given result = ComesFramable given → IfOk result SendsFramable
-
--- a step names nodes of the table's scenario
-abbrev pub IsNamedBy : {D : Type 0} → Table D → Step → Type 0
-IsNamedBy t step = IsNamed (managers_of t.sessions) (resources_of t.sessions) step
-
--- it does where the input does
-abbrev pub Names : {D : Type 0} → Table D → Input → Result Step NodeError → Type 0
-Names t given result = ComesNamed (managers_of t.sessions) (resources_of t.sessions) given → IfOk result (IsNamedBy t)
 
 -- ---- one record
 

@@ -9,7 +9,7 @@ use session_memory::uncounted::allows;
 use std::alloc::Global;
 
 impl<D: Disk> Table<D> {
-    ghost use Rattle.std.specs.Prelude.{◌≡◌, ◌≤◌, ◌^◌, ◌&&◌, not, true, false, IfOk};
+    ghost use Rattle.std.specs.Prelude.{◌≡◌, ◌≤◌, ◌^◌, ◌&&◌, not, true, false};
     ghost use Rattle.seata_types.specs.declared.limits.TheConstants.{LATEST_MOMENT};
     ghost use Rattle.seata_types.specs.declared.acts.Act.TheVariants as act;
     ghost use Rattle.seata_types.specs.declared.acts.Durable.TheVariants as durable;
@@ -22,9 +22,8 @@ impl<D: Disk> Table<D> {
     ghost use Rattle.session_memory.specs.Holding.{keeps_rows};
     ghost use Rattle.session_memory.specs.Lookups.{status_in};
     ghost use Rattle.session_store.specs.Keeping.{is_down};
-    ghost use Rattle.history_text.specs.Framing.{SendsFramable};
     ghost use Rattle.coordinator_core.specs.Knowledge.{memory};
-    ghost use Rattle.coordinator_core.specs.Answers.{Answers, AnswersAs, Frames, Names, IsNamedBy};
+    ghost use Rattle.coordinator_core.specs.Answers.{Always, Answers, AnswersAs};
 
     /// Takes the answer of a branch that was asked to commit.
     pub(crate) fn branch_committed(
@@ -38,9 +37,7 @@ impl<D: Disk> Table<D> {
     ) -> Result<Step, NodeError>
         requires up { is_down self.old.sessions ≡ false }
         requires moment { now ≤ LATEST_MOMENT }
-        ensures answers { Answers D.state self.old self.new (input.Message from (message.BranchCommitted leg.xid leg.branch status stmt)) now result }
-        ensures framable { Frames (input.Message from (message.BranchCommitted leg.xid leg.branch status stmt)) result }
-        ensures named { Names self.old (input.Message from (message.BranchCommitted leg.xid leg.branch status stmt)) result }
+        ensures { Answers D.state Always self.old self.new (input.Message from (message.BranchCommitted leg.xid leg.branch status stmt)) now result }
     {
         if !self.may_commit(leg) {
             return Ok(still(Act::Ignored));
@@ -60,9 +57,7 @@ impl<D: Disk> Table<D> {
     ) -> Result<Step, NodeError>
         requires up { is_down self.old.sessions ≡ false }
         requires moment { now ≤ LATEST_MOMENT }
-        ensures answers { Answers D.state self.old self.new (input.Message from (message.BranchRollbacked leg.xid leg.branch status stmt)) now result }
-        ensures framable { Frames (input.Message from (message.BranchRollbacked leg.xid leg.branch status stmt)) result }
-        ensures named { Names self.old (input.Message from (message.BranchRollbacked leg.xid leg.branch status stmt)) result }
+        ensures { Answers D.state Always self.old self.new (input.Message from (message.BranchRollbacked leg.xid leg.branch status stmt)) now result }
     {
         if !self.may_roll_back(leg) {
             return Ok(still(Act::Ignored));
@@ -107,9 +102,7 @@ impl<D: Disk> Table<D> {
         requires up { is_down self.old.sessions ≡ false }
         requires moment { now ≤ LATEST_MOMENT }
         requires open { is_open (memory self.old) leg.xid.0 leg.branch.0 ≡ true }
-        ensures answers { AnswersAs D.state (λ rs. end_answer rs leg.xid leg.branch status stmt) self.old self.new now result }
-        ensures framable { IfOk result SendsFramable }
-        ensures named { IfOk result (IsNamedBy self.old) }
+        ensures { AnswersAs D.state (λ rs. end_answer rs leg.xid leg.branch status stmt) self.old self.new now result }
     {
         match status {
             BranchStatus::PhaseTwoCommitted => self.ended(alloc, leg, now),
@@ -127,9 +120,7 @@ impl<D: Disk> Table<D> {
         requires up { is_down self.old.sessions ≡ false }
         requires moment { now ≤ LATEST_MOMENT }
         requires open { is_open (memory self.old) leg.xid.0 leg.branch.0 ≡ true }
-        ensures answers { AnswersAs D.state (λ rs. own.still (act.Durable (durable.Ended leg.xid leg.branch))) self.old self.new now result }
-        ensures framable { IfOk result SendsFramable }
-        ensures named { IfOk result (IsNamedBy self.old) }
+        ensures { AnswersAs D.state (λ rs. own.still (act.Durable (durable.Ended leg.xid leg.branch))) self.old self.new now result }
     {
         let Leg { xid, branch } = leg;
         let done = Durable::Ended { xid, branch };
@@ -149,9 +140,7 @@ impl<D: Disk> Table<D> {
         requires up { is_down self.old.sessions ≡ false }
         requires moment { now ≤ LATEST_MOMENT }
         requires open { is_open (memory self.old) leg.xid.0 leg.branch.0 ≡ true }
-        ensures answers { AnswersAs D.state (λ rs. own.still (act.Durable (durable.Failed leg.xid leg.branch stmt))) self.old self.new now result }
-        ensures framable { IfOk result SendsFramable }
-        ensures named { IfOk result (IsNamedBy self.old) }
+        ensures { AnswersAs D.state (λ rs. own.still (act.Durable (durable.Failed leg.xid leg.branch stmt))) self.old self.new now result }
     {
         let Leg { xid, branch } = leg;
         let done = Durable::Failed { xid, branch, stmt };
@@ -171,9 +160,7 @@ impl<D: Disk> Table<D> {
         requires up { is_down self.old.sessions ≡ false }
         requires moment { now ≤ LATEST_MOMENT }
         requires open { is_open (memory self.old) leg.xid.0 leg.branch.0 ≡ true }
-        ensures answers { AnswersAs D.state (λ rs. retry_answer rs leg.xid leg.branch (may_retry rs leg.xid.0)) self.old self.new now result }
-        ensures framable { IfOk result SendsFramable }
-        ensures named { IfOk result (IsNamedBy self.old) }
+        ensures { AnswersAs D.state (λ rs. retry_answer rs leg.xid leg.branch (may_retry rs leg.xid.0)) self.old self.new now result }
     {
         let Leg { xid, branch } = leg;
         let done = Durable::Retrying { xid, branch };

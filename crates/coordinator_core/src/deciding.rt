@@ -26,7 +26,7 @@ impl<D: Disk> Table<D> {
     ghost use Rattle.seata_types.specs.declared.messages.Message.TheVariants as message;
     ghost use Rattle.durable_records.specs.SessionOrder.{is_counted};
     ghost use Rattle.session_store.specs.Keeping.{managers_of, is_down};
-    ghost use Rattle.coordinator_core.specs.Answers.{Answers, Frames, Names};
+    ghost use Rattle.coordinator_core.specs.Answers.{Always, Answers};
 
     /// Begins a transaction for a manager, or tells the one that it has.
     pub(crate) fn begin(
@@ -40,9 +40,7 @@ impl<D: Disk> Table<D> {
         requires up { is_down self.old.sessions ≡ false }
         requires moment { now ≤ LATEST_MOMENT }
         requires manager { is_counted (managers_of self.old.sessions) manager ≡ true }
-        ensures answers { Answers D.state self.old self.new (input.Message from (message.Begin manager timeout)) now result }
-        ensures framable { Frames (input.Message from (message.Begin manager timeout)) result }
-        ensures named { Names self.old (input.Message from (message.Begin manager timeout)) result }
+        ensures { Answers D.state Always self.old self.new (input.Message from (message.Begin manager timeout)) now result }
     {
         if let Some(xid) = self.sessions.manager_xid(manager) {
             return Ok(begun(Act::Known { xid }, manager, xid));
@@ -76,9 +74,7 @@ impl<D: Disk> Table<D> {
     ) -> Result<Step, NodeError>
         requires up { is_down self.old.sessions ≡ false }
         requires moment { now ≤ LATEST_MOMENT }
-        ensures answers { Answers D.state self.old self.new (input.Message from (message.GlobalCommit xid)) now result }
-        ensures framable { Frames (input.Message from (message.GlobalCommit xid)) result }
-        ensures named { Names self.old (input.Message from (message.GlobalCommit xid)) result }
+        ensures { Answers D.state Always self.old self.new (input.Message from (message.GlobalCommit xid)) now result }
     {
         let how = commit_or_timeout(self.is_past(xid, now));
         match self.make(alloc, SessionRecord::Decided { xid, how }, now) {
@@ -101,9 +97,7 @@ impl<D: Disk> Table<D> {
     ) -> Result<Step, NodeError>
         requires up { is_down self.old.sessions ≡ false }
         requires moment { now ≤ LATEST_MOMENT }
-        ensures answers { Answers D.state self.old self.new (input.Message from (message.GlobalRollback xid)) now result }
-        ensures framable { Frames (input.Message from (message.GlobalRollback xid)) result }
-        ensures named { Names self.old (input.Message from (message.GlobalRollback xid)) result }
+        ensures { Answers D.state Always self.old self.new (input.Message from (message.GlobalRollback xid)) now result }
     {
         let how = Decision::Rollback;
         match self.make(alloc, SessionRecord::Decided { xid, how }, now) {
@@ -118,9 +112,7 @@ impl<D: Disk> Table<D> {
 
     /// Answers a question for a status.
     pub(crate) fn tell(&mut self, from: Place, xid: Xid, now: u64) -> Step
-        ensures answers { Answers D.state self.old self.new (input.Message from (message.GlobalStatus xid)) now (Ok result) }
-        ensures framable { Frames (input.Message from (message.GlobalStatus xid)) (Ok result) }
-        ensures named { Names self.old (input.Message from (message.GlobalStatus xid)) (Ok result) }
+        ensures { Answers D.state Always self.old self.new (input.Message from (message.GlobalStatus xid)) now (Ok result) }
     {
         let status = self.status(xid);
         sends(

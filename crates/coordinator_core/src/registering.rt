@@ -36,7 +36,7 @@ impl<D: Disk> Table<D> {
     ghost use Rattle.coordinator_core.specs.Steps.{held_step, IsFramableRow};
     ghost use Rattle.coordinator_core.specs.Refusing.{Refuses};
     ghost use Rattle.history_text.specs.Framing.{SendsFramable};
-    ghost use Rattle.coordinator_core.specs.Answers.{Answers, Frames, Names};
+    ghost use Rattle.coordinator_core.specs.Answers.{Always, Answers};
 
     /// Answers a registration. It looks for the branch that was registered for it, and looks up its transaction's status and
     /// its timeout, and the status of one holder of a row.
@@ -55,9 +55,7 @@ impl<D: Disk> Table<D> {
         requires up { is_down self.old.sessions ≡ false }
         requires moment { now ≤ LATEST_MOMENT }
         requires served { ServesMessage (managers_of self.old.sessions) (resources_of self.old.sessions) (message.Register xid place.resource place.call place.ticket place.kind hold.now check.now) }
-        ensures answers { Answers D.state self.old self.new (input.Message from (message.Register xid place.resource place.call place.ticket place.kind hold.now check.now)) now result }
-        ensures framable { Frames (input.Message from (message.Register xid place.resource place.call place.ticket place.kind hold.now check.now)) result }
-        ensures named { Names self.old (input.Message from (message.Register xid place.resource place.call place.ticket place.kind hold.now check.now)) result }
+        ensures answers { Answers D.state Always self.old self.new (input.Message from (message.Register xid place.resource place.call place.ticket place.kind hold.now check.now)) now result }
         ensures cost { MessageCosts (message.Register xid place.resource place.call place.ticket place.kind hold.now check.now) (memory self.old) steps.old steps.new }
         ensures passes { MessagePasses (message.Register xid place.resource place.call place.ticket place.kind hold.now check.now) (memory self.old) passes.old passes.new }
     {
@@ -105,9 +103,7 @@ impl<D: Disk> Table<D> {
         requires new { leg_in (memory self.old) xid place ≡ None }
         requires begin { is_begin (status_in (memory self.old) xid.0) ≡ true }
         requires past { has_passed_in (session_in (memory self.old) xid.0) now ≡ true }
-        ensures answers { Answers D.state self.old self.new (input.Message from (message.Register xid place.resource place.call place.ticket place.kind hold.now check.now)) now result }
-        ensures framable { Frames (input.Message from (message.Register xid place.resource place.call place.ticket place.kind hold.now check.now)) result }
-        ensures named { Names self.old (input.Message from (message.Register xid place.resource place.call place.ticket place.kind hold.now check.now)) result }
+        ensures { Answers D.state Always self.old self.new (input.Message from (message.Register xid place.resource place.call place.ticket place.kind hold.now check.now)) now result }
     {
         let how = Decision::Timeout;
         match self.make(alloc, SessionRecord::Decided { xid, how }, now) {
@@ -139,9 +135,7 @@ impl<D: Disk> Table<D> {
         requires begin { is_begin (status_in (memory self.old) xid.0) ≡ true }
         requires served { ServesMessage (managers_of self.old.sessions) (resources_of self.old.sessions) (message.Register xid place.resource place.call place.ticket place.kind hold.now check.now) }
         requires timely { has_passed_in (session_in (memory self.old) xid.0) now ≡ false }
-        ensures answers { Answers D.state self.old self.new (input.Message from (message.Register xid place.resource place.call place.ticket place.kind hold.now check.now)) now result }
-        ensures framable { Frames (input.Message from (message.Register xid place.resource place.call place.ticket place.kind hold.now check.now)) result }
-        ensures named { Names self.old (input.Message from (message.Register xid place.resource place.call place.ticket place.kind hold.now check.now)) result }
+        ensures answers { Answers D.state Always self.old self.new (input.Message from (message.Register xid place.resource place.call place.ticket place.kind hold.now check.now)) now result }
         ensures cost { TakesAtMost (2 * length hold.now + length check.now) (held_rows (memory self.old) + length hold.now) (steps.old + 1) steps.new }
     {
         let branch = self.sessions.next_branch();
@@ -192,9 +186,7 @@ impl<D: Disk> Table<D> {
         now: u64,
         steps: &mut Steps<L>,
     ) -> Result<Step, NodeError>
-        ensures answers { Answers D.state self.old self.new (input.Message from (message.LockQuery resource ticket check.now)) now result }
-        ensures framable { Frames (input.Message from (message.LockQuery resource ticket check.now)) result }
-        ensures named { Names self.old (input.Message from (message.LockQuery resource ticket check.now)) result }
+        ensures { Answers D.state Always self.old self.new (input.Message from (message.LockQuery resource ticket check.now)) now result }
     {
         match self.held(alloc, from, ticket, check, steps) {
             Ok(step) => Ok(step),

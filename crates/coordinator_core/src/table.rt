@@ -45,7 +45,7 @@ impl<D: Disk> Table<D> {
     ghost use Rattle.coordinator_core.specs.Choices.{has_passed_in};
     ghost use Rattle.coordinator_core.specs.Knowledge.{memory, knowledge};
     ghost use Rattle.coordinator_core.specs.Costs.{InputCosts, InputPasses, MessageCosts, MessagePasses};
-    ghost use Rattle.coordinator_core.specs.Answers.{Answers, AnswersWithin, Frames, Names, MakesOn, AddsOn};
+    ghost use Rattle.coordinator_core.specs.Answers.{Always, Answers, IsWithin, MakesOn, AddsOn};
     ghost use Rattle.coordinator_core.specs.Serving.{ServesInput, ServesMessage};
 
     /// What is known; takes no memory.
@@ -164,9 +164,7 @@ impl<D: Disk> Table<D> {
         requires up { is_down self.old.sessions ≡ false }
         requires moment { now ≤ LATEST_MOMENT }
         requires served { ServesInput (managers_of self.old.sessions) (resources_of self.old.sessions) input.now }
-        ensures answers { AnswersWithin D.state self.old self.new input.now now result }
-        ensures framable { Frames input.now result }
-        ensures named { Names self.old input.now result }
+        ensures answers { Answers D.state (IsWithin self.old) self.old self.new input.now now result }
         ensures cost { InputCosts input.now (memory self.old) steps.old steps.new }
         ensures passes { InputPasses input.now (memory self.old) passes.old passes.new }
     {
@@ -192,9 +190,7 @@ impl<D: Disk> Table<D> {
         requires up { is_down self.old.sessions ≡ false }
         requires moment { now ≤ LATEST_MOMENT }
         requires served { ServesMessage (managers_of self.old.sessions) (resources_of self.old.sessions) message.now }
-        ensures answers { Answers D.state self.old self.new (input.Message from message.now) now result }
-        ensures framable { Frames (input.Message from message.now) result }
-        ensures named { Names self.old (input.Message from message.now) result }
+        ensures answers { Answers D.state Always self.old self.new (input.Message from message.now) now result }
         ensures cost { MessageCosts message.now (memory self.old) steps.old steps.new }
         ensures passes { MessagePasses message.now (memory self.old) passes.old passes.new }
     {

@@ -28,15 +28,13 @@ impl<D: Disk> Table<D> {
     ghost use Rattle.session_store.specs.Keeping.{managers_of, resources_of, is_down};
     ghost use Rattle.coordinator_core.specs.Choices.{question_in};
     ghost use Rattle.coordinator_core.specs.Knowledge.{memory, times_of};
-    ghost use Rattle.coordinator_core.specs.Answers.{AnswersWhere, AnswersWithin, Frames, Names, IsLate, IsDueWithin, IsOld};
+    ghost use Rattle.coordinator_core.specs.Answers.{Answers, IsWithin, IsLate, IsDueWithin, IsOld};
 
     /// Takes a turn: a transaction past its timeout is rolled back, one that is due goes on, one that is old is forgotten.
     pub(crate) fn turn(&mut self, alloc: Global, now: u64) -> Result<Step, NodeError>
         requires up { is_down self.old.sessions ≡ false }
         requires moment { now ≤ LATEST_MOMENT }
-        ensures answers { AnswersWithin D.state self.old self.new input.Turn now result }
-        ensures framable { Frames input.Turn result }
-        ensures named { Names self.old input.Turn result }
+        ensures { Answers D.state (IsWithin self.old) self.old self.new input.Turn now result }
     {
         let sessions = self.entries();
         if let Some(xid) = choosing::least_late(sessions, now) {
@@ -56,9 +54,7 @@ impl<D: Disk> Table<D> {
     fn time_out(&mut self, alloc: Global, xid: Xid, now: u64) -> Result<Step, NodeError>
         requires up { is_down self.old.sessions ≡ false }
         requires moment { now ≤ LATEST_MOMENT }
-        ensures answers { AnswersWhere D.state (IsLate (times_of self.old) now xid.0) self.old self.new input.Turn now result }
-        ensures framable { Frames input.Turn result }
-        ensures named { Names self.old input.Turn result }
+        ensures { Answers D.state (IsLate (times_of self.old) now xid.0) self.old self.new input.Turn now result }
     {
         let how = Decision::Timeout;
         let done = Durable::Decided { xid, how };
@@ -77,9 +73,7 @@ impl<D: Disk> Table<D> {
     fn go_on(&mut self, alloc: Global, xid: Xid, now: u64) -> Result<Step, NodeError>
         requires up { is_down self.old.sessions ≡ false }
         requires moment { now ≤ LATEST_MOMENT }
-        ensures answers { AnswersWhere D.state (IsDueWithin self.old now xid.0) self.old self.new input.Turn now result }
-        ensures framable { Frames input.Turn result }
-        ensures named { Names self.old input.Turn result }
+        ensures { Answers D.state (IsDueWithin self.old now xid.0) self.old self.new input.Turn now result }
     {
         match self.make(alloc, SessionRecord::Finished { xid }, now) {
             Ok(made) => {
@@ -100,9 +94,7 @@ impl<D: Disk> Table<D> {
     fn ask(&mut self, xid: Xid, now: u64) -> Result<Step, NodeError>
         requires moment { now ≤ LATEST_MOMENT }
         requires open { may_come (memory self.old) (log.Finished xid) ≡ false }
-        ensures answers { AnswersWhere D.state (IsDueWithin self.old now xid.0) self.old self.new input.Turn now result }
-        ensures framable { Frames input.Turn result }
-        ensures named { Names self.old input.Turn result }
+        ensures { Answers D.state (IsDueWithin self.old now xid.0) self.old self.new input.Turn now result }
     {
         let Some(question) = self.question(xid) else {
             return Ok(still(Act::Nothing));
@@ -128,9 +120,7 @@ impl<D: Disk> Table<D> {
     fn forget_old(&mut self, alloc: Global, xid: Xid, now: u64) -> Result<Step, NodeError>
         requires up { is_down self.old.sessions ≡ false }
         requires moment { now ≤ LATEST_MOMENT }
-        ensures answers { AnswersWhere D.state (IsOld (times_of self.old) now xid.0) self.old self.new input.Turn now result }
-        ensures framable { Frames input.Turn result }
-        ensures named { Names self.old input.Turn result }
+        ensures { Answers D.state (IsOld (times_of self.old) now xid.0) self.old self.new input.Turn now result }
     {
         let done = Durable::Forgot { xid };
         match self.make(alloc, SessionRecord::Forgot { xid }, now) {

@@ -1,4 +1,4 @@
-use Rattle.std.proofs.Common.{None, true, refl, arith}
+use Rattle.std.proofs.Common.{None, true, refl, arith, rules}
 use Rattle.seata_types.specs.declared.acts.Act.TheVariants as act
 use Rattle.seata_types.specs.declared.acts.Durable.TheVariants as durable
 use Rattle.seata_types.specs.declared.messages.Input.TheVariants as input
@@ -10,20 +10,22 @@ use Rattle.coordinator_core.proofs.Errors.{answers_unmade, answers_made, unmade,
 use Rattle.coordinator_core.proofs.TakesTurns.{forgot_answered, forgot_never}
 use Rattle.coordinator_core.proofs.table.Table.forget_old.Goals as goal
 
-pub returns-then-not-made-clause-answers : goal.returns-then-not-made-clause-answers
-returns-then-not-made-clause-answers g c =
-    answers_unmade g.D.Disk.state (IsOld (times_of c.args.self.now) c.args.now c.args.xid.0) c.args.self.now c.make.new.self input.Turn c.args.now c.still.result
+pub returns-then-not-made : goal.returns-then-not-made
+returns-then-not-made g c =
+    let answers = answers_unmade g.D.Disk.state (IsOld (times_of c.args.self.now) c.args.now c.args.xid.0) c.args.self.now c.make.new.self input.Turn c.args.now c.still.result
     (forgot_never (knowledge c.args.self.now) (knowledge c.make.new.self) c.args.now (omega (arith, c.requires.moment)) c.still.result c.args.xid c.in-Ok.made c.in-Ok.ensures.0 c.if-not-made.true c.still.ensures.value)
-    (log.Forgot c.args.xid) act.Nothing None c.still.ensures.value refl c.in-Ok.made c.if-not-made.true c.in-Ok.ensures.1
+    (log.Forgot c.args.xid) act.Nothing None c.still.ensures.value refl c.in-Ok.made c.if-not-made.true c.in-Ok.ensures.1 in
+    search rules
 
-pub returns-else-not-made-clause-answers : goal.returns-else-not-made-clause-answers
-returns-else-not-made-clause-answers g c =
-    answers_made g.D.Disk.state (IsOld (times_of c.args.self.now) c.args.now c.args.xid.0) c.args.self.now c.make.new.self input.Turn c.args.now c.still-in-Ok.result
+pub returns-else-not-made : goal.returns-else-not-made
+returns-else-not-made g c =
+    let answers = answers_made g.D.Disk.state (IsOld (times_of c.args.self.now) c.args.now c.args.xid.0) c.args.self.now c.make.new.self input.Turn c.args.now c.still-in-Ok.result
     (forgot_answered (knowledge c.args.self.now) (knowledge c.make.new.self) c.args.now (omega (arith, c.requires.moment)) c.still-in-Ok.result c.args.xid c.in-Ok.made c.in-Ok.ensures.0 c.if-not-made.false c.still-in-Ok.ensures.value)
-    (log.Forgot c.args.xid) (durable.Forgot c.args.xid) None c.still-in-Ok.ensures.value refl c.in-Ok.made c.if-not-made.false c.in-Ok.ensures.1
+    (log.Forgot c.args.xid) (durable.Forgot c.args.xid) None c.still-in-Ok.ensures.value refl c.in-Ok.made c.if-not-made.false c.in-Ok.ensures.1 in
+    search rules
 
-pub returns-in-Err-clause-answers : goal.returns-in-Err-clause-answers
-returns-in-Err-clause-answers g c =
+pub returns-in-Err : goal.returns-in-Err
+returns-in-Err g c =
     let applies = IsOld (times_of c.args.self.now) c.args.now c.args.xid.0 in
     let done = still (act.Durable (durable.Forgot c.args.xid)) in
     unmade g.D.Disk.state applies c.args.self.now c.make.new.self input.Turn c.args.now (log.Forgot c.args.xid) (durable.Forgot c.args.xid)

@@ -1,4 +1,4 @@
-use Rattle.std.proofs.Common.{◌+◌, arith}
+use Rattle.std.proofs.Common.{◌+◌, arith, rules}
 use Rattle.session_store.specs.Keeping.{managers_of, resources_of}
 use Rattle.coordinator_core.specs.Knowledge.{memory}
 use Rattle.coordinator_core.proofs.Registered.{record_within, record_short, keys_fit}
@@ -8,23 +8,14 @@ use Rattle.coordinator_core.proofs.table.Table.hold.Goals as goal
 
 pub returns-in-Ok-clause-answers : goal.returns-in-Ok-clause-answers
 returns-in-Ok-clause-answers g c =
-    registered_answers g.D.Disk.state c.args.self.now c.register.new.self c.args.now (omega (arith, c.requires.moment)) c.args.from c.args.xid c.args.place c.args.hold.now c.args.check.now c.requires.new c.requires.begin c.requires.timely
-    c.next_branch-branch.result c.in-Ok.field-0 c.granted.result c.next_branch-branch.ensures c.in-Ok.ensures.made c.granted.ensures.value
+    let answers = registered_answers g.D.Disk.state c.args.self.now c.register.new.self c.args.now (omega (arith, c.requires.moment)) c.args.from c.args.xid c.args.place c.args.hold.now c.args.check.now c.requires.new c.requires.begin c.requires.timely
+    c.next_branch-branch.result c.in-Ok.field-0 c.granted.result c.next_branch-branch.ensures c.in-Ok.ensures.made c.granted.ensures.value in
+    search rules
 
 pub returns-in-Err-clause-answers : goal.returns-in-Err-clause-answers
 returns-in-Err-clause-answers g c =
-    (refused_answers g.D.Disk.state c.args.self.now c.register.new.self c.args.now (omega (arith, c.requires.moment)) c.args.from c.args.xid c.args.place c.args.hold.now c.args.check.now c.requires.new c.requires.begin c.requires.timely
-    c.next_branch-branch.result c.in-Err.error c.refuse.result c.next_branch-branch.ensures c.in-Err.ensures.made c.refuse.ensures.why).0
-
-pub returns-in-Err-clause-framable : goal.returns-in-Err-clause-framable
-returns-in-Err-clause-framable g c =
-    (refused_answers g.D.Disk.state c.args.self.now c.register.new.self c.args.now (omega (arith, c.requires.moment)) c.args.from c.args.xid c.args.place c.args.hold.now c.args.check.now c.requires.new c.requires.begin c.requires.timely
-    c.next_branch-branch.result c.in-Err.error c.refuse.result c.next_branch-branch.ensures c.in-Err.ensures.made c.refuse.ensures.why).1
-
-pub returns-in-Err-clause-named : goal.returns-in-Err-clause-named
-returns-in-Err-clause-named g c =
-    (refused_answers g.D.Disk.state c.args.self.now c.register.new.self c.args.now (omega (arith, c.requires.moment)) c.args.from c.args.xid c.args.place c.args.hold.now c.args.check.now c.requires.new c.requires.begin c.requires.timely
-    c.next_branch-branch.result c.in-Err.error c.refuse.result c.next_branch-branch.ensures c.in-Err.ensures.made c.refuse.ensures.why).2
+    refused_answers g.D.Disk.state c.args.self.now c.register.new.self c.args.now (omega (arith, c.requires.moment)) c.args.from c.args.xid c.args.place c.args.hold.now c.args.check.now c.requires.new c.requires.begin c.requires.timely
+    c.next_branch-branch.result c.in-Err.error c.refuse.result c.next_branch-branch.ensures c.in-Err.ensures.made c.refuse.ensures.why
 
 pub register-requires-clause-new : goal.register-requires-clause-new
 register-requires-clause-new g c = is_new_branch (memory c.args.self.now) c.args.xid c.args.place c.requires.new

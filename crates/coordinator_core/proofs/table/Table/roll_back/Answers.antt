@@ -1,4 +1,4 @@
-use Rattle.std.proofs.Common.{true, Some, refl, ap, ◌∙◌, arith}
+use Rattle.std.proofs.Common.{true, Some, refl, ap, ◌∙◌, arith, rules}
 use Rattle.seata_types.specs.declared.acts.Act.TheVariants as act
 use Rattle.seata_types.specs.declared.acts.Durable.TheVariants as durable
 use Rattle.seata_types.specs.declared.messages.Input.TheVariants as input
@@ -13,19 +13,20 @@ use Rattle.coordinator_core.proofs.Errors.{answers_either, unmade, would}
 use Rattle.coordinator_core.proofs.Takes.{rollback_answered}
 use Rattle.coordinator_core.proofs.table.Table.roll_back.Goals as goal
 
-pub returns-in-Ok-clause-answers : goal.returns-in-Ok-clause-answers
-returns-in-Ok-clause-answers g c =
+pub returns-in-Ok : goal.returns-in-Ok
+returns-in-Ok g c =
     let given = input.Message c.args.from (message.GlobalRollback c.args.xid) in
     let d = how.Rollback in
     let st = c.status-status.result in
     let is = c.sends.ensures.value ∙ ap (λ done. sends done c.args.from (message.RollbackStatus c.args.xid st)) c.decided_or_told-act.ensures.value in
-    answers_either g.D.Disk.state Always c.args.self.now c.make.new.self given c.args.now c.sends.result
+    let answers = answers_either g.D.Disk.state Always c.args.self.now c.make.new.self given c.args.now c.sends.result
     (rollback_answered (knowledge c.args.self.now) (knowledge c.make.new.self) c.args.now (omega (arith, c.requires.moment)) c.sends.result c.args.from c.args.xid st c.status-status.ensures
     c.in-Ok.made c.in-Ok.ensures.0 is)
-    (log.Decided c.args.xid d) (durable.Decided c.args.xid d) (act.Told c.args.xid st) (Some (record { to = c.args.from; message = message.RollbackStatus c.args.xid st })) refl refl c.in-Ok.made is c.in-Ok.ensures.1
+    (log.Decided c.args.xid d) (durable.Decided c.args.xid d) (act.Told c.args.xid st) (Some (record { to = c.args.from; message = message.RollbackStatus c.args.xid st })) refl refl c.in-Ok.made is c.in-Ok.ensures.1 in
+    search rules
 
-pub returns-in-Err-clause-answers : goal.returns-in-Err-clause-answers
-returns-in-Err-clause-answers g c =
+pub returns-in-Err : goal.returns-in-Err
+returns-in-Err g c =
     let given = input.Message c.args.from (message.GlobalRollback c.args.xid) in
     let d = how.Rollback in
     unmade g.D.Disk.state Always c.args.self.now c.make.new.self given c.args.now (log.Decided c.args.xid d) (durable.Decided c.args.xid d)
