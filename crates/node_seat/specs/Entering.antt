@@ -1,5 +1,5 @@
 -- What one entry of a node is: what happened to it, what it did, and what is printed of that.
-use Rattle.std.specs.Prelude.{◌≡◌, ◌⊎◌, ◌+◌, ◌≤◌, ◌<◌, ℕ, Bool, true, List, [], ◌∷◌, ◌++◌, Option, Some, None, option_map, Result, Ok, Err, IfOk}
+use Rattle.std.specs.Prelude.{◌≡◌, ◌⊎◌, ◌+◌, ◌≤◌, ◌<◌, ℕ, Bool, true, List, [], ◌∷◌, ◌++◌, Option, Some, None, option_map, Result, Ok, Err, IfErr, IfOk, IfSome, OnOk}
 use Rattle.disk_model.specs.declared.disk.TheConstants.{LAST_PICK}
 use Rattle.journal_checkpoint.specs.Images.{Pair}
 use Rattle.seata_types.specs.declared.acts.Act.TheVariants as act
@@ -17,9 +17,10 @@ use Rattle.history_text.specs.declared.entries.Cause.{Cause}
 use Rattle.history_text.specs.declared.entries.Cause.TheVariants as cause
 use Rattle.history_text.specs.declared.entries.Entry.{Entry}
 use Rattle.history_text.specs.Durable.{HavePick}
+use Rattle.history_text.specs.Framing.{ComesFramable, SendsFramable}
 use Rattle.history_text.specs.Notes.{sent_of}
-use Rattle.history_text.specs.Promises.{AreTold, StandsAsBefore, own_entry}
-use Rattle.node_seat.specs.Faults.{Blames, EventFits}
+use Rattle.history_text.specs.Promises.{AreTold, StandsAsBefore, StaysItself, own_entry}
+use Rattle.node_seat.specs.Faults.{Blames, CountsFault, EventFits}
 use Rattle.node_seat.specs.declared.faults.RunFault.{RunFault}
 use Rattle.node_seat.specs.declared.faults.RunFault.TheVariants as fault
 
@@ -77,6 +78,18 @@ pub record Misses {N : Type 0} (stands_for : N → Role → List Own → Type 0)
   pub stands : IsTold (disks old) event → StandsAsBefore stands_for old new
   pub blames : IsTold (disks old) event → (role : Role) (owns : List Own) → stands_for old role owns →
       Blames (at old) role owns now event (disks new) (size new) missed
+
+-- What came of the event at a node, if there was one: the step that it did, for whose record there was a place, or the fault by which nothing
+-- happened. Where what it was given can be framed, what it sends can; and it has at most one step fewer left.
+pub record HasReacted {N : Type 0} (stands_for : N → Role → List Own → Type 0) (at : N → Place) (serves : N → Input → Type 0) (disks : N → Pair) (size left : N → ℕ) (old new : N)
+    (given : Option Input) (happened : Option Event) (now : ℕ) (result : Result Step RunFault) : Type 0 where
+  pub does : (event : Event) → happened ≡ Some event → IfOk result (Does stands_for disks old new event now)
+  pub room : (event : Event) → happened ≡ Some event → OnOk result (HadPlaceFor stands_for disks size old event now)
+  pub missed : (event : Event) → happened ≡ Some event → IfErr result (Misses stands_for at disks size old new event now)
+  pub failed : IfErr result (CountsFault (at old) (disks old) (disks new))
+  pub framable : IfSome given ComesFramable → IfOk result SendsFramable
+  pub same : StaysItself at serves disks old new
+  pub counted : left old ≤ left new + 1
 
 -- a step's error as a step: where the disks failed, the node went down with the act in flight; else as a fault
 abbrev pub IsStepOf : Place → NodeError → Result Step RunFault → Type 0
