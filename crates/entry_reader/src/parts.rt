@@ -41,13 +41,13 @@ fn behind_number(text: &[u8]) -> &[u8]
 pub fn number_16(text: &[u8]) -> u16
     ensures { result ≡ spec.number_16 text.now }
 {
-    number(text).min(65_535) as u16
+    number(text).min(u16::MAX as u64) as u16
 }
 
 pub fn number_32(text: &[u8]) -> u32
     ensures { result ≡ spec.number_32 text.now }
 {
-    number(text).min(4_294_967_295) as u32
+    number(text).min(u32::MAX as u64) as u32
 }
 
 /// `tc:1`.

@@ -15,7 +15,7 @@ pub fn number_in(names: &[Text], text: &[u8]) -> u16
     let mut number = 1usize;
     for name in names {
         if name.as_str() == wanted {
-            return number.min(65_535) as u16;
+            return number.min(u16::MAX as usize) as u16;
         }
         number += 1;
     }
