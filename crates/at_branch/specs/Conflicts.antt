@@ -20,6 +20,7 @@ abbrev pub why_last : (tries : ℕ) → Xid → (rolling : Bool) → (conflicts 
 why_last tries holder true n = Some (why.Rolling holder)
 why_last tries holder false n = if nat_le tries (n + 1) then Some why.Tries else None
 
+-- it gives up where there is a cause, and else it counts one conflict more
 abbrev pub met_with : Open → Option Why → Conflict
 met_with o (Some cause) = GivesUp o cause
 met_with o None = Counts (o.conflicts + 1)

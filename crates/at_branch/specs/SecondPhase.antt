@@ -25,6 +25,7 @@ abbrev pub at_commit : Leg → Option Undo → Answer Committed
 at_commit leg (Some u) = making (log.Cleared leg.xid leg.branch) commits.Cleared
 at_commit leg None = only commits.Empty
 
+-- a commit, by whether an undo record stands at the branch
 abbrev pub committed : Leg → Database → List ResourceRecord → Answer Committed
 committed leg db rs = at_commit leg (undo_of rs leg.xid.0 leg.branch.0)
 
@@ -54,5 +55,6 @@ rolling leg rolled.Again = only rolled.Again
 rolling leg (rolled.Busy key by) = only (rolled.Busy key by)
 rolling leg (rolled.Dirty key after present) = only (rolled.Dirty key after present)
 
+-- a rollback, by the marker or the undo record of the branch, the rows and the open tickets
 abbrev pub rolled_back : Leg → List Open → Database → List ResourceRecord → Answer Rolled
 rolled_back leg opens db rs = rolling leg (at_rollback db opens (is_marked rs leg.xid.0 leg.branch.0) (undo_of rs leg.xid.0 leg.branch.0))

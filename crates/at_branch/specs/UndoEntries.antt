@@ -28,6 +28,7 @@ standing None = stands.Nothing
 standing (Some (entry.Normal r)) = stands.Record
 standing (Some entry.Finished) = stands.Marker
 
+-- what stands at a branch in the undo log of a resource
 abbrev pub standing_of : Known → Leg → Standing
 standing_of k leg = standing (entry_at k.undo_log leg)
 

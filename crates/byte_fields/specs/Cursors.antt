@@ -5,9 +5,11 @@ use Rattle.byte_fields.specs.declared.errors.FieldError.TheVariants as errors
 use Rattle.byte_fields.specs.declared.cursor.Cursor.{Cursor}
 use Rattle.byte_fields.specs.Reading.{Position, Reader, Read}
 
+-- the place in the bytes at which a cursor stands
 abbrev pub position : Cursor → Position
 position c = record { at = c.at; rest = c.rest.now }
 
+-- this fault is the one that reading meets first; want of memory alone is free
 abbrev pub Fails : {X : Type 0} → FieldError → Read X → Type 0
 Fails e read = e ≢ errors.NoMemory → read ≡ Err e
 

@@ -3,7 +3,7 @@ use Rattle.std.specs.Prelude.{◌≡◌, ℕ, ◌+◌, ◌==◌, if◌then◌els
 use Rattle.byte_fields.specs.Reading.{Position, Reader, Read}
 use Rattle.byte_fields.specs.Exactness.{AreBytes, Stands}
 
--- a reader reads these layouts, and nothing else
+-- for the proofs alone: a reader reads these layouts, and nothing else
 pub record ReadsLayouts {X H : Type 0} (reader : Reader X) (bytes : H → X → List ℕ) (Fits : H → X → Type 0) : Type 0 where
   -- what fits a layout is read back, whatever follows it
   pub back : (how : H) (x : X) (at : ℕ) (rest : List ℕ) → Fits how x →
@@ -12,6 +12,7 @@ pub record ReadsLayouts {X H : Type 0} (reader : Reader X) (bytes : H → X → 
   pub only : (x : X) (place after : Position) → AreBytes place.rest → reader place ≡ Ok (x, after) →
       (how : H) × Fits how x × Stands place (bytes how x) after
 
+-- the value that was read, if it ends at this place
 abbrev pub at_end : {X : Type 0} → ℕ → Read X → Option X
 at_end size (Ok found) = if found.1.at == size then Some found.0 else None
 at_end size (Err fault) = None

@@ -11,6 +11,7 @@ pub record Stands (place : Position) (bytes : List ℕ) (after : Position) : Typ
   pub rest : place.rest ≡ bytes ++ after.rest
   pub at : after.at ≡ place.at + length bytes
 
+-- a reader reads this layout, and nothing else
 pub record ReadsExactly {X : Type 0} (reader : Reader X) (bytes : X → List ℕ) (Fits : X → Type 0) : Type 0 where
   -- what fits is read back, whatever follows it
   pub back : (x : X) (at : ℕ) (rest : List ℕ) → Fits x →

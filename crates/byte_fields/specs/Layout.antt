@@ -26,6 +26,7 @@ is_control c = nat_lt c 32 || (c == 127)
 unfoldable pub is_plain : List ℕ → Bool
 is_plain text = is_utf8 text && list_all (λ c. not (is_control c)) text
 
+-- a plain text whose length has two bytes
 pub record FitsText (text : List ℕ) : Type 0 where
   pub short : length text < 2 ^ 16
   pub plain : IsTrue (is_plain text)
@@ -36,6 +37,7 @@ text_bytes text = to_be_bytes w16 (length text) ++ text
 
 -- ---- values: a tag, and the number as a two's complement or the text
 
+-- a number of 64 bits with its sign, or a plain text of no more bytes than a value may have
 abbrev pub FitsValue : Value → Type 0
 FitsValue (value.Int n) = FitsSigned w64 n
 FitsValue (value.Text text) = (length text ≤ TEXT_BYTES) × IsTrue (is_plain text)
@@ -63,6 +65,7 @@ IsInOrder follows last (x ∷ xs) = IsTrue (may_come follows last x) × IsInOrde
 abbrev pub any_order : {X : Type 0} → X → X → Bool
 any_order last x = true
 
+-- items that fit, each of which may come after the one before it, no more than two bytes can count
 pub record FitsList {X : Type 0} (follows : X → X → Bool) (Fits : X → Type 0) (xs : List X) : Type 0 where
   pub count : length xs < 2 ^ 16
   pub each : All Fits xs
@@ -70,6 +73,7 @@ pub record FitsList {X : Type 0} (follows : X → X → Bool) (Fits : X → Type
 
 -- ---- rows: a list of values in no order; one that may be absent has a tag before it
 
+-- values that fit, no more than two bytes can count
 pub record FitsRow (row : Row) : Type 0 where
   pub count : length row.0 < 2 ^ 16
   pub each : All FitsValue row.0
@@ -92,6 +96,7 @@ abbrev pub HasParts : KeyLayout → ℕ → Type 0
 HasParts layout.Counted n = (1 ≤ n) × (n ≤ KEY_PARTS)
 HasParts layout.Single n = n ≡ 1
 
+-- the values of a key that its layout can hold
 pub record FitsParts (how : KeyLayout) (pk : List Value) : Type 0 where
   pub count : HasParts how (length pk)
   pub each : All FitsValue pk
@@ -100,6 +105,7 @@ unfoldable pub parts_bytes : KeyLayout → List Value → List ℕ
 parts_bytes layout.Counted pk = length pk ∷ flat_map value_bytes pk
 parts_bytes layout.Single pk = flat_map value_bytes pk
 
+-- a key in a layout: its resource, the name of its table, and its values
 pub record FitsKeyIn (how : KeyLayout) (key : RowKey) : Type 0 where
   pub resource : key.resource < 2 ^ 16
   pub table : FitsText key.table
@@ -116,6 +122,7 @@ keys_bytes_in how keys = list_bytes (key_bytes_in how) keys
 
 -- ---- images and reads, in rising order of their keys
 
+-- an image in a layout: its key, the row before and the row after
 pub record FitsImageIn (how : KeyLayout) (image : Image) : Type 0 where
   pub key : FitsKeyIn how image.key
   pub before : FitsOptionRow image.before
@@ -133,6 +140,7 @@ FitsImagesIn how images = FitsList image_follows (FitsImageIn how) images
 abbrev pub images_bytes_in : KeyLayout → List Image → List ℕ
 images_bytes_in how images = list_bytes (image_bytes_in how) images
 
+-- a read in a layout: its key, and the row that was read
 pub record FitsReadIn (how : KeyLayout) (read : ReadRow) : Type 0 where
   pub key : FitsKeyIn how read.key
   pub row : FitsRow read.row
@@ -151,6 +159,7 @@ reads_bytes_in how reads = list_bytes (read_bytes_in how) reads
 
 -- ---- the layout that is written
 
+-- the same with a byte of count before the values of each key
 abbrev pub FitsKey : RowKey → Type 0
 FitsKey key = FitsKeyIn layout.Counted key
 
@@ -177,6 +186,7 @@ reads_bytes reads = reads_bytes_in layout.Counted reads
 
 -- ---- tickets
 
+-- the resource's boot and the count since then, of four bytes each
 pub record FitsTicket (ticket : Ticket) : Type 0 where
   pub boot : ticket.boot < 2 ^ 32
   pub seq : ticket.seq < 2 ^ 32

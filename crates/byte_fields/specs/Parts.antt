@@ -25,6 +25,7 @@ joined (part ∷ next ∷ parts) = part ++ joined (next ∷ parts)
 
 -- ---- identities
 
+-- a transaction's number and a branch's number have eight bytes each
 abbrev pub xid_bytes : Xid → List ℕ
 xid_bytes xid = to_be_bytes w64 xid.0
 
@@ -76,6 +77,7 @@ truth_code true = 1
 unfoldable pub truth_at : Reader Bool
 truth_at = coded truth_code (false ∷ true ∷ [])
 
+-- all statuses of a transaction, and below all of a branch, in the order of their codes
 abbrev pub statuses : List GlobalStatus
 statuses =
     global.UnKnown ∷ global.Begin ∷ global.Committing ∷ global.CommitRetrying ∷ global.Rollbacking ∷ global.RollbackRetrying ∷

@@ -21,6 +21,7 @@ pub record Position : Type 0 where
   pub at : ℕ
   pub rest : List ℕ
 
+-- the place that is n bytes further on
 abbrev pub past : ℕ → Position → Position
 past n p = record { at = p.at + n; rest = drop n p.rest }
 
@@ -28,17 +29,21 @@ past n p = record { at = p.at + n; rest = drop n p.rest }
 abbrev pub Read : Type 0 → Type 0
 Read X = Result (X × Position) FieldError
 
+-- what reading gives at each place
 abbrev pub Reader : Type 0 → Type 0
 Reader X = Position → Read X
 
+-- the next reader, with what was read and at the place after it; a fault ends the reading
 abbrev pub and_then : {X Y : Type 0} → Read X → (X → Reader Y) → Read Y
 and_then (Ok x) next = next x.0 x.1
 and_then (Err e) next = Err e
 
+-- two readers, one after the other
 infixl 10 ◌>>=◌
 abbrev pub ◌>>=◌ : {X Y : Type 0} → Reader X → (X → Reader Y) → Reader Y
 (first >>= next) p = and_then (first p) next
 
+-- a value, and below it a fault, for which no byte is read
 abbrev pub gives : {X : Type 0} → X → Reader X
 gives x p = Ok (x, p)
 
@@ -53,6 +58,7 @@ bytes_of start n p = if nat_lt (length p.rest) n then Err (errors.Short start) e
 unfoldable pub number_at : Width → Reader ℕ
 number_at w start = and_then (bytes_of start.at (byte_len w) start) (λ bytes. gives (from_be_bytes w bytes))
 
+-- a text where it is plain, and else a bad text at the place where its field begins
 abbrev pub plain_or_fault : ℕ → List ℕ → Reader (List ℕ)
 plain_or_fault start text = if is_plain text then gives text else fails (errors.BadText start)
 
@@ -71,6 +77,7 @@ tagged_value place zero = number_at w64 >>= λ n. gives (value.Int (cast_signed 
 tagged_value place (suc zero) = short_text_at >>= λ text. gives (value.Text text)
 tagged_value place (suc (suc tag)) = fails (errors.BadTag place)
 
+-- a value: its tag, and what stands behind it
 unfoldable pub value_at : Reader Value
 value_at start = and_then (number_at w8 start) (tagged_value start.at)
 
@@ -92,16 +99,19 @@ list_at item = do
 abbrev pub any_value : Option Value → Reader Value
 any_value last = value_at
 
+-- a row: a count, and as many values
 unfoldable pub row_at : Reader Row
 row_at = do
   values ← list_at any_value
   gives (record { 0 = values })
 
+-- behind tag 0 there is no row, behind 1 there is one, and any other is a bad tag
 abbrev pub tagged_row : ℕ → ℕ → Reader (Option Row)
 tagged_row place zero = gives None
 tagged_row place (suc zero) = row_at >>= λ row. gives (Some row)
 tagged_row place (suc (suc tag)) = fails (errors.BadTag place)
 
+-- a row that may be absent, behind its tag
 unfoldable pub option_row_at : Reader (Option Row)
 option_row_at start = and_then (number_at w8 start) (tagged_row start.at)
 
@@ -116,6 +126,7 @@ unfoldable pub parts_at : KeyLayout → Reader (List Value)
 parts_at layout.Counted start = and_then (number_at w8 start) (counted_values start.at)
 parts_at layout.Single start = items_at any_value None 1 start
 
+-- a key in a layout: its resource, the name of its table, and its values
 unfoldable pub key_in : KeyLayout → Reader RowKey
 key_in how = do
   resource ← number_at w16
@@ -142,6 +153,7 @@ next_read how last = do
   row ← row_at
   gives (record { key = key; row = row })
 
+-- lists in rising order of keys: a count, and as many items
 abbrev pub keys_in : KeyLayout → Reader (List RowKey)
 keys_in how = list_at (next_key how)
 
@@ -165,6 +177,7 @@ images_at = images_in layout.Counted
 abbrev pub reads_at : Reader (List ReadRow)
 reads_at = reads_in layout.Counted
 
+-- a ticket: the resource's boot, and the count since then
 unfoldable pub ticket_at : Reader Ticket
 ticket_at = do
   boot ← number_at w32

@@ -9,6 +9,7 @@ abbrev pub look_up : {X : Type 0} → ℕ → List (ℕ × X) → Option X
 look_up code [] = None
 look_up code (entry ∷ table) = if code == entry.0 then Some entry.1 else look_up code table
 
+-- the reader that a table has for a tag; where it has none, a bad tag at this place
 abbrev pub chosen : {X : Type 0} → ℕ → Option (Reader X) → Reader X
 chosen place (Some reader) = reader
 chosen place None = fails (errors.BadTag place)

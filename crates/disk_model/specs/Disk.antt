@@ -1,12 +1,14 @@
 -- A disk as contracts see it, and what each of its calls does to it.
 use Rattle.std.specs.Prelude.{◌≡◌, ◌⊎◌, ℕ, ◌+◌, ◌-◌, ◌^◌, ◌≤◌, min, Bool, IsTrue, Option, Some, None, option_map, is_some, IsSome, List, ◌++◌, length, take, drop, Result, OnOk, OnErr}
 
+-- what a disk tells of its bytes
 pub record Content : Type 0 where
   -- the bytes that a read gives
   pub present : List ℕ
   -- the pick of the last restart that answered Ok, if there was one
   pub last_pick : Option ℕ
 
+-- what a disk tells of calls that failed, and of a stop
 pub record Counts : Type 0 where
   -- how often a call failed, and how often it did by the disk's own fault
   pub faults : ℕ
@@ -15,6 +17,7 @@ pub record Counts : Type 0 where
   pub left : Option ℕ
   pub stopped : Bool
 
+-- what contracts see of a disk
 pub record DiskState : Type 1 where
   pub size : ℕ
   -- where told
@@ -29,6 +32,7 @@ pub record DiskState : Type 1 where
   pub tells_moments : Bool
   pub counts : Counts
 
+-- the present bytes, and below them the last pick, where told
 abbrev pub present : DiskState → Option (List ℕ)
 present disk = option_map (λ (c : Content). c.present) disk.content
 
@@ -99,6 +103,7 @@ IsSettled disk = (c : List ℕ) → disk.may_leave c → present disk ≡ Some c
 abbrev pub IsPicked : ℕ → DiskState → DiskState → Type 0
 IsPicked pick old new = (c : List ℕ) → new.may_leave c → old.comes_back pick c
 
+-- a sync changes no present byte, and leaves nothing pending
 pub record IsSynced (old new : DiskState) : Type 0 where
   pub content : new.content ≡ old.content
   pub settled : IsSettled new

@@ -5,6 +5,7 @@ use Rattle.std.proofs.lemmas.Bool.{false≢true}
 use Rattle.std.proofs.lemmas.Option.{same_Some}
 use Rattle.disk_model.specs.Disk.{DiskState, IsLawful, put}
 
+-- its stable bytes, its present ones, which of these are pending, and the pick of the last restart
 pub record Memory : Type 0 where
   pub stable : List ℕ
   pub present : List ℕ
@@ -30,12 +31,14 @@ pub record MarksWithin (low high : ℕ) (marks : List Bool) : Type 0 where
 abbrev pub new_memory : ℕ → Memory
 new_memory size = record { stable = replicate size 0; present = replicate size 0; pending = replicate size false; last_pick = None }
 
+-- with these bytes present from an offset on, and pending
 abbrev pub written : ℕ → List ℕ → Memory → Memory
 written at bytes disk = record disk {
   present = put at bytes disk.present;
   pending = put at (replicate (length bytes) true) disk.pending;
 }
 
+-- with its present bytes stable, and none of them pending
 abbrev pub settled : Memory → Memory
 settled disk = record disk { stable = disk.present; pending = replicate (length disk.present) false }
 
@@ -45,6 +48,7 @@ picked_byte zero stable present = stable
 picked_byte (suc zero) stable present = present
 picked_byte (suc (suc byte)) stable present = byte
 
+-- what a crash makes of all bytes; those that aren't pending stay
 abbrev pub picked : ℕ → List Bool → List ℕ → List ℕ → List ℕ
 picked pick (pending ∷ marks) (stable ∷ old) (present ∷ new) = (if pending then picked_byte pick stable present else present) ∷ picked pick marks old new
 picked pick _ _ _ = []
@@ -69,6 +73,7 @@ memory_state disk = record {
   counts = record { faults = 0; own = 0; left = None; stopped = false };
 }
 
+-- what holds of every disk holds of one in memory
 pub memory_lawful : (disk : Memory) → IsLawful (memory_state disk)
 memory_lawful disk = record {
   present_may_stay = λ c told. subst (IsImage disk) (same_Some _ _ told) (record { size = refl; kept = λ k clear. refl });

@@ -18,6 +18,7 @@ written_count (Write at count) = count
 written_count Sync = 0
 written_count (Restart pick) = 0
 
+-- the trace that a disk keeps so
 abbrev pub trace_of : Inside → Trace
 trace_of disk = record {
   size = length disk.disk.present;
@@ -27,6 +28,7 @@ trace_of disk = record {
   faults = disk.faults;
 }
 
+-- the disk is what its calls made of it, their bytes are all kept, and there is the room that it tells
 pub record IsKept (disk : Inside) : Type 0 where
   pub disk_is : disk.disk ≡ after_calls (length disk.disk.present) (calls_of disk.calls.items disk.bytes.items)
   pub counted : sum_by written_count disk.calls.items ≡ length disk.bytes.items

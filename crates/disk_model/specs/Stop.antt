@@ -43,6 +43,7 @@ with_stop stop failures disk = record disk {
   counts = record { faults = disk.counts.faults + failures; own = disk.counts.faults; left = left_of stop; stopped = has_failed stop };
 }
 
+-- what contracts see of a disk with a stop, by what they see of the disk below it
 abbrev pub state_of : {D : Type 0} → (D → DiskState) → Stoppable D → DiskState
 state_of state disk = with_stop (stop_of disk) (failures_of disk) (state (below disk))
 
@@ -51,6 +52,7 @@ failed_lets_none Off never = absurd (false≢true never)
 failed_lets_none (Armed calls) never = absurd (false≢true never)
 failed_lets_none Stopped failed = refl
 
+-- what holds of every disk still holds with a stop
 pub stopped_lawful : (stop : Stop) (failures : ℕ) (disk : DiskState) → IsLawful disk → IsLawful (with_stop stop failures disk)
 stopped_lawful stop failures disk lawful = record {
   present_may_stay = lawful.present_may_stay;

@@ -5,11 +5,13 @@ use Rattle.std.proofs.lemmas.List.{take_all}
 use Rattle.disk_model.specs.Disk.{DiskState, IsLawful}
 use Rattle.disk_model.specs.Memory.{Memory, IsImage, IsSound, new_memory, written, settled, crashed, memory_state, memory_lawful}
 
+-- a write, a sync or a restart that was done
 pub data Call : Type 0 where
   Wrote : (at : ℕ) → (bytes : List ℕ) → Call
   Synced : Call
   Restarted : (pick : ℕ) → Call
 
+-- the disk in memory after one more call
 abbrev pub after_call : Memory → Call → Memory
 after_call disk (Wrote at bytes) = written at bytes disk
 after_call disk Synced = settled disk
@@ -33,6 +35,7 @@ pub record Trace : Type 0 where
   pub byte_room : ℕ
   pub faults : ℕ
 
+-- the disk in memory as the calls left it
 abbrev pub disk_of : Trace → Memory
 disk_of trace = after_calls trace.size trace.calls
 
@@ -40,6 +43,7 @@ disk_of trace = after_calls trace.size trace.calls
 abbrev pub has_room : ℕ → Trace → Bool
 has_room bytes trace = nat_lt (length trace.calls) trace.call_room && nat_le (sum_by byte_count trace.calls + bytes) trace.byte_room
 
+-- with one more call, and below it with one more fault
 abbrev pub with_call : Call → Trace → Trace
 with_call call trace = record trace { calls = trace.calls ++ call ∷ [] }
 
@@ -71,6 +75,7 @@ trace_state trace = record (memory_state (disk_of trace)) {
   counts = record { faults = trace.faults; own = trace.faults; left = None; stopped = false };
 }
 
+-- what holds of every disk holds of one that keeps its calls
 pub trace_lawful : (trace : Trace) → IsLawful (trace_state trace)
 trace_lawful trace = record {
   present_may_stay = (memory_lawful (disk_of trace)).present_may_stay;

@@ -13,6 +13,7 @@ pub data Fence : Type 0 where
   IsRollbacked : Fence
   IsSuspended : Fence
 
+-- the fence of b of x: this one where c of y is that branch, and else the one before
 abbrev pub fenced : (y c x b : ℕ) → Fence → Option Fence → Option Fence
 fenced y c x b here before = if (y == x) && (c == b) then Some here else before
 
@@ -38,6 +39,7 @@ tried_of_call (_ ∷ rs) x c = tried_of_call rs x c
 abbrev pub leg_cmp : ℕ × ℕ → ℕ × ℕ → Ordering
 leg_cmp a b = ordering_then (nat_cmp a.0 b.0) (nat_cmp a.1 b.1)
 
+-- the fences with this one of branch b of x
 abbrev pub with_fence : (x b : ℕ) → Fence → List ((ℕ × ℕ) × Fence) → List ((ℕ × ℕ) × Fence)
 with_fence x b here before = insert_entry leg_cmp before (x, b) here
 

@@ -32,6 +32,7 @@ holds rs x r = is_some (find (λ g. g.xid == x) (holding rs r))
 abbrev pub other_holder : List SessionRecord → ℕ → RowKey → Option Grant
 other_holder rs x r = find (λ g. not (g.xid == x)) (holding rs r)
 
+-- this row with its holder, if it has one, and else what was found among the rest
 abbrev pub with_holder : RowKey → Option Grant → Option (RowKey × Grant) → Option (RowKey × Grant)
 with_holder k None rest = rest
 with_holder k (Some g) rest = Some (k, g)
@@ -43,10 +44,12 @@ first_held rs x (k ∷ ks) = with_holder k (other_holder rs x k) (first_held rs 
 
 -- ---- all locks
 
+-- these rows with x as their holder, put over the locks
 abbrev pub locks_on : ℕ → List RowKey → List (RowKey × ℕ) → List (RowKey × ℕ)
 locks_on x [] locks = locks
 locks_on x (k ∷ ks) locks = insert_entry key_cmp (locks_on x ks locks) k x
 
+-- the rows of these branches, with their transactions as holders
 abbrev pub locks_of : List Grant → List (RowKey × ℕ)
 locks_of [] = []
 locks_of (g ∷ gs) = locks_on g.xid g.hold (locks_of gs)

@@ -52,6 +52,7 @@ status_of rs x = if is_known rs x then status_by (all_at (branches rs x)) (decid
 
 -- ---- what is asked of a transaction
 
+-- whether branches are asked still, and below it whether the transaction is finished
 abbrev pub is_on : Progress → Bool
 is_on Goes = true
 is_on Retries = true

@@ -37,6 +37,7 @@ pub record FitTables (db : Database) (images : List Image) (reads : List ReadRow
 abbrev pub HasNoEntry : List ResourceRecord → ℕ → ℕ → Type 0
 HasNoEntry rs x b = (undo_of rs x b ≡ None) × (is_marked rs x b ≡ false)
 
+-- branch b of x has an undo record
 abbrev pub HasUndo : List ResourceRecord → ℕ → ℕ → Type 0
 HasUndo rs x b = is_some (undo_of rs x b) ≡ true
 

@@ -11,6 +11,7 @@ use Rattle.durable_records.specs.UndoRecords.{Undo, undo_of}
 
 -- ---- the rows as they are now
 
+-- the images of an undo record, and none where there is none
 abbrev pub images_of : Option Undo → List Image
 images_of None = []
 images_of (Some u) = u.images
@@ -43,10 +44,12 @@ pub data Change : Type 0 where
 abbrev pub image_at : List Image → RowKey → Option Image
 image_at images key = find (λ i. is_key key i.key) images
 
+-- one change more where a record has an image of the row
 abbrev pub changed : (Image → Change) → Option Image → List Change → List Change
 changed by None rest = rest
 changed by (Some image) rest = by image ∷ rest
 
+-- the change that an image is, by who made it
 abbrev pub by_branch : ℕ → ℕ → Image → Change
 by_branch x b image = ByBranch x b image.before image.after
 
@@ -70,6 +73,7 @@ changes (log.LocalCommitted number images ∷ rs) key = changed by_local (image_
 changes (log.Outside number images ∷ rs) key = changed by_outside (image_at images key) (changes rs key)
 changes (_ ∷ rs) key = changes rs key
 
+-- the row as a change left it
 abbrev pub after_of : Change → Option Row
 after_of (ByBranch x b before after) = after
 after_of (ByLocal after) = after

@@ -42,6 +42,7 @@ may rs (log.Failed xid branch stmt) = may_end rs xid.0 branch.0
 may rs (log.Finished xid) = may_finish rs xid.0
 may rs (log.Forgot xid) = is_finished rs xid.0
 
+-- the same as a fact
 abbrev pub May : List SessionRecord → SessionRecord → Type 0
 May rs r = may rs r ≡ true
 
@@ -56,6 +57,7 @@ Allowed (r ∷ rs) = Allowed rs × May rs r
 abbrev pub is_counted : ℕ → ℕ → Bool
 is_counted count n = nat_le 1 n && nat_le n count
 
+-- whether a key's resource is one of this many
 abbrev pub has_resource : ℕ → RowKey → Bool
 has_resource resources key = is_counted resources key.resource
 

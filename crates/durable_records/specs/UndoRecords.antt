@@ -19,6 +19,7 @@ pub record Undo : Type 0 where
   pub images : List Image
   pub reads : List ReadRow
 
+-- whether an undo record is that of branch b of x, and below it whether it is that of another branch
 abbrev pub is_leg : ℕ → ℕ → Undo → Bool
 is_leg x b u = (u.xid == x) && (u.branch == b)
 

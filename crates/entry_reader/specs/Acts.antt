@@ -12,6 +12,7 @@ use Rattle.entry_reader.specs.Values.{key_of, option_row_of}
 use Rattle.entry_reader.specs.Reasons.{error_of, why_of}
 use Rattle.entry_reader.specs.Words.{chosen, is_empty}
 
+-- the durable act of these pieces, a boot where no other word fits
 unfoldable pub durable_of : List (List ℕ) → Durable
 durable_of ps = chosen (word_in (piece ps 0)) (
     (codes "begun", durable.Begun (xid_of (piece ps 1)))
@@ -40,6 +41,7 @@ abbrev pub durable_behind : List ℕ → List (List ℕ) → Option Durable
 durable_behind word [] = None
 durable_behind word (p ∷ ps) = if same_text p word then Some (durable_of ps) else durable_behind word ps
 
+-- by word, the acts of the coordinator that aren't durable
 unfoldable pub coordinator_acts : Names → List (List ℕ) → List (List ℕ × Act)
 coordinator_acts names ps =
     (codes "known", act.Known (xid_of (piece ps 1)))
@@ -59,6 +61,7 @@ busy_of names ps =
     if is_empty (piece ps 2) then act.CallBusy (number_32 (piece ps 1))
     else act.Busy (xid_of (piece ps 1)) (call_of (piece ps 2)) (key_of names (piece ps 3)) (ticket_of (piece ps 4))
 
+-- by word, the acts at calls and tickets; `busy` is also a manager's
 unfoldable pub call_acts : Names → List (List ℕ) → List (List ℕ × Act)
 call_acts names ps =
     (codes "opened", act.Opened (xid_of (piece ps 1)) (call_of (piece ps 2)) (ticket_of (piece ps 3)))
@@ -75,6 +78,7 @@ call_acts names ps =
 unfoldable pub dirty_of : Names → List (List ℕ) → Act
 dirty_of names ps = act.Dirty (xid_of (piece ps 1)) (branch_of (piece ps 2)) (key_of names (piece ps 3)) (option_row_of (piece ps 4)) (option_row_of (piece ps 5))
 
+-- by word, the acts at the second phase of a branch that aren't durable
 unfoldable pub branch_acts : Names → List (List ℕ) → List (List ℕ × Act)
 branch_acts names ps =
     (codes "empty", act.Empty (xid_of (piece ps 1)) (branch_of (piece ps 2)))
@@ -86,6 +90,7 @@ branch_acts names ps =
     ∷ (codes "unable", act.Unable (xid_of (piece ps 1)) (branch_of (piece ps 2)) (number_16 (piece ps 4)) (error_of names (drop 5 ps)))
     ∷ []
 
+-- by word, the acts at a local transaction or an outside write that aren't durable
 unfoldable pub local_acts : Names → List (List ℕ) → List (List ℕ × Act)
 local_acts names ps =
     (codes "waiting-local", act.WaitingLocal (number_16 (piece ps 1)))
@@ -95,6 +100,7 @@ local_acts names ps =
     ∷ (codes "dropped-local", act.DroppedLocal (number_16 (piece ps 1)) (ticket_of (piece ps 2)) (key_of names (piece ps 3)) (xid_of (piece ps 4)))
     ∷ []
 
+-- by word, the acts of managers, and those that any node may have
 unfoldable pub other_acts : List (List ℕ) → List (List ℕ × Act)
 other_acts ps =
     (codes "starts", act.Starts)
@@ -113,6 +119,7 @@ other_acts ps =
     ∷ (codes "restarted", act.Restarted (durable_behind (codes "kept") ps))
     ∷ []
 
+-- the act by its word, each with one more table in front; where none has the word it is a durable act
 unfoldable pub other_act : List (List ℕ) → Act
 other_act ps = chosen (word_in (piece ps 0)) (other_acts ps) (act.Durable (durable_of ps))
 
@@ -125,5 +132,6 @@ branch_act names ps = chosen (word_in (piece ps 0)) (branch_acts names ps) (loca
 unfoldable pub call_act : Names → List (List ℕ) → Act
 call_act names ps = chosen (word_in (piece ps 0)) (call_acts names ps) (branch_act names ps)
 
+-- the act that pieces stand for
 unfoldable pub act_of : Names → List (List ℕ) → Act
 act_of names ps = chosen (word_in (piece ps 0)) (coordinator_acts names ps) (call_act names ps)

@@ -12,9 +12,11 @@ abbrev pub delivery_of : Names → List (List ℕ) → Cause
 delivery_of names ps =
     if is_empty (piece ps 2) then cause.Missing (number_32 (piece ps 1)) else cause.Deliver (number_32 (piece ps 1)) (place_of names (piece ps 2))
 
+-- the calls after which a restart's disks stop, where a piece tells them
 abbrev pub calls_of : List ℕ → Option ℕ
 calls_of text = if is_empty text then None else Some (number_32 text)
 
+-- the cause that pieces stand for, a crash where no other word fits
 unfoldable pub cause_of : Names → List (List ℕ) → Cause
 cause_of names ps = chosen (word_in (piece ps 0)) (
     (codes "turn", cause.Turn)

@@ -45,6 +45,7 @@ abbrev pub cut : Separator → Inside → List ℕ → List (List ℕ)
 cut s i [] = [] ∷ []
 cut s i (c ∷ cs) = placed (ends s i c) c (cut s (after i c) cs)
 
+-- the pieces of a text
 abbrev pub pieces : Separator → List ℕ → List (List ℕ)
 pieces s text = cut s inside.Nothing text
 

@@ -24,6 +24,7 @@ resource_at place.Tc = 0
 resource_at (place.Res n) = n
 resource_at (place.Man n) = 0
 
+-- the answer to a call, a failed one where no other word fits
 unfoldable pub reply_of : Names → List (List ℕ) → CallAnswer
 reply_of names ps = chosen (word_in (piece ps 0)) (
     (codes "done", reply.Done (branch_of (piece ps 1)))
@@ -35,6 +36,7 @@ unfoldable pub register_of : ℕ → List (List ℕ) → Note
 register_of resource ps =
     note.Register (xid_of (piece ps 1)) (call_of (piece ps 2)) (ticket_of (piece ps 3)) (kind_of (piece ps 4)) (locks_of resource (piece ps 6)) (locks_of resource (piece ps 8))
 
+-- the answer that a row is held: the row, its holder, and whether that rolls back
 unfoldable pub conflict_of : Names → List (List ℕ) → Registered
 conflict_of names ps = registered.Conflict (key_of names (piece ps 3)) (xid_of (piece ps 4)) (rolling_of (piece ps 5))
 
@@ -69,10 +71,12 @@ answering_notes names ps =
     ∷ (codes "lock-held", note.LockAnswer (ticket_of (piece ps 1)) (Some (key_of names (piece ps 2), xid_of (piece ps 3))))
     ∷ []
 
+-- a message of the coordinator, or an answer to a call where no other word fits
 unfoldable pub answering_note : Names → List (List ℕ) → Note
 answering_note names ps =
     chosen (word_in (piece ps 0)) (answering_notes names ps) (note.Answer (xid_of (piece ps 1)) (call_of (piece ps 2)) (reply_of names (drop 3 ps)))
 
+-- a message by its word; lock texts are of the sender's resource
 unfoldable pub note_of : Names → ℕ → List (List ℕ) → Note
 note_of names resource ps = chosen (word_in (piece ps 0)) (asking_notes names resource ps) (answering_note names ps)
 

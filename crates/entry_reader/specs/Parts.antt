@@ -36,6 +36,7 @@ behind_number (c ∷ cs) = if is_ascii_digit c then behind_number cs else c ∷ 
 unfoldable pub number : List ℕ → ℕ
 number text = min (number_on 0 text) (2 ^ 64 - 1)
 
+-- the same for 16 and 32 bits
 abbrev pub number_16 : List ℕ → ℕ
 number_16 text = min (number text) (2 ^ 16 - 1)
 
@@ -66,6 +67,7 @@ ticket_of text = record { boot = number_32 (drop 1 text); seq = number_32 (drop 
 abbrev pub word_in : List ℕ → List ℕ
 word_in text = if list_all (λ b. nat_lt b 128) text then text else []
 
+-- a mode, a decision, and whether a holder rolls back; another word is read as AT, as a timeout and as no
 abbrev pub kind_of : List ℕ → BranchKind
 kind_of text = if same_text (word_in text) (codes "TCC") then kind.Tcc else kind.At
 
@@ -79,6 +81,7 @@ rolling_of text = if same_text (word_in text) (codes "rolling") then true else f
 
 -- ---- statuses
 
+-- the statuses of transactions, and those of branches, by their codes from 0 on
 abbrev pub global_statuses : List GlobalStatus
 global_statuses =
     global.UnKnown ∷ global.Begin ∷ global.Committing ∷ global.CommitRetrying ∷ global.Rollbacking ∷ global.RollbackRetrying ∷ global.TimeoutRollbacking
@@ -91,6 +94,7 @@ branch_statuses =
     ∷ branch.PhaseTwoCommitFailedRetryable ∷ branch.PhaseTwoCommitFailedUnretryable ∷ branch.PhaseTwoRollbacked ∷ branch.PhaseTwoRollbackFailedRetryable
     ∷ branch.PhaseTwoRollbackFailedUnretryable ∷ []
 
+-- the status of a code; the first one where there is none
 unfoldable pub global_with : ℕ → GlobalStatus
 global_with code = unwrap_or (slice_get global_statuses code) global.UnKnown
 
@@ -111,9 +115,11 @@ abbrev pub numbered_from : ℕ → List (List ℕ) → List ℕ → ℕ
 numbered_from n [] text = 0
 numbered_from n (name ∷ names) text = if same_text name text then n else numbered_from (n + 1) names text
 
+-- the number of a name, counted from 1; 0 for none
 unfoldable pub number_in : List (List ℕ) → List ℕ → ℕ
 number_in names text = min (numbered_from 1 names (word_in text)) (2 ^ 16 - 1)
 
+-- a place by the number that its name has among the resources, and among the managers; 0 for none
 abbrev pub place_by : ℕ → ℕ → Place
 place_by zero zero = place.Net
 place_by zero (suc k) = place.Man (suc k)

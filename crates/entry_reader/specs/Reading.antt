@@ -23,6 +23,7 @@ entry_by names origin act sent = record {
   sent = sent_of names (resource_at (place_of names (piece origin 1))) (drop 1 sent);
 }
 
+-- an entry by its three parts
 unfoldable pub entry_in : Names → List (List ℕ) → Entry
 entry_in names parts = entry_by names (pieces at.Space (piece parts 0)) (pieces at.Space (piece parts 1)) (pieces at.Space (piece parts 2))
 

@@ -10,6 +10,7 @@ use Rattle.entry_reader.specs.Parts.{number_16, word_in, xid_of, status_of}
 use Rattle.entry_reader.specs.Values.{key_of}
 use Rattle.entry_reader.specs.Words.{chosen}
 
+-- why a statement has no meaning; a full table where no other word fits
 unfoldable pub error_of : Names → List (List ℕ) → StmtError
 error_of names ps = chosen (word_in (piece ps 0)) (
     (codes "NoTable", error.NoTable)
@@ -22,6 +23,7 @@ error_of names ps = chosen (word_in (piece ps 0)) (
     ∷ (codes "Duplicate", error.Duplicate (key_of names (piece ps 1)))
     ∷ []) error.TableFull
 
+-- why a call failed or a local transaction was refused; a fence where no other word fits
 unfoldable pub why_of : Names → List (List ℕ) → Why
 why_of names ps = chosen (word_in (piece ps 0)) (
     (codes "stmt", why.Stmt (number_16 (piece ps 1)) (error_of names (drop 2 ps)))

@@ -31,6 +31,7 @@ use Rattle.history_text.specs.declared.entries.Sent.{Sent}
 use Rattle.history_text.specs.declared.notes.Note.{Note}
 use Rattle.history_text.specs.declared.notes.Note.TheVariants as note
 
+-- numbers of 16, 32 and 64 bits
 abbrev pub Is16 : ℕ → Type 0
 Is16 n = n < 2 ^ 16
 
@@ -40,6 +41,7 @@ Is32 n = n < 2 ^ 32
 abbrev pub Is64 : ℕ → Type 0
 Is64 n = n < 2 ^ 64
 
+-- identities, tickets and places
 abbrev pub IsXid : Xid → Type 0
 IsXid xid = Is64 xid.0
 
@@ -61,6 +63,7 @@ IsValue (value.Int (pos n)) = n < 2 ^ 63
 IsValue (value.Int (negsuc n)) = n < 2 ^ 63
 IsValue (value.Text text) = IsUtf8 text
 
+-- keys, and rows that may be missing
 abbrev pub IsKey : RowKey → Type 0
 IsKey key = Is16 key.resource × AllByRecursion IsValue key.pk
 
@@ -71,6 +74,7 @@ abbrev pub IsOptionRow : Option Row → Type 0
 IsOptionRow None = Unit {0}
 IsOptionRow (Some row) = AllByRecursion IsValue row.0
 
+-- reasons and causes
 abbrev pub IsError : StmtError → Type 0
 IsError (error.Overflow key) = IsKey key
 IsError (error.Duplicate key) = IsKey key
@@ -97,6 +101,7 @@ IsCause (cause.Restart pick calls) = Is16 pick × IsCalls calls
 IsCause (cause.Local number) = Is16 number
 IsCause (cause.Outside number) = Is16 number
 
+-- acts
 abbrev pub IsDurable : Durable → Type 0
 IsDurable (durable.Begun xid) = IsXid xid
 IsDurable (durable.Granted xid branch) = IsXid xid × IsBranch branch
@@ -159,6 +164,7 @@ IsAct (act.Down kept flight) = IsOptionDurable kept × IsOptionDurable flight
 IsAct (act.Restarted kept) = IsOptionDurable kept
 IsAct _ = Unit {0}
 
+-- messages, and the answers in them
 abbrev pub IsRegistered : Registered → Type 0
 IsRegistered (registered.Granted branch) = IsBranch branch
 IsRegistered (registered.Conflict key holder rolling) = IsKey key × IsXid holder

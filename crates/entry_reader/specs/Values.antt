@@ -44,6 +44,7 @@ key_by names ps = record {
   pk = parts_of (piece ps 2);
 }
 
+-- a key, from a piece
 unfoldable pub key_of : Names → List ℕ → RowKey
 key_of names text = key_by names (pieces at.Name text)
 
@@ -53,6 +54,7 @@ lock_by resource table [] = record { resource = resource; table = table; pk = []
 lock_by resource table (parts ∷ []) = record { resource = resource; table = table; pk = parts_of parts }
 lock_by resource table (name ∷ parts ∷ more) = record { resource = resource; table = text_from name; pk = parts_of parts }
 
+-- the same, from a piece
 unfoldable pub lock_of : ℕ → List ℕ → List ℕ → RowKey
 lock_of resource table text = lock_by resource table (pieces at.Name text)
 
@@ -72,5 +74,6 @@ locks_of resource text = if same_text text (codes "-") then [] else locks_from r
 unfoldable pub row_of : List ℕ → Row
 row_of text = record { 0 = if same_text text (codes "()") then [] else map cell_of (pieces at.Item (drop 1 text)) }
 
+-- a row, or `-` where there is none
 unfoldable pub option_row_of : List ℕ → Option Row
 option_row_of text = if same_text text (codes "-") then None else Some (row_of text)

@@ -44,6 +44,7 @@ pub record AreNodeNames (names : Names) : Type 0 where
 abbrev pub is_name_byte : ℕ → Bool
 is_name_byte c = is_ascii_lowercase c || (is_ascii_digit c || (c == 95))
 
+-- the words of statements
 abbrev pub is_keyword : List ℕ → Bool
 is_keyword name =
     list_any (same_text name) (codes "insert" ∷ codes "into" ∷ codes "values" ∷ codes "update" ∷ codes "set" ∷ codes "where" ∷ codes "delete" ∷ codes "from"
@@ -59,6 +60,7 @@ is_table_name (c ∷ cs) =
 abbrev pub is_named : List (List ℕ) → ℕ → Bool
 is_named names n = nat_lt 0 n && nat_le n (length names)
 
+-- the network, the coordinator, or a node that has a name
 abbrev pub is_place : Names → Place → Bool
 is_place names place.Net = true
 is_place names place.Tc = true
@@ -74,6 +76,7 @@ is_key names key =
 
 -- ---- reasons, causes and acts
 
+-- reasons, causes and acts: their keys are such, and the sender of a delivery is such a place
 unfoldable pub is_error : Names → StmtError → Bool
 is_error names (error.Overflow key) = is_key names key
 is_error names (error.Duplicate key) = is_key names key
@@ -108,10 +111,12 @@ abbrev pub rises_behind : RowKey → List RowKey → Bool
 rises_behind last [] = true
 rises_behind last (key ∷ keys) = is_lt (key_cmp last key) && rises_behind key keys
 
+-- keys in rising order
 unfoldable pub rises : List RowKey → Bool
 rises [] = true
 rises (key ∷ keys) = rises_behind key keys
 
+-- such a key of this resource
 abbrev pub is_key_of : Names → ℕ → RowKey → Bool
 is_key_of names resource key = (key.resource == resource) && is_key names key
 
@@ -119,6 +124,7 @@ is_key_of names resource key = (key.resource == resource) && is_key names key
 unfoldable pub are_locks : Names → ℕ → List RowKey → Bool
 are_locks names resource keys = list_all (is_key_of names resource) keys && rises keys
 
+-- the answers to a registration, to a call and to a lock query: their keys are such
 unfoldable pub is_registered : Names → Registered → Bool
 is_registered names (registered.Conflict key holder rolling) = is_key names key
 is_registered names _ = true
@@ -142,10 +148,12 @@ is_note names resource (note.LockAnswer ticket held) = is_held names held
 is_note names resource (note.Answer xid call answer) = is_reply names answer
 is_note names resource _ = true
 
+-- nothing, or such a message to such a place
 unfoldable pub is_sent : Names → ℕ → Option Sent → Bool
 is_sent names resource None = true
 is_sent names resource (Some sent) = is_place names sent.to && is_note names resource sent.note
 
+-- an entry that is printed with these names
 unfoldable pub is_entry : Names → Entry → Bool
 is_entry names e =
     is_place names e.place && (is_cause names e.cause && (is_act names e.act && is_sent names (resource_at e.place) e.sent))

@@ -15,9 +15,11 @@ use Rattle.frame_codec.specs.Heads.{head_bytes, head_at}
 
 -- ---- the frame of a message
 
+-- the body of a message's frame: its type code and its fields
 abbrev pub body_bytes : Message → List ℕ
 body_bytes message = to_be_bytes w16 (type_code message) ++ fields_bytes message
 
+-- the head of a message's frame under a stamp; its full length counts the head and the body
 abbrev pub head_of : Message → ℕ → Head
 head_of message stamp = record {
   magic = MAGIC;
@@ -30,9 +32,11 @@ head_of message stamp = record {
   stamp = stamp;
 }
 
+-- the one frame of a message under a stamp
 unfoldable pub frame_bytes : Message → ℕ → List ℕ
 frame_bytes message stamp = head_bytes (head_of message stamp) ++ body_bytes message
 
+-- a message that the layout can hold, with a body within its limit, under a stamp of four bytes
 pub record HasFrame (message : Message) (stamp : ℕ) : Type 0 where
   pub fits : FitsMessage message
   pub body : length (body_bytes message) ≤ BODY_BYTES
@@ -40,14 +44,17 @@ pub record HasFrame (message : Message) (stamp : ℕ) : Type 0 where
 
 -- ---- what bytes are as a frame
 
+-- what is read of a frame, or the first fault
 abbrev pub Framed : Type 0 → Type 0
 Framed X = Result X FrameError
 
+-- the next step, where no step before it met a fault
 infixl 10 ◌>>=◌
 abbrev pub ◌>>=◌ : {X Y : Type 0} → Framed X → (X → Framed Y) → Framed Y
 (Ok x) >>= next = next x
 (Err e) >>= next = Err e
 
+-- a test, and the fault where it isn't passed
 abbrev pub check : Bool → FrameError → Framed (Unit {0})
 check true fault = Ok tt
 check false fault = Err fault
@@ -59,6 +66,7 @@ in_frame (field.BadText at) = errors.Body at
 in_frame (field.BadTag at) = errors.Body at
 in_frame field.NoMemory = errors.NoMemory
 
+-- what a field's reader gave, with its fault as one of the frame
 abbrev pub placed : {X : Type 0} → Read X → Framed (X × Position)
 placed (Ok x) = Ok x
 placed (Err e) = Err (in_frame e)

@@ -5,11 +5,13 @@ use Rattle.byte_fields.specs.Reading.{Reader, ◌>>=◌, gives, number_at}
 use Rattle.frame_codec.specs.declared.head.Head.{Head}
 use Rattle.byte_fields.specs.Parts.{joined}
 
+-- the fields of a head in their order
 unfoldable pub head_bytes : Head → List ℕ
 head_bytes head = joined (
     to_be_bytes w16 head.magic ∷ (head.version ∷ []) ∷ to_be_bytes w32 head.full ∷ to_be_bytes w16 head.size ∷
     (head.kind ∷ []) ∷ (head.codec ∷ []) ∷ (head.compressor ∷ []) ∷ to_be_bytes w32 head.stamp ∷ [])
 
+-- the head that stands at a place, whatever its fields say
 unfoldable pub head_at : Reader Head
 head_at = do
   magic ← number_at w16

@@ -23,14 +23,17 @@ use Rattle.frame_codec.specs.Messages.{FitsMessage}
 abbrev pub IsCounted : ℕ → ℕ → Type 0
 IsCounted limit n = (1 ≤ n) × (n ≤ limit)
 
+-- a key whose resource's number and whose table's name are within the limits
 pub record IsKeyWithin (key : RowKey) : Type 0 where
   pub resource : IsCounted RESOURCES key.resource
   pub table : length key.table ≤ NAME_BYTES
 
+-- no more keys than rows that a call may touch or read, each within the limits
 pub record AreKeysWithin (keys : List RowKey) : Type 0 where
   pub count : length keys ≤ CALL_ROWS
   pub each : All IsKeyWithin keys
 
+-- the parts of answers: each key in them is within the limits, and each statement's number
 abbrev pub IsRegisteredWithin : Registered → Type 0
 IsRegisteredWithin (registered.Conflict key holder rolling) = IsKeyWithin key
 IsRegisteredWithin _ = Unit {0}
@@ -58,10 +61,12 @@ IsHeldWithin (Some held) = IsKeyWithin held.0
 abbrev pub IsStmtWithin : Stmt → Type 0
 IsStmtWithin stmt = length (canonical_text stmt) ≤ 2 * STATEMENT_BYTES
 
+-- no more statements than a list may have, none of them too long
 pub record AreStmtsWithin (stmts : List Stmt) : Type 0 where
   pub count : length stmts ≤ STATEMENTS
   pub each : All IsStmtWithin stmts
 
+-- the statements of AT work, or each of the three lists of a TCC action
 abbrev pub IsWorkWithin : Work → Type 0
 IsWorkWithin (work.At stmts) = AreStmtsWithin stmts
 IsWorkWithin (work.Tcc action) = AreStmtsWithin action.tries × AreStmtsWithin action.confirms × AreStmtsWithin action.cancels

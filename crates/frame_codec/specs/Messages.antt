@@ -96,6 +96,7 @@ FitsMessage (message.Answer xid call given) = FitsXid xid × (call < 2 ^ 16) × 
 
 -- ---- the fields of each message
 
+-- each message by its fields, in the order in which they are written
 unfoldable pub begin_at : Reader Message
 begin_at = do
   manager ← number_at w16
@@ -244,8 +245,10 @@ messages =
     (ANSWER, call_answer_at) ∷
     []
 
+-- whether a code is the type code of a message
 unfoldable pub is_known : ℕ → Bool
 is_known code = is_some (look_up code messages)
 
+-- the message of a type code, read from its fields; a code of none is refused as a bad tag
 unfoldable pub fields_at : ℕ → Reader Message
 fields_at code start = chosen start.at (look_up code messages) start

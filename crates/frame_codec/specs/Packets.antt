@@ -23,6 +23,7 @@ abbrev pub sent_from : Framed (Message × ℕ × ℕ) → Sent
 sent_from (Ok frame) = record { message = frame.0; stamp = frame.1 }
 sent_from (Err e) = record { message = message.Begun (record { 0 = 0 }); stamp = 0 }
 
+-- the message that a packet's bytes carry, and its stamp
 unfoldable pub sent_in : List ℕ → Sent
 sent_in bytes = sent_from (decoded bytes)
 

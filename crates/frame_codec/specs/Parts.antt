@@ -20,6 +20,7 @@ use Rattle.byte_fields.specs.Parts.{xid_bytes, FitsXid, xid_at, branch_bytes, Fi
 
 -- ---- the answer to a registration
 
+-- here and below: the tag is the first byte and says which one it is, and the rest stands behind it
 abbrev pub registered_tag : Registered → ℕ
 registered_tag (registered.Granted id) = 0
 registered_tag (registered.Conflict key holder rolling) = 1
@@ -60,6 +61,7 @@ registered_at = tagged ((0, granted_at) ∷ (1, conflict_at) ∷ (2, closed_at) 
 
 -- ---- the answer to a lock query: the first key that another transaction holds, and the transaction
 
+-- there is none where no other transaction holds one of the keys
 abbrev pub held_tag : Option (RowKey × Xid) → ℕ
 held_tag None = 0
 held_tag (Some held) = 1
@@ -215,6 +217,7 @@ failed_at = do
 unfoldable pub answer_at : Reader CallAnswer
 answer_at = tagged ((0, done_at) ∷ (1, busy_at) ∷ (2, failed_at) ∷ [])
 
+-- these two as they stand in their messages: the tag and the rest
 abbrev pub registered_bytes : Registered → List ℕ
 registered_bytes given = registered_tag given ∷ registered_rest given
 

@@ -16,6 +16,7 @@ use Rattle.byte_fields.specs.Tags.{tagged}
 
 -- ---- a statement
 
+-- a statement is put as its canonical text, with the length before it
 unfoldable pub stmt_bytes : Stmt → List ℕ
 stmt_bytes stmt = text_bytes (canonical_text stmt)
 
@@ -33,15 +34,18 @@ if_canonical text (Err refused) = None
 unfoldable pub stmt_of : List ℕ → Option Stmt
 stmt_of text = if_canonical text (reading text)
 
+-- a statement, or a bad text at the place where its field begins
 abbrev pub stmt_or_fault : ℕ → Option Stmt → Reader Stmt
 stmt_or_fault place (Some stmt) = gives stmt
 stmt_or_fault place None = fails (errors.BadText place)
 
+-- the statement whose canonical text stands there; a text that is that of none is a bad text
 unfoldable pub stmt_at : Reader Stmt
 stmt_at start = and_then (text_at start) (λ text. stmt_or_fault start.at (stmt_of text))
 
 -- ---- statements
 
+-- no more statements than two bytes can count, each of which fits
 pub record FitsStmts (stmts : List Stmt) : Type 0 where
   pub count : length stmts < 2 ^ 16
   pub each : All FitsStmt stmts
@@ -53,6 +57,7 @@ stmts_bytes stmts = list_bytes stmt_bytes stmts
 abbrev pub any_stmt : Option Stmt → Reader Stmt
 any_stmt last = stmt_at
 
+-- a count, and as many statements
 unfoldable pub stmts_at : Reader (List Stmt)
 stmts_at = do
   n ← number_at w16
@@ -60,6 +65,7 @@ stmts_at = do
 
 -- ---- work
 
+-- AT work is one list of statements; a TCC action is three: its tries, its confirms and its cancels
 abbrev pub work_tag : Work → ℕ
 work_tag (work.At stmts) = 0
 work_tag (work.Tcc action) = 1

@@ -61,6 +61,7 @@ pub record CallsAreSafe (w : World) (past : Past) (ms : List Moment) : Type 0 wh
   pub one_tcc : HasOneTcc (session_records past ms)
   pub worked : (x : ℕ) → is_commit (decided (session_records past ms) x) ≡ true → OwnWorked w (session_records past ms) (memory_of past ms) x
 
+-- at each point of a history
 abbrev pub CallsStaySafe : World → Past → List Moment → Type 0
 CallsStaySafe w past ms = AtEachPoint (CallsAreSafe w past) ms
 
@@ -79,8 +80,10 @@ abbrev pub NoneIsUnfenced : List Moment → Type 0
 NoneIsUnfenced [] = Unit {0}
 NoneIsUnfenced (m ∷ ms) = NoneIsUnfenced ms × ((k : ℕ) (xid : Xid) (branch : BranchId) → m.place ≡ place.Res k → m.step.act ≡ act.Unfenced xid branch → ⊥)
 
+-- in a legal history over disks without records
 abbrev pub UnfencedLaw : Type 0
 UnfencedLaw = (w : World) (past : Past) (ms : List Moment) → AreNumbered w → IsBlankPast past → Legal w past ms → NoneIsUnfenced ms
 
+-- and in every chain
 abbrev pub UnfencedOfChains : Type 0
 UnfencedOfChains = (w : World) (histories : List (Past × List Moment)) → AreNumbered w → IsChain w histories → InEachHistory (λ past ms. NoneIsUnfenced ms) histories

@@ -124,6 +124,7 @@ SaysIn w tc mem from to (message.BranchRollback xid b k manager c) =
 SaysIn w tc mem from to (message.BranchRollbacked xid b st stmt) = RollbackSaid w tc mem from xid.0 b.0 st
 SaysIn w tc mem from to _ = Unit {0}
 
+-- what a message says that was sent from this place
 abbrev pub Says : World → Left SessionRecord → (ℕ → Setup → Memory) → Place → Outgoing → Type 0
 Says w tc mem from out = SaysIn w tc mem from out.to out.message
 
@@ -135,5 +136,6 @@ pub record CoversBy (w : World) (tc : Left SessionRecord) (mem : ℕ → Setup �
   pub ended : EndsWell w tc mem tc.records × EndsWell w tc mem (all_of tc)
   pub said : EachSent (Says w tc mem) ms
 
+-- the whole, after a history
 abbrev pub Covers : World → Past → List Moment → Type 0
 Covers w past ms = CoversBy w (coordinator_left past ms) (memory_of past ms) ms

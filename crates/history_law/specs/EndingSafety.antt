@@ -21,11 +21,13 @@ use Rattle.history_law.specs.TicketSafety.{AreNumbered}
 
 -- ---- how often
 
+-- how many of these records pass a test
 abbrev pub how_many : (ResourceRecord → Bool) → List ResourceRecord → ℕ
 how_many test [] = 0
 how_many test (r ∷ rs) = if test r then how_many test rs + 1 else how_many test rs
 
 module _ (x b : ℕ) where
+  -- the records of branch b of x: its local commit and undo, its Try, Confirm and Cancel, and its suspension
   abbrev pub is_committed : ResourceRecord → Bool
   is_committed (log.Committed xid branch call images reads) = (xid.0 == x) && (branch.0 == b)
   is_committed _ = false
@@ -87,6 +89,7 @@ pub record EndingsAreSafe (w : World) (past : Past) (ms : List Moment) : Type 0 
   pub fenced : (n : ℕ) (s : Setup) → counted_at w.resources n ≡ Some s
       → (x b : ℕ) → IsFencedAs (decided (session_records past ms) x) (fence (memory_of past ms n s).left.records x b)
 
+-- at each point of a history
 abbrev pub EndingsStaySafe : World → Past → List Moment → Type 0
 EndingsStaySafe w past ms = AtEachPoint (EndingsAreSafe w past) ms
 

@@ -31,5 +31,6 @@ abbrev pub FinishesAsDecided : Past → List Moment → Type 0
 FinishesAsDecided past [] = Unit {0}
 FinishesAsDecided past (m ∷ ms) = FinishesAsDecided past ms × (m.place ≡ place.Tc → TellsEnd (session_records past ms) m.step.act)
 
+-- in every legal history
 abbrev pub FinishesLaw : Type 0
 FinishesLaw = (w : World) (past : Past) (ms : List Moment) → Legal w past ms → FinishesAsDecided past ms

@@ -4,6 +4,7 @@ use Rattle.seata_types.specs.declared.ids.Place.{Place}
 use Rattle.seata_types.specs.declared.messages.Outgoing.{Outgoing}
 use Rattle.history_rules.specs.Histories.{Moment}
 
+-- what was sent, if anything, has a property, with the place that sent it
 abbrev pub OnSent : (Place → Outgoing → Type 0) → Place → Option Outgoing → Type 0
 OnSent P from None = Unit {0}
 OnSent P from (Some out) = P from out

@@ -38,6 +38,7 @@ pub record WorksAreOnce (w : World) (past : Past) (ms : List Moment) : Type 0 wh
   pub at_most : (n : ℕ) (s : Setup) → counted_at w.resources n ≡ Some s → (x c : ℕ) → how_many (is_work x c) (memory_of past ms n s).left.records ≤ 1
   pub committed : (x : ℕ) → is_commit (decided (session_records past ms) x) ≡ true → WorkedOnce w (session_records past ms) (memory_of past ms) x
 
+-- at each point of a history
 abbrev pub WorksStayOnce : World → Past → List Moment → Type 0
 WorksStayOnce w past ms = AtEachPoint (WorksAreOnce w past) ms
 

@@ -31,6 +31,7 @@ LiesUnder rs x b (ByBranch y d before after) = (is_commit (decided rs y) ≡ tru
 LiesUnder rs x b (ByLocal after) = Unit {0}
 LiesUnder rs x b (ByOutside after) = Unit {0}
 
+-- all these changes may lie under it
 abbrev pub LieUnder : List SessionRecord → (x b : ℕ) → List Change → Type 0
 LieUnder rs x b cs = (c : Change) → In c cs → LiesUnder rs x b c
 
@@ -40,6 +41,7 @@ IsSettled rs (ByBranch x b before after) = is_commit (decided rs x) ≡ true
 IsSettled rs (ByLocal after) = Unit {0}
 IsSettled rs (ByOutside after) = Unit {0}
 
+-- all these changes are settled
 abbrev pub AreSettled : List SessionRecord → List Change → Type 0
 AreSettled rs cs = (c : Change) → In c cs → IsSettled rs c
 
@@ -80,9 +82,11 @@ pub record RowsAreInOrder (rs : List SessionRecord) (n : ℕ) (m : Memory) : Typ
   pub open_lie : (g : Grant) → In g (grants rs) → g.kind ≡ kind.At → g.resource ≡ n → (o : Open) → In o m.opens → o.ticket ≡ g.ticket
       → (key : RowKey) → has_row key o ≡ true → LieUnder rs g.xid g.branch (changes m.left.records key)
 
+-- of each resource, after a history
 abbrev pub RowsArePiled : World → Past → List Moment → Type 0
 RowsArePiled w past ms = (n : ℕ) (s : Setup) → counted_at w.resources n ≡ Some s → RowsAreInOrder (session_records past ms) n (memory_of past ms n s)
 
+-- at each point of a history
 abbrev pub RowsStayPiled : World → Past → List Moment → Type 0
 RowsStayPiled w past ms = AtEachPoint (RowsArePiled w past) ms
 

@@ -48,6 +48,7 @@ Finds rs (log.Finished xid) = IsGoing rs xid.0 × (unended rs xid.0 ≡ [])
 Finds rs (log.Forgot xid) = IsDecided rs xid.0 × (is_done (progress rs xid.0) ≡ true)
 Finds rs _ = Unit {0}
 
+-- each record finds that before it
 abbrev pub AreInOrder : List SessionRecord → Type 0
 AreInOrder [] = Unit {0}
 AreInOrder (r ∷ rs) = AreInOrder rs × Finds rs r
@@ -90,6 +91,7 @@ holds_after rs (log.Ended xid branch) x key = holds_besides rs xid.0 branch.0 x 
 holds_after rs (log.Decided xid how.Commit) x key = not (xid.0 == x) && holds rs x key
 holds_after rs _ x key = holds rs x key
 
+-- the holders of each row change so with each record
 abbrev pub HoldersChange : List SessionRecord → Type 0
 HoldersChange [] = Unit {0}
 HoldersChange (r ∷ rs) = HoldersChange rs × ((x : ℕ) (key : RowKey) → holds (r ∷ rs) x key ≡ holds_after rs r x key)
@@ -108,6 +110,7 @@ pub record SessionsAreSafe (rs : List SessionRecord) : Type 0 where
 abbrev pub session_records : Past → List Moment → List SessionRecord
 session_records past ms = (coordinator_left past ms).records
 
+-- at each point of a history
 abbrev pub SessionsStaySafe : Past → List Moment → Type 0
 SessionsStaySafe past ms = AtEachPoint (λ before. SessionsAreSafe (session_records past before)) ms
 
@@ -115,6 +118,7 @@ SessionsStaySafe past ms = AtEachPoint (λ before. SessionsAreSafe (session_reco
 abbrev pub SessionsLaw : Type 0
 SessionsLaw = (w : World) (past : Past) (ms : List Moment) → Allowed past.sessions → Legal w past ms → SessionsStaySafe past ms
 
+-- and in every chain
 abbrev pub SessionsOfChains : Type 0
 SessionsOfChains = (w : World) (histories : List (Past × List Moment)) → IsChain w histories → InEachHistory SessionsStaySafe histories
 
@@ -128,6 +132,7 @@ IsAsked rs (message.BranchRollback xid branch kind manager call) =
     (is_rollback (decided rs xid.0) ≡ true) × (is_some (unended_branch rs xid.0 branch.0) ≡ true)
 IsAsked rs _ = Unit {0}
 
+-- the same of the message that was sent, if one was
 abbrev pub Asks : List SessionRecord → Option Outgoing → Type 0
 Asks rs None = Unit {0}
 Asks rs (Some out) = IsAsked rs out.message
@@ -137,5 +142,6 @@ abbrev pub AsksAsDecided : Past → List Moment → Type 0
 AsksAsDecided past [] = Unit {0}
 AsksAsDecided past (m ∷ ms) = AsksAsDecided past ms × (m.place ≡ place.Tc → Asks (session_records past ms) m.step.sent)
 
+-- in every legal history
 abbrev pub QuestionsLaw : Type 0
 QuestionsLaw = (w : World) (past : Past) (ms : List Moment) → Legal w past ms → AsksAsDecided past ms

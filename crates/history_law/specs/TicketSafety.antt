@@ -58,9 +58,11 @@ pub record TicketsAreSafe (rs : List SessionRecord) (n : ℕ) (m : Memory) : Typ
 
 -- ---- the law
 
+-- of each resource, after a history
 abbrev pub EachIsSafe : World → Past → List Moment → Type 0
 EachIsSafe w past ms = (n : ℕ) (s : Setup) → counted_at w.resources n ≡ Some s → TicketsAreSafe (session_records past ms) n (memory_of past ms n s)
 
+-- at each point of a history
 abbrev pub TicketsStaySafe : World → Past → List Moment → Type 0
 TicketsStaySafe w past ms = AtEachPoint (EachIsSafe w past) ms
 

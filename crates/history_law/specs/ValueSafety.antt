@@ -47,6 +47,7 @@ pub record IsOfMode (s : Setup) (mode : BranchKind) (key : RowKey) : Type 0 wher
 abbrev pub NameTables : Setup → BranchKind → List Stmt → Type 0
 NameTables s mode stmts = (stmt : Stmt) → In stmt stmts → (def : TableDef) → table_named s.schema (table_of stmt) ≡ Some def → def.mode ≡ mode
 
+-- the statements of a call, or the Try of its actions, name tables of the mode of its work alone
 abbrev pub WorksOn : Setup → Work → Type 0
 WorksOn s (work.At stmts) = NameTables s kind.At stmts
 WorksOn s (work.Tcc action) = NameTables s kind.Tcc action.tries
@@ -64,6 +65,7 @@ pub record HasModes (w : World) : Type 0 where
 abbrev pub IsInside : RowKey → List ResourceRecord → Type 0
 IsInside key rs = (number : ℕ) (images : List Image) → In (log.Outside number images) rs → image_at images key ≡ None
 
+-- these changes, but none where an image touched the row
 abbrev pub none_if_touched : Option Image → List Change → List Change
 none_if_touched None rest = rest
 none_if_touched (Some image) rest = []
@@ -168,9 +170,11 @@ pub record ValuesAreSafe (w : World) (past : Past) (ms : List Moment) (n : ℕ) 
   pub effects : AreEffects w past ms (session_records past ms) n s m.left.records
   pub in_flight : AreEffects w past ms (session_records past ms) n s (all_of m.left)
 
+-- of each resource, after a history
 abbrev pub EachHasValues : World → Past → List Moment → Type 0
 EachHasValues w past ms = (n : ℕ) (s : Setup) → counted_at w.resources n ≡ Some s → ValuesAreSafe w past ms n s (memory_of past ms n s)
 
+-- at each point of a history
 abbrev pub ValuesStaySafe : World → Past → List Moment → Type 0
 ValuesStaySafe w past ms = AtEachPoint (EachHasValues w past) ms
 
@@ -197,8 +201,10 @@ DirtyByOutside w past (m ∷ ms) = DirtyByOutside w past ms × ((n : ℕ) (s : S
     → (xid : Xid) (branch : BranchId) (key : RowKey) (after now : Option Row) → m.step.act ≡ act.Dirty xid branch key after now
     → IsOutsideAfter (memory_of past ms n s).left.records xid.0 branch.0 key)
 
+-- in a legal history over disks without records
 abbrev pub DirtyLaw : Type 0
 DirtyLaw = (w : World) (past : Past) (ms : List Moment) → AreNumbered w → HasModes w → IsBlankPast past → Legal w past ms → DirtyByOutside w past ms
 
+-- and in every chain
 abbrev pub DirtyOfChains : Type 0
 DirtyOfChains = (w : World) (histories : List (Past × List Moment)) → AreNumbered w → HasModes w → IsChain w histories → InEachHistory (DirtyByOutside w) histories

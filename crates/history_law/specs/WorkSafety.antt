@@ -43,6 +43,7 @@ pub record AllWorked (w : World) (mem : ℕ → Setup → Memory) (x : ℕ) : Ty
 abbrev pub CommitsAreSafe : World → Past → List Moment → Type 0
 CommitsAreSafe w past ms = (x : ℕ) → is_commit (decided (session_records past ms) x) ≡ true → AllWorked w (memory_of past ms) x
 
+-- at each point of a history
 abbrev pub CommitsStaySafe : World → Past → List Moment → Type 0
 CommitsStaySafe w past ms = AtEachPoint (CommitsAreSafe w past) ms
 

@@ -5,6 +5,7 @@ use Rattle.history_rules.specs.ResourceMemory.{Setup, boot_over}
 use Rattle.history_rules.specs.Nodes.{World, Past, MayStand, counted_at}
 use Rattle.history_rules.specs.Histories.{Moment, Legal, coordinator_left, memory_at}
 
+-- the records that stand at resource n after a history, by its setup; none where there is no such resource
 abbrev pub records_of : World → Past → List Moment → ℕ → Option Setup → List ResourceRecord
 records_of w past ms n None = []
 records_of w past ms n (Some s) = (memory_at past s ms).left.records

@@ -48,6 +48,7 @@ session_record now event (durable.Finished xid final) = Some (log.Finished xid)
 session_record now event (durable.Forgot xid) = Some (log.Forgot xid)
 session_record now event _ = None
 
+-- the record that an own entry asked for, whether it was done or in flight as the coordinator went down
 abbrev pub session_asked : Own → Option SessionRecord
 session_asked o = option_and_then (session_record o.now o.event) (asked_act o.step.act)
 
@@ -58,9 +59,11 @@ sessions_left past (o ∷ os) = leaves o.step.act (session_asked o) (sessions_le
 
 -- ---- moments
 
+-- the later of two moments, of which the first doesn't count where its transaction is forgotten
 abbrev pub later : Bool → ℕ → ℕ → ℕ
 later forgotten moment latest = if forgotten then latest else max moment latest
 
+-- the latest moment at which one of these transactions that isn't forgotten began, 0 where there is none
 abbrev pub latest : List SessionRecord → List Session → ℕ
 latest rs [] = 0
 latest rs (s ∷ ss) = later (is_forgotten rs s.xid) s.begun (latest rs ss)
@@ -69,6 +72,7 @@ latest rs (s ∷ ss) = later (is_forgotten rs s.xid) s.begun (latest rs ss)
 abbrev pub start : List SessionRecord → ℕ
 start past = min (latest past (sessions past)) LATEST_START
 
+-- when x is due after a durable act at `now`, by when it was due before
 abbrev pub due_by_durable : ℕ → ℕ → Durable → ℕ → ℕ → ℕ
 due_by_durable retry now (durable.Late xid) x before = if xid.0 == x then now else before
 due_by_durable retry now (durable.Decided xid decision) x before = if xid.0 == x then now else before
@@ -76,6 +80,7 @@ due_by_durable retry now (durable.Ended xid branch) x before = if xid.0 == x the
 due_by_durable retry now (durable.Retrying xid branch) x before = if xid.0 == x then now + retry else before
 due_by_durable retry now _ x before = before
 
+-- the same after any act
 abbrev pub due_after : ℕ → ℕ → Act → ℕ → ℕ → ℕ
 due_after retry now (act.Durable done) x before = due_by_durable retry now done x before
 due_after retry now (act.Asked xid branch) x before = if xid.0 == x then now + retry else before
@@ -89,6 +94,7 @@ abbrev pub due : (retry first : ℕ) → List Own → ℕ → ℕ
 due retry first [] x = first
 due retry first (o ∷ os) x = due_after retry o.now o.step.act x (due retry first os x)
 
+-- since when x rests, after an act at `now`: its finish and a restart set it, all else leaves it
 abbrev pub rests_after : ℕ → Act → ℕ → ℕ → ℕ
 rests_after now (act.Durable (durable.Finished xid final)) x before = if xid.0 == x then now else before
 rests_after now (act.Restarted kept) x before = now
@@ -99,6 +105,7 @@ abbrev pub rests_since : (first : ℕ) → List Own → ℕ → ℕ
 rests_since first [] x = first
 rests_since first (o ∷ os) x = rests_after o.now o.step.act x (rests_since first os x)
 
+-- the timeout of a transaction is over; never where there is no transaction
 abbrev pub is_past : Option Session → ℕ → Bool
 is_past None now = false
 is_past (Some s) now = nat_lt (s.begun + s.timeout) now
@@ -109,6 +116,7 @@ is_late rs now x = may_decide rs x && is_past (session rs x) now
 
 -- ---- choices among transactions
 
+-- the one that was found already, else n where it passes
 abbrev pub or_this : Option ℕ → Bool → ℕ → Option ℕ
 or_this (Some x) passes n = Some x
 or_this None passes n = if passes then Some n else None
@@ -118,6 +126,7 @@ abbrev pub least : (ℕ → Bool) → ℕ → Option ℕ
 least test zero = None
 least test (suc n) = or_this (least test n) (test (suc n)) (suc n)
 
+-- of the soonest so far and n the one with the lesser moment, the one so far where they tie or n has none
 abbrev pub sooner : Option (ℕ × ℕ) → ℕ → Option ℕ → Option (ℕ × ℕ)
 sooner first n None = first
 sooner None n (Some moment) = Some (n, moment)

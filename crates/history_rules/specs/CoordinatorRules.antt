@@ -32,6 +32,7 @@ pub use Rattle.local_txn.specs.OpenTickets.{last_of}
 use Rattle.history_rules.specs.Own.{Own, still, sends}
 use Rattle.history_rules.specs.CoordinatorMemory.{Times, is_past, late_one, due_one, old_one}
 
+-- a transaction and a branch of these numbers
 abbrev pub xid_of : ℕ → Xid
 xid_of x = record { 0 = x }
 
@@ -53,12 +54,14 @@ module _ (rs : List SessionRecord) where
   abbrev pub decided_status : ℕ → Decision → GlobalStatus
   decided_status x decision = status_by (all_at (branches rs x)) (Some decision) Goes
 
+  -- the status, told in answer to a GlobalCommit, and to a GlobalRollback
   abbrev pub tells_commit : Place → Xid → Act → GlobalStatus → Step
   tells_commit from xid done st = sends done from (message.CommitStatus xid st)
 
   abbrev pub tells_rollback : Place → Xid → Act → GlobalStatus → Step
   tells_rollback from xid done st = sends done from (message.RollbackStatus xid st)
 
+  -- at a GlobalCommit x is decided so, and the status that follows is told
   abbrev pub commit_decides : Place → Xid → Decision → Step
   commit_decides from xid decision = tells_commit from xid (act.Durable (durable.Decided xid decision)) (decided_status xid.0 decision)
 
@@ -153,6 +156,7 @@ abbrev pub first_of : {A : Type 0} → List A → Option A
 first_of [] = None
 first_of (x ∷ xs) = Some x
 
+-- the manager that began a transaction, 0 where there is none
 abbrev pub manager_of : Option Session → ℕ
 manager_of None = 0
 manager_of (Some s) = s.manager
@@ -163,6 +167,7 @@ module _ (rs : List SessionRecord) where
   next_asked x true = last_of (unended rs x)
   next_asked x false = first_of (unended rs x)
 
+  -- what a branch of x is asked, by how x is decided
   abbrev pub asks : ℕ → Grant → (commit : Bool) → Message
   asks x g true = message.BranchCommit (xid_of x) (branch_of g.branch) g.kind (manager_of (session rs x)) g.call
   asks x g false = message.BranchRollback (xid_of x) (branch_of g.branch) g.kind (manager_of (session rs x)) g.call
@@ -172,6 +177,7 @@ module _ (rs : List SessionRecord) where
   due_answer x None = still (act.Durable (durable.Finished (xid_of x) (status_by (all_at (branches rs x)) (decided rs x) IsDone)))
   due_answer x (Some g) = sends (act.Asked (xid_of x) (branch_of g.branch)) (place.Res g.resource) (asks x g (is_commit (decided rs x)))
 
+  -- a transaction that is old is forgotten; nothing where none is
   abbrev pub old_answer : Option ℕ → Step
   old_answer (Some x) = still (act.Durable (durable.Forgot (xid_of x)))
   old_answer None = still act.Nothing
@@ -184,6 +190,7 @@ module _ (rs : List SessionRecord) where
 
 -- ---- all
 
+-- what the coordinator does with a message from this place, by the records that stand and the moment
 abbrev pub message_answer : List SessionRecord → ℕ → Place → Message → Step
 message_answer rs now from (message.Begin manager timeout) = begin_answer rs manager (session_for rs manager)
 message_answer rs now from (message.Register xid resource call ticket kind hold check) =

@@ -10,6 +10,7 @@ use Rattle.history_rules.specs.Own.{Event, Stopped, Restarted, Own, still}
 
 -- ---- down
 
+-- whether a node is down after an act, by whether it was before
 abbrev pub down_after : Act → Bool → Bool
 down_after (act.Down kept at) before = true
 down_after (act.Restarted kept) before = false
@@ -20,6 +21,7 @@ abbrev pub is_down : List Own → Bool
 is_down [] = false
 is_down (o ∷ os) = down_after o.step.act (is_down os)
 
+-- the act in flight after an act, by the one before
 abbrev pub flight_after : Act → Option Durable → Option Durable
 flight_after (act.Down kept at) before = at
 flight_after (act.Restarted kept) before = None
@@ -40,6 +42,7 @@ record_calls = 4
 abbrev pub gate_calls : ℕ
 gate_calls = 2
 
+-- the calls that are left once a record took its own
 abbrev pub spent : ℕ → ℕ
 spent calls = calls - record_calls
 
@@ -89,10 +92,12 @@ restarted false failed kept = still (act.Restarted kept)
 
 -- ---- faults and picks
 
+-- the calls that a stop still lets pass at an event: a restart's own, else those that were left before
 abbrev pub left_for : Event → Option ℕ → Option ℕ
 left_for (Restarted pick calls) before = calls
 left_for event before = before
 
+-- 1 where the node went down at a durable act on which no stop fell, else 0
 abbrev pub fault_of : Act → Option ℕ → ℕ
 fault_of (act.Down kept (Some at)) left = if is_short left then 0 else 1
 fault_of _ left = 0
@@ -102,6 +107,7 @@ abbrev pub fault_entries : (boots : Bool) → List Own → ℕ
 fault_entries boots [] = 0
 fault_entries boots (o ∷ os) = fault_entries boots os + fault_of o.step.act (left_for o.event (calls_left boots os))
 
+-- the last pick after an entry: that of a restart, where it was one, else the one before
 abbrev pub pick_after : Event → Act → Option ℕ → Option ℕ
 pick_after (Restarted pick calls) act.Nothing before = before
 pick_after (Restarted pick calls) done before = Some pick

@@ -43,6 +43,7 @@ same_place (place.Res m) (place.Res n) = m == n
 same_place (place.Man m) (place.Man n) = m == n
 same_place p q = false
 
+-- own entries of a place with that of a moment, where it is there and has an event
 abbrev pub own_if : Bool → Option Event → Moment → List Own → List Own
 own_if true (Some event) m os = record { event = event; now = m.now; step = m.step } ∷ os
 own_if _ event m os = os
@@ -54,6 +55,7 @@ own p (m ∷ ms) = own_if (same_place p m.place) m.event m (own p ms)
 
 -- ---- the network
 
+-- what a moment that passes sent, with its place, else what was found before
 abbrev pub sent_if : Bool → Moment → Option Outgoing → Option (Place × Outgoing) → Option (Place × Outgoing)
 sent_if true m (Some out) before = Some (m.place, out)
 sent_if _ m sent before = before
@@ -101,6 +103,7 @@ rank place.Tc = (1, 0)
 rank (place.Res n) = (2, n)
 rank (place.Man n) = (3, n)
 
+-- one place comes before another: by its kind, and among those of a kind by its number
 abbrev pub Below : ℕ × ℕ → ℕ × ℕ → Type 0
 Below p q = (p.0 < q.0) ⊎ ((p.0 ≡ q.0) × (p.1 < q.1))
 
@@ -114,10 +117,12 @@ abbrev pub ReceivesLater : Cause → ℕ → Type 0
 ReceivesLater (Deliver stamp from) received = stamp < received
 ReceivesLater _ received = Unit {0}
 
+-- the clock at the last of these entries, 0 where there is none
 abbrev pub last_now : List Own → ℕ
 last_now [] = 0
 last_now (o ∷ os) = o.now
 
+-- what may happen at a place by its node; where no node stands, nothing may
 abbrev pub HappensAt : Option Role → List Own → ℕ → Event → Step → Type 0
 HappensAt (Some role) os now event step = Happens role os now event step
 HappensAt None os now event step = ⊥

@@ -32,6 +32,7 @@ pub record Settings : Type 0 where
 
 -- ---- what its own entries tell
 
+-- the last message after a step, by the one before
 abbrev pub sent_after : Option Outgoing → Option Message → Option Message
 sent_after None before = before
 sent_after (Some out) before = Some out.message
@@ -41,6 +42,7 @@ abbrev pub last_sent : List Own → Option Message
 last_sent [] = None
 last_sent (o ∷ os) = sent_after o.step.sent (last_sent os)
 
+-- how many messages were sent after a step, by how many before
 abbrev pub counted : Option Outgoing → ℕ → ℕ
 counted None before = before
 counted (Some out) before = before + 1
@@ -50,6 +52,7 @@ abbrev pub sent_count : List Own → ℕ
 sent_count [] = 0
 sent_count (o ∷ os) = counted o.step.sent (sent_count os)
 
+-- whether the end was answered after an act, by whether it was before
 abbrev pub closed_after : Act → Bool → Bool
 closed_after (act.Closes status) before = true
 closed_after _ before = before
@@ -59,6 +62,7 @@ abbrev pub is_closed : List Own → Bool
 is_closed [] = false
 is_closed (o ∷ os) = closed_after o.step.act (is_closed os)
 
+-- how often the present call was busy after an act: as the act counts, and 0 once the manager goes on
 abbrev pub busy_after : Act → ℕ → ℕ
 busy_after (act.CallBusy count) before = count
 busy_after act.GoesOn before = 0
@@ -71,10 +75,12 @@ busy_count (o ∷ os) = busy_after o.step.act (busy_count os)
 
 -- ---- answers
 
+-- so many messages are all that a manager may send, where it has a bound
 abbrev pub is_silent : Option ℕ → ℕ → Bool
 is_silent None count = false
 is_silent (Some most) count = nat_le most count
 
+-- the message that asks for the end of x
 abbrev pub end_message : Ending → Xid → Message
 end_message ending.Commit xid = message.GlobalCommit xid
 end_message ending.Rollback xid = message.GlobalRollback xid
@@ -91,6 +97,7 @@ ended_xid (message.GlobalRollback xid) = Some xid
 ended_xid (message.GlobalStatus xid) = Some xid
 ended_xid _ = None
 
+-- the same of the last message, if there is one
 abbrev pub ended_by : Option Message → Option Xid
 ended_by None = None
 ended_by (Some last) = ended_xid last
@@ -115,6 +122,7 @@ module _ (m : Settings) (count busy : ℕ) where
 
   -- ---- messages
 
+  -- the next call of x, which has this number, or the end where there is no call left
   abbrev pub next_answer : Xid → ℕ → Option (ℕ × Work) → Step
   next_answer xid c (Some (resource, w)) = speaks act.GoesOn (message.Call xid m.number resource c w)
   next_answer xid c None = speaks act.GoesOn (end_message m.ending xid)
@@ -123,6 +131,7 @@ module _ (m : Settings) (count busy : ℕ) where
   abbrev pub goes_on : Xid → ℕ → Step
   goes_on xid done = next_answer xid (done + 1) (slice_get m.calls done)
 
+  -- asks for the rollback of x
   abbrev pub gives_up : Xid → Step
   gives_up xid = speaks act.GivesUp (message.GlobalRollback xid)
 
@@ -132,6 +141,7 @@ module _ (m : Settings) (count busy : ℕ) where
   called_answer xid c (called.Failed cause) = gives_up xid
   called_answer xid c (called.Busy key by) = if nat_le m.tries (busy + 1) then gives_up xid else still (act.CallBusy (busy + 1))
 
+  -- an answer to what was asked, else the message is ignored
   abbrev pub if_same : Bool → Step → Step
   if_same true answer = answer
   if_same false answer = still act.Ignored
@@ -150,6 +160,7 @@ module _ (m : Settings) (count busy : ℕ) where
   closed_answer (Some asked) (message.StatusAnswer xid status) = if_same (asked.0 == xid.0) (still (act.Learns status))
   closed_answer _ heard = still act.Ignored
 
+  -- a message: after the end only a status counts, before it what the manager waits for
   abbrev pub message_answer : (closed : Bool) → Option Message → Message → Step
   message_answer true last heard = closed_answer (ended_by last) heard
   message_answer false last heard = waiting_answer last heard

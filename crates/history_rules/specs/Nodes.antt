@@ -68,6 +68,7 @@ abbrev pub left_at : Role → List Own → Option ℕ
 left_at role os = calls_left (writes_boot role) os
 
 module _ (role : Role) (os : List Own) (now : ℕ) (fault keeps : Bool) where
+  -- a rule's answer, as far as the disk and a stop let it
   abbrev pub given_answer : Step → Step
   given_answer step = written (fails fault (left_at role os)) step step.act
 
@@ -100,7 +101,7 @@ pub record Happens (role : Role) (os : List Own) (now : ℕ) (event : Event) (st
   pub comes : ComesTo role event
   pub done : step ≡ happens role os now fault keeps event
 
--- own entries of a node, each of which may happen after those before it
+-- for the proofs alone: own entries of a node, each of which may happen after those before it
 abbrev pub Ran : Role → List Own → Type 0
 Ran role [] = Unit {0}
 Ran role (o ∷ os) = Ran role os × Happens role os o.now o.event o.step

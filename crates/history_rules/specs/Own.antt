@@ -37,6 +37,7 @@ pub record Left (R : Type 0) : Type 0 where
   pub records : List R
   pub flight : Option R
 
+-- records with a newer one, where there is one
 abbrev pub added : {R : Type 0} → Option R → List R → List R
 added None rs = rs
 added (Some r) rs = r ∷ rs
@@ -52,6 +53,7 @@ abbrev pub kept_part : {R : Type 0} → Option Durable → Option R → Option R
 kept_part None flight = None
 kept_part (Some kept) flight = flight
 
+-- what an act keeps of what was in flight: a restart may keep it, also one whose own boot failed, and no other act does
 abbrev pub kept_by : {R : Type 0} → Act → Option R → Option R
 kept_by (act.Down kept at) flight = kept_part kept flight
 kept_by (act.Restarted kept) flight = kept_part kept flight

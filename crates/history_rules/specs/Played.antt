@@ -10,21 +10,26 @@ use Rattle.history_rules.specs.Histories.{Cause, Moment, own, brings}
 use Rattle.history_rules.specs.Reports.{Report, report}
 use Rattle.history_rules.specs.Schedules.{Item, named, ticks_of, clock, singles}
 
+-- whether a restart with this pick keeps what was in flight, where it may
 abbrev pub keeps_of : Event → Bool
 keeps_of (Restarted pick calls) = (pick == 1) || (pick == 3)
 keeps_of event = false
 
+-- what happens at a node whose disks don't fail; nothing where there is no node or no event
 abbrev pub done_by : Option Role → Option Event → List Own → ℕ → Step
 done_by (Some role) (Some event) os now = happens role os now false (keeps_of event) event
 done_by _ event os now = still act.Nothing
 
+-- the next moment, of this place and cause, at this clock
 abbrev pub moment_at : World → Past → List Moment → ℕ → Place × Cause → Moment
 moment_at w past ms now (p, cause) = let event = brings ms p cause in
     record { stamp = length ms + 1; place = p; now = now; cause = cause; event = event; step = done_by (role_at w past p) event (own p ms) now }
 
+-- the moment of a single step after these
 abbrev pub next_moment : World → Past → List Moment → Item → Moment
 next_moment w past ms step = moment_at w past ms (clock past ms + ticks_of step) (named w ms step)
 
+-- these moments with those of the single steps that follow
 abbrev pub played_on : World → Past → List Moment → List Item → List Moment
 played_on w past ms [] = ms
 played_on w past ms (i ∷ is) = played_on w past (next_moment w past ms i ∷ ms) is

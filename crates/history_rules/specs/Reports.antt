@@ -31,6 +31,7 @@ pub record SessionLine : Type 0 where
   pub status : GlobalStatus
   pub failed : Option (ℕ × ℕ)
 
+-- the line of a transaction, and those of all that aren't forgotten, the last of the list first
 abbrev pub line_of : List SessionRecord → Session → SessionLine
 line_of rs s = record { xid = s.xid; manager = s.manager; status = status_of rs s.xid; failed = failed rs s.xid }
 
@@ -44,6 +45,7 @@ session_lines rs = lines_of rs (sessions rs)
 
 -- ---- tables
 
+-- the rows of a table, and those of several, one table after the other
 abbrev pub table_rows : Database → TableDef → Rows
 table_rows db def = filter (λ e. is_in db.resource def e.0) db.rows
 
@@ -64,6 +66,7 @@ pub record ReadLine : Type 0 where
   pub key : RowKey
   pub row : Row
 
+-- a row that branch b of x read, and all that the local commit of a record read
 abbrev pub read_line : ℕ → ℕ → ReadRow → ReadLine
 read_line x b r = record { xid = x; branch = b; key = r.key; row = r.row }
 
@@ -76,6 +79,7 @@ abbrev pub newest_reads : Setup → List ResourceRecord → List Own → List Re
 newest_reads s past [] = []
 newest_reads s past (o ∷ os) = let m = memory s past os in reads_in (stood o.step.act (resource_asked s m o) m.left)
 
+-- the same at the newest entry of resource n, and of the node at a place; nothing where there is no resource
 abbrev pub resource_reads : Past → ℕ → List Moment → Option Setup → List ReadLine
 resource_reads past n ms None = []
 resource_reads past n ms (Some s) = newest_reads s (past.resource n) (own (place.Res n) ms)
@@ -91,6 +95,7 @@ read_lines w past (m ∷ ms) = read_lines w past ms ++ reads_at w past m.place (
 
 -- ---- the report
 
+-- the lists that all members give, one after the other
 abbrev pub each : {A B : Type 0} → (A → List B) → List A → List B
 each f [] = []
 each f (a ∷ rest) = f a ++ each f rest
@@ -104,16 +109,20 @@ pub record Report : Type 0 where
   pub fences : List (ℕ × ((ℕ × ℕ) × Fence))
   pub reads : List ReadLine
 
+-- the acts of a history, oldest first
 abbrev pub acts : List Moment → List Act
 acts [] = []
 acts (m ∷ ms) = acts ms ++ m.step.act ∷ []
 
+-- the records that stand at a resource after a history
 abbrev pub records_at : Past → List Moment → Setup → List ResourceRecord
 records_at past ms s = (memory_at past s ms).left.records
 
+-- the fences of a resource, each behind its number
 abbrev pub fence_lines : ℕ → List ResourceRecord → List (ℕ × ((ℕ × ℕ) × Fence))
 fence_lines n rs = map (λ f. (n, f)) (fences rs)
 
+-- the report of a history, over what the disks had before it
 abbrev pub report : World → Past → List Moment → Report
 report w past ms = let rs = (coordinator_left past ms).records in record {
   acts = acts ms;

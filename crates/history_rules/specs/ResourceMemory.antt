@@ -43,9 +43,11 @@ pub record Setup : Type 0 where
   pub actions : List ((ℕ × ℕ) × Action)
   pub locals : List (ℕ × List Stmt)
 
+-- the tables of a resource at the opening, with their rows
 abbrev pub opening_tables : Setup → Database
 opening_tables s = opened s.number s.schema s.opening
 
+-- the actions of call c of manager m among these
 abbrev pub action_in : ℕ → ℕ → List ((ℕ × ℕ) × Action) → Option Action
 action_in m c [] = None
 action_in m c (((manager, call), a) ∷ rest) = if (manager == m) && (call == c) then Some a else action_in m c rest
@@ -54,6 +56,7 @@ action_in m c (((manager, call), a) ∷ rest) = if (manager == m) && (call == c)
 abbrev pub action_of : Setup → ℕ → ℕ → Option Action
 action_of s m c = action_in m c s.actions
 
+-- the statements of local transaction k among these
 abbrev pub local_in : ℕ → List (ℕ × List Stmt) → Option (List Stmt)
 local_in k [] = None
 local_in k ((number, stmts) ∷ rest) = if number == k then Some stmts else local_in k rest
@@ -77,6 +80,7 @@ next_ticket m = record { boot = boots m.left.records; seq = m.opened + 1 }
 
 -- ---- effects
 
+-- an effect, an empty one where a statement has a fault
 abbrev pub or_none : Result Effect (ℕ × StmtError) → Effect
 or_none (Ok e) = e
 or_none (Err fault) = no_effect
@@ -85,6 +89,7 @@ or_none (Err fault) = no_effect
 abbrev pub effect_on : Database → List Stmt → Effect
 effect_on db stmts = or_none (effect db stmts)
 
+-- the statements of a local transaction, a Confirm, a Cancel and a Try; none where there are none
 abbrev pub or_empty : Option (List Stmt) → List Stmt
 or_empty None = []
 or_empty (Some stmts) = stmts
@@ -101,6 +106,7 @@ abbrev pub tries_of : Owner → List Stmt
 tries_of (OfCall m x c (work.Tcc action)) = action.tries
 tries_of _ = []
 
+-- the number of a ticket's call, 0 for a local transaction
 abbrev pub call_of : Owner → ℕ
 call_of (OfCall m x c w) = c
 call_of (OfLocal k) = 0
@@ -113,6 +119,7 @@ phase_two s _ = []
 
 -- ---- the record of a durable act, by the ticket or the message that it had
 
+-- the record of a ticket's local commit as branch b of x, of its Try on these tables, and of local transaction n
 abbrev pub committed_of : Xid → BranchId → Open → ResourceRecord
 committed_of xid b o = log.Committed xid b (call_of o.owner) o.images o.reads
 
@@ -126,6 +133,7 @@ local_committed_of n o = log.LocalCommitted n o.images
 abbrev pub boot_over : List ResourceRecord → ResourceRecord
 boot_over rs = log.Boot (boots rs + 1)
 
+-- the record of a durable act of a resource, over these records and open tickets, at the event that it answers
 abbrev pub resource_record : Setup → List ResourceRecord → List Open → Event → Durable → Option ResourceRecord
 resource_record s rs opens event durable.Boot = Some (boot_over rs)
 resource_record s rs opens event (durable.Committed xid b t) = option_map (committed_of xid b) (open_at opens t)
@@ -169,6 +177,7 @@ opens_after s db event (act.Durable (durable.LocalCommitted n t)) opens = withou
 opens_after s db event (act.Down kept at) opens = []
 opens_after s db event _ opens = opens
 
+-- after an act how many tickets were opened since the boot, by how many before
 abbrev pub opened_after : Act → ℕ → ℕ
 opened_after (act.Opened xid call t) n = n + 1
 opened_after (act.OpenedLocal k t) n = n + 1
@@ -184,6 +193,7 @@ booted _ left = left
 abbrev pub resource_asked : Setup → Memory → Own → Option ResourceRecord
 resource_asked s m o = option_and_then (resource_record s (kept_records o.step.act m.left) m.opens o.event) (asked_act o.step.act)
 
+-- what is left after one more entry
 abbrev pub memory_after : Setup → Own → Memory → Memory
 memory_after s o m = record {
   left = booted o.step.act (leaves o.step.act (resource_asked s m o) m.left);

@@ -50,6 +50,7 @@ use Rattle.history_rules.specs.ResourceMemory.{Setup, Owner, OfCall, OfLocal, Op
 
 -- ---- rows
 
+-- values that are the same; rows that are the same, or both missing
 abbrev pub same_value : Value → Value → Bool
 same_value a b = is_at (value_cmp a) b
 
@@ -64,6 +65,7 @@ dirty_image db images = find (λ i. not (same_row (row_at db.rows i.key) i.after
 
 -- ---- small choices
 
+-- the less of a branch and another one, if there is one
 abbrev pub least_of : ℕ → Option ℕ → Option ℕ
 least_of b None = Some b
 least_of b (Some c) = Some (min b c)
@@ -99,6 +101,7 @@ request_of number o (OfCall m x c (work.At stmts)) =
 request_of number o (OfCall m x c (work.Tcc action)) = message.Register (xid_of x) number c o.ticket kind.Tcc [] []
 request_of number o (OfLocal k) = message.LockQuery number o.ticket (with_rows (image_keys o.images) (read_keys o.reads))
 
+-- an act that sends the coordinator the request of a ticket
 abbrev pub requests : ℕ → Act → Open → Step
 requests number done o = sends done place.Tc (request_of number o o.owner)
 
@@ -172,6 +175,7 @@ module _ (s : Setup) (rs : List ResourceRecord) (opens : List Open) (next : Tick
   tcc_granted o m x c b a Runs = try_meant o m x c b (effect db a.tries)
   tcc_granted o m x c b a _ = drops o m x c why.Fence
 
+  -- a grant, by what the ticket was opened for; a local transaction registers no branch
   abbrev pub granted_answer : Open → Owner → ℕ → Step
   granted_answer o (OfCall m x c (work.At stmts)) b = at_granted o m x c b (undo_of rs x b) (is_marked rs x b)
   granted_answer o (OfCall m x c (work.Tcc action)) b = tcc_granted o m x c b action (on_try (fence rs x b))
@@ -183,6 +187,7 @@ module _ (s : Setup) (rs : List ResourceRecord) (opens : List Open) (next : Tick
   conflict_answer o m x c holder false = let count = o.conflicts + 1 in
       if nat_le s.tries count then drops o m x c why.Tries else still (act.Conflicted o.ticket count)
 
+  -- the coordinator's answer for an open ticket: granted, conflict, closed, late
   abbrev pub ticket_answer : Open → Owner → Registered → Step
   ticket_answer o owner (registered.Granted b) = granted_answer o owner b.0
   ticket_answer o (OfCall m x c w) (registered.Conflict key holder rolling) = conflict_answer o m x c holder rolling
@@ -197,12 +202,14 @@ module _ (s : Setup) (rs : List ResourceRecord) (opens : List Open) (next : Tick
 
   -- ---- the second phase of AT
 
+  -- the answers to a BranchCommit and a BranchRollback, with a branch status and the statement that failed, 0 for none
   abbrev pub tells_committed : (x b : ℕ) → BranchStatus → ℕ → Act → Step
   tells_committed x b st stmt done = sends done place.Tc (message.BranchCommitted (xid_of x) (branch_of b) st stmt)
 
   abbrev pub tells_rollbacked : (x b : ℕ) → BranchStatus → ℕ → Act → Step
   tells_rollbacked x b st stmt done = sends done place.Tc (message.BranchRollbacked (xid_of x) (branch_of b) st stmt)
 
+  -- the answers that tell the end of the branch, after a commit and after a rollback
   abbrev pub is_committed : (x b : ℕ) → Act → Step
   is_committed x b done = tells_committed x b branch.PhaseTwoCommitted 0 done
 
@@ -239,6 +246,7 @@ module _ (s : Setup) (rs : List ResourceRecord) (opens : List Open) (next : Tick
       tells_committed x b branch.PhaseTwoCommitFailedUnretryable index (act.Unable (xid_of x) (branch_of b) index error)
   confirm_runs x b (Ok e) = is_committed x b (act.Durable (durable.Confirmed (xid_of x) (branch_of b)))
 
+  -- a commit, by the fence: already confirmed, a Confirm that runs, else unfenced
   abbrev pub tcc_commit : (x b : ℕ) → Action → FenceAnswer → Step
   tcc_commit x b a WasDone = is_committed x b (act.Already (xid_of x) (branch_of b))
   tcc_commit x b a Runs = confirm_runs x b (effect db a.confirms)
@@ -250,6 +258,7 @@ module _ (s : Setup) (rs : List ResourceRecord) (opens : List Open) (next : Tick
       tells_rollbacked x b branch.PhaseTwoRollbackFailedUnretryable index (act.Unable (xid_of x) (branch_of b) index error)
   cancel_runs x b (Ok e) = is_rollbacked x b (act.Durable (durable.Cancelled (xid_of x) (branch_of b)))
 
+  -- a rollback, by the fence: already done, unfenced, suspended, a Cancel that runs
   abbrev pub tcc_rollback : (x b : ℕ) → Action → FenceAnswer → Step
   tcc_rollback x b a WasDone = is_rollbacked x b (act.Already (xid_of x) (branch_of b))
   tcc_rollback x b a Refuses = tells_rollbacked x b branch.PhaseTwoRollbackFailedRetryable 0 (act.Unfenced (xid_of x) (branch_of b))
@@ -261,6 +270,7 @@ module _ (s : Setup) (rs : List ResourceRecord) (opens : List Open) (next : Tick
   with_action answer None = still act.Ignored
   with_action answer (Some a) = answer a
 
+  -- a BranchCommit and a BranchRollback, by the kind of the branch
   abbrev pub on_commit : (x b : ℕ) → BranchKind → (m c : ℕ) → Step
   on_commit x b kind.At m c = at_commit x b (undo_of rs x b)
   on_commit x b kind.Tcc m c = with_action (λ a. tcc_commit x b a (on_confirm (fence rs x b))) (action_of s m c)
@@ -286,6 +296,7 @@ module _ (s : Setup) (rs : List ResourceRecord) (opens : List Open) (next : Tick
   local_answer k stmts (Some o) = still (act.WaitingLocal k)
   local_answer k stmts None = local_meant k (effect db stmts)
 
+  -- a local transaction that the resource doesn't have is ignored
   abbrev pub on_local : ℕ → Option (List Stmt) → Step
   on_local k None = still act.Ignored
   on_local k (Some stmts) = local_answer k stmts (find (λ o. is_for_local k o.owner) opens)
@@ -296,14 +307,17 @@ module _ (s : Setup) (rs : List ResourceRecord) (opens : List Open) (next : Tick
   lock_answer o (OfLocal k) None = still (act.Durable (durable.LocalCommitted k o.ticket))
   lock_answer o (OfCall m x c w) held = still act.Ignored
 
+  -- an answer for a ticket that isn't open is ignored
   abbrev pub on_lock_answer : Option Open → Option (RowKey × Xid) → Step
   on_lock_answer None held = still act.Ignored
   on_lock_answer (Some o) held = lock_answer o o.owner held
 
+  -- busy where an open ticket has a row, else done
   abbrev pub outside_free : ℕ → Option (RowKey × Ticket) → Step
   outside_free k (Some (key, by)) = still (act.BusyLocal k key by)
   outside_free k None = still (act.Durable (durable.Outside k))
 
+  -- refused where the statements have no effect
   abbrev pub outside_meant : ℕ → Result Effect (ℕ × StmtError) → Step
   outside_meant k (Err (index, error)) = still (act.RefusedLocal k (why.Stmt index error))
   outside_meant k (Ok e) = outside_free k (busy_row opens e)
@@ -320,6 +334,7 @@ module _ (s : Setup) (rs : List ResourceRecord) (opens : List Open) (next : Tick
   on_turn None = still act.Nothing
   on_turn (Some o) = requests s.number (act.Resent o.ticket) o
 
+  -- what a resource does with a message
   abbrev pub on_message : Message → Step
   on_message (message.Call xid manager resource call w) = on_call manager xid.0 call w
   on_message (message.RegisterAnswer ticket xid answer) = on_registered (open_at opens ticket) answer
@@ -328,6 +343,7 @@ module _ (s : Setup) (rs : List ResourceRecord) (opens : List Open) (next : Tick
   on_message (message.BranchRollback xid b kind manager call) = on_rollback xid.0 b.0 kind manager call
   on_message _ = still act.Ignored
 
+  -- the same of any input
   abbrev pub on_input : Input → Step
   on_input input.Turn = on_turn (last_of opens)
   on_input (input.Message from heard) = on_message heard

@@ -23,6 +23,7 @@ pub data Item : Type 0 where
 
 -- ---- automatic steps
 
+-- whether a cause delivers the message of the entry with this stamp
 abbrev pub takes : ℕ → Cause → Bool
 takes stamp (Deliver taken from) = taken == stamp
 takes stamp _ = false
@@ -32,6 +33,7 @@ abbrev pub is_taken : ℕ → List Moment → Bool
 is_taken stamp [] = false
 is_taken stamp (m ∷ ms) = if takes stamp m.cause then true else is_taken stamp ms
 
+-- an older delivery that waits, else that of what this moment sent, where it isn't taken
 abbrev pub or_waiting : Option (Place × Cause) → (taken : Bool) → Moment → Option Outgoing → Option (Place × Cause)
 or_waiting (Some older) taken m sent = Some older
 or_waiting None false m (Some out) = Some (out.to, Deliver m.stamp m.place)
@@ -42,6 +44,7 @@ abbrev pub oldest_waiting : (all ms : List Moment) → Option (Place × Cause)
 oldest_waiting all [] = None
 oldest_waiting all (m ∷ ms) = or_waiting (oldest_waiting all ms) (is_taken m.stamp all) m m.step.sent
 
+-- the stamp of a turn of the node, else the one before
 abbrev pub turn_at : Bool → Cause → ℕ → ℕ → ℕ
 turn_at true Turn stamp before = stamp
 turn_at _ cause stamp before = before
@@ -55,10 +58,12 @@ last_turn (m ∷ ms) p = turn_at (same_place p m.place) m.cause m.stamp (last_tu
 abbrev pub places : World → List Place
 places w = place.Tc ∷ map (λ (s : Setup). place.Res s.number) w.resources ++ map (λ (m : Settings). place.Man m.number) w.managers
 
+-- of these nodes the one whose last turn is the earliest, the first of those that tie
 abbrev pub earliest : List Moment → Place → List Place → Place
 earliest ms first [] = first
 earliest ms first (p ∷ ps) = earliest ms (if nat_lt (last_turn ms p) (last_turn ms first) then p else first) ps
 
+-- a delivery, or else a turn of the node whose last turn is the earliest
 abbrev pub or_turn : World → List Moment → Option (Place × Cause) → Place × Cause
 or_turn w ms (Some delivery) = delivery
 or_turn w ms None = (earliest ms place.Tc (places w), Turn)
@@ -93,10 +98,12 @@ named w ms (Auto steps) = auto_step w ms
 
 -- ---- follows
 
+-- the same, so many times
 abbrev pub times : {A : Type 0} → ℕ → A → List A
 times zero a = []
 times (suc n) a = a ∷ times n a
 
+-- the single steps that a member stands for
 abbrev pub singles_of : Item → List Item
 singles_of (Auto steps) = times steps (Auto 1)
 singles_of step = step ∷ []
@@ -111,6 +118,7 @@ abbrev pub clock : Past → List Moment → ℕ
 clock past [] = start past.sessions
 clock past (m ∷ ms) = m.now
 
+-- the ticks that a step lets pass
 abbrev pub ticks_of : Item → ℕ
 ticks_of (WaitFor ticks) = ticks
 ticks_of _ = 0

@@ -37,6 +37,7 @@ use Rattle.history_rules.specs.Reports.{SessionLine, ReadLine}
 
 -- ---- nodes, numbers and statuses
 
+-- the coordinator, a resource, a manager and a ticket, by their numbers
 abbrev pub tc : Place
 tc = place.Tc
 
@@ -54,6 +55,7 @@ abbrev pub delivers : List ℕ → List Item
 delivers [] = []
 delivers (k ∷ ks) = DeliverOf k ∷ delivers ks
 
+-- the line of a transaction of this manager with this status, and of one that failed at branch b
 abbrev pub session_line : ℕ → ℕ → GlobalStatus → SessionLine
 session_line x manager st = record { xid = x; manager = manager; status = st; failed = None }
 
@@ -62,6 +64,7 @@ failed_line x manager st b = record { xid = x; manager = manager; status = st; f
 
 -- ---- rows and statements
 
+-- whole numbers as a value and as a row; a key of acc; rows of acc, and of stock at resource 1, with their keys
 abbrev pub whole : ℕ → Value
 whole n = value.Int (pos n)
 
@@ -81,6 +84,7 @@ stock_row n free held = (record { resource = 1; table = codes "stock"; pk = whol
 abbrev pub equals : List ℕ → ℕ → Condition
 equals column n = condition.Cmp column op.Eq (whole n)
 
+-- n, column + n and column - n
 abbrev pub number : ℕ → Expr
 number n = record { first = term.Lit (whole n); rest = [] }
 
@@ -90,6 +94,7 @@ plus column n = record { first = term.Column column; rest = (sign.Plus, term.Lit
 abbrev pub minus : List ℕ → ℕ → Expr
 minus column n = record { first = term.Column column; rest = (sign.Minus, term.Lit (whole n)) ∷ [] }
 
+-- UPDATE acc SET m = e WHERE asked
 abbrev pub sets_acc : Expr → Condition → List Stmt
 sets_acc e asked = stmt.Update (codes "acc") ((codes "m", e) ∷ []) (Some asked) ∷ []
 
@@ -107,6 +112,7 @@ reads_m = stmt.Select (codes "acc") (Some (equals (codes "id") 1)) ∷ []
 abbrev pub acc : Schema
 acc = record { tables = record { name = codes "acc"; mode = kind.At; columns = (codes "id", type.Int) ∷ (codes "m", type.Int) ∷ []; key = 0 ∷ [] } ∷ [] }
 
+-- an opening row of acc, and resource n with such rows and these local transactions
 abbrev pub acc_opening : List ℕ → List ℕ × Row
 acc_opening ns = (codes "acc", row ns)
 
@@ -118,6 +124,7 @@ acc_resource n rows locals =
 abbrev pub stock : Schema
 stock = record { tables = record { name = codes "stock"; mode = kind.Tcc; columns = (codes "id", type.Int) ∷ (codes "free", type.Int) ∷ (codes "held", type.Int) ∷ []; key = 0 ∷ [] } ∷ [] }
 
+-- UPDATE stock SET sets WHERE asked
 abbrev pub sets_stock : List (List ℕ × Expr) → Condition → List Stmt
 sets_stock sets asked = stmt.Update (codes "stock") sets (Some asked) ∷ []
 
@@ -130,15 +137,18 @@ holds_three = record {
   cancels = sets_stock ((codes "free", plus (codes "free") 3) ∷ (codes "held", minus (codes "held") 3) ∷ []) (equals (codes "id") 1);
 }
 
+-- resource 1 with one row of stock; call 1 of manager 1 has the actions that hold three
 abbrev pub stock_resource : List ℕ → Setup
 stock_resource r =
     record { number = 1; schema = stock; opening = (codes "stock", row r) ∷ []; tries = 30; actions = ((1, 1), holds_three) ∷ []; locals = [] }
 
+-- manager n with these calls, which sends all its messages and doesn't ask for the status at the end
 abbrev pub manager : ℕ → Ending → List (ℕ × Work) → Settings
 manager n how calls = record { number = n; timeout = 60000; tries = 30; calls = calls; ending = how; silent = None; poll = false }
 
 -- ---- scenarios
 
+-- these nodes, with a coordinator that asks again after 1000 ticks and never forgets
 abbrev pub world : List Setup → List Settings → World
 world resources managers = record { times = record { retry = 1000; forget = 0 }; resources = resources; managers = managers }
 
@@ -181,6 +191,7 @@ two_rows = world (acc_resource 1 ((1 ∷ 100 ∷ []) ∷ (2 ∷ 200 ∷ []) ∷ 
     (manager 1 ending.Commit ((1, work.At (sets_acc (plus (codes "m") 1) (equals (codes "m") 100))) ∷ [])
     ∷ manager 2 ending.Commit ((1, work.At (sets_acc (number 100) (equals (codes "id") 2))) ∷ []) ∷ [])
 
+-- row n of acc at resource 1, whose m this is, as branch b of x read it
 abbrev pub read_of : ℕ → ℕ → ℕ → ℕ → ReadLine
 read_of x b n m = record { xid = x; branch = b; key = acc_key 1 n; row = row (n ∷ m ∷ []) }
 

@@ -24,6 +24,7 @@ use Rattle.history_rules.specs.Nodes.{Role, Coordinator, Resource, Manager}
 
 -- ---- what bytes are read as
 
+-- the coordinator's records and snapshots; below, a resource's
 abbrev pub of_coordinator : Reading SessionRecord Snapshot
 of_coordinator = record { record_of = session_bytes.record_of; snapshot_in = session_snapshots.snapshot_in_bytes; snapshot_of = sessions_now.snapshot_of }
 

@@ -11,6 +11,7 @@ abbrev pub ComesFramable : Input → Type 0
 ComesFramable (input.Message from heard) = IsFramable heard
 ComesFramable _ = Unit {0}
 
+-- a message on its way, which can be framed
 abbrev pub IsFramableTo : Outgoing → Type 0
 IsFramableTo out = IsFramable out.message
 

@@ -47,12 +47,14 @@ abbrev pub name_text : List ℕ → List (List ℕ) → ℕ → List ℕ
 name_text letter names zero = name_or_number letter zero None
 name_text letter names (suc k) = name_or_number letter (suc k) (slice_get names k)
 
+-- a place: `net`, `tc`, or the name of a node
 abbrev pub place_text : Names → Place → List ℕ
 place_text names place.Net = codes "net"
 place_text names place.Tc = codes "tc"
 place_text names (place.Res n) = name_text (codes "r") names.resources n
 place_text names (place.Man n) = name_text (codes "m") names.managers n
 
+-- a transaction, as `tc:1`, and a branch, as `b1`
 abbrev pub xid_text : Xid → List ℕ
 xid_text xid = codes "tc:" ++ decimal xid.0
 
@@ -67,6 +69,7 @@ leg_text xid branch = xid_text xid ++ (codes " " ++ branch_text branch)
 abbrev pub call_text : Xid → ℕ → List ℕ
 call_text xid call = xid_text xid ++ (codes " c" ++ decimal call)
 
+-- a ticket, as `t1.2`: its boot, and the opening since
 abbrev pub ticket_text : Ticket → List ℕ
 ticket_text ticket = codes "t" ++ (decimal ticket.boot ++ (codes "." ++ decimal ticket.seq))
 
@@ -114,12 +117,14 @@ keys_text (key ∷ keys) = (key.table ++ (codes ":" ++ parts_text key.pk)) ++ mo
 abbrev pub row_text : Row → List ℕ
 row_text row = codes "(" ++ (values_text (codes ", ") row.0 ++ codes ")")
 
+-- a row, or `-` where there is none
 abbrev pub option_row_text : Option Row → List ℕ
 option_row_text None = codes "-"
 option_row_text (Some row) = row_text row
 
 -- ---- reasons
 
+-- why a statement has no meaning
 abbrev pub error_text : Names → StmtError → List ℕ
 error_text names error.NoTable = codes "NoTable"
 error_text names error.NoColumn = codes "NoColumn"
@@ -131,6 +136,7 @@ error_text names (error.Overflow key) = codes "Overflow " ++ key_text names key
 error_text names (error.Duplicate key) = codes "Duplicate " ++ key_text names key
 error_text names error.TableFull = codes "TableFull"
 
+-- why a call failed, or a local transaction was refused
 abbrev pub why_text : Names → Why → List ℕ
 why_text names (why.Stmt index reason) = codes "stmt " ++ (decimal index ++ (codes " " ++ error_text names reason))
 why_text names why.Tries = codes "tries"
@@ -143,10 +149,12 @@ why_text names why.Fence = codes "fence"
 
 -- ---- causes
 
+-- the calls after which a restart's disks stop, if any, behind a space
 abbrev pub calls_text : Option ℕ → List ℕ
 calls_text None = []
 calls_text (Some calls) = codes " " ++ decimal calls
 
+-- the cause of an entry
 abbrev pub cause_text : Names → Cause → List ℕ
 cause_text names cause.Turn = codes "turn"
 cause_text names (cause.Deliver stamp from) = codes "deliver " ++ (decimal stamp ++ (codes " " ++ place_text names from))
@@ -160,6 +168,7 @@ cause_text names (cause.Outside number) = codes "outside " ++ decimal number
 
 -- ---- acts
 
+-- a decision, and a durable act with what it is of
 abbrev pub decision_text : Decision → List ℕ
 decision_text how.Commit = codes "commit"
 decision_text how.Rollback = codes "rollback"
@@ -192,6 +201,7 @@ abbrev pub with_durable : List ℕ → Option Durable → List ℕ
 with_durable word None = []
 with_durable word (Some done) = word ++ durable_text done
 
+-- whether a holder rolls back
 abbrev pub holding_text : Bool → List ℕ
 holding_text true = codes "rolling"
 holding_text false = codes "held"
@@ -216,6 +226,7 @@ change_text names key after now = key_text names key ++ (codes " " ++ (option_ro
 abbrev pub locks_text : List RowKey → List RowKey → List ℕ
 locks_text hold check = codes " hold " ++ (keys_text hold ++ (codes " check " ++ keys_text check))
 
+-- an act with what it is of
 abbrev pub act_text : Names → Act → List ℕ
 act_text names (act.Durable done) = durable_text done
 act_text names (act.Known xid) = codes "known " ++ xid_text xid
@@ -276,6 +287,7 @@ abbrev pub kind_text : BranchKind → List ℕ
 kind_text kind.At = codes "AT"
 kind_text kind.Tcc = codes "TCC"
 
+-- the answer to a registration, with its ticket and transaction
 abbrev pub registered_text : Names → Ticket → Xid → Registered → List ℕ
 registered_text names ticket xid (registered.Granted branch) =
     codes "granted " ++ (ticket_text ticket ++ (codes " " ++ leg_text xid branch))
@@ -291,11 +303,13 @@ lock_answer_text names ticket None = codes "lock-free " ++ ticket_text ticket
 lock_answer_text names ticket (Some (key, holder)) =
     codes "lock-held " ++ (ticket_text ticket ++ (codes " " ++ lock_text names key holder))
 
+-- the answer to a call
 abbrev pub reply_text : Names → CallAnswer → List ℕ
 reply_text names (reply.Done branch) = codes "done " ++ branch_text branch
 reply_text names (reply.Busy key by) = codes "busy " ++ opener_text names key by
 reply_text names (reply.Failed reason) = codes "failed " ++ why_text names reason
 
+-- a message with the fields that its line shows
 abbrev pub note_text : Names → Note → List ℕ
 note_text names (note.Begin manager timeout) = codes "begin " ++ (place_text names (place.Man manager) ++ (codes " " ++ decimal timeout))
 note_text names (note.Begun xid) = codes "begun " ++ xid_text xid
@@ -319,6 +333,7 @@ note_text names (note.LockAnswer ticket held) = lock_answer_text names ticket he
 note_text names (note.Call xid call) = codes "call " ++ call_text xid call
 note_text names (note.Answer xid call answer) = codes "answer " ++ (call_text xid call ++ (codes " " ++ reply_text names answer))
 
+-- what an entry sent and to whom, or `-` where it sent nothing
 abbrev pub sent_text : Names → Option Sent → List ℕ
 sent_text names None = codes "-"
 sent_text names (Some sent) = note_text names sent.note ++ (codes " to " ++ place_text names sent.to)

@@ -18,6 +18,7 @@ use Rattle.history_rules.specs.Schedules.{Item, TurnOf, DeliverOf, WaitFor, Stop
 
 -- ---- the coordinator
 
+-- the coordinator's settings
 abbrev pub times_of : Scenario → Times
 times_of s = record { retry = s.retry; forget = s.forget }
 
@@ -81,11 +82,13 @@ resources_of s = resources_from s 1 s.resources
 
 -- ---- all nodes
 
+-- the settings of all nodes of a scenario
 abbrev pub world_of : Scenario → World
 world_of s = record { times = times_of s; resources = resources_of s; managers = managers_from s.lock_tries 1 s.managers }
 
 -- ---- the schedule
 
+-- a member of the schedule
 abbrev pub item_of : ScheduleItem → Item
 item_of (item.Turn place) = TurnOf place
 item_of (item.Deliver stamp) = DeliverOf stamp
@@ -97,5 +100,6 @@ item_of (item.Local number) = LocalOf number
 item_of (item.Outside number) = OutsideOf number
 item_of (item.Auto steps) = Auto steps
 
+-- the schedule of a scenario
 abbrev pub items_of : Scenario → List Item
 items_of s = map item_of s.schedule

@@ -33,6 +33,7 @@ abbrev pub closed : Ticket → Option ℕ → Tickets → Tickets
 closed t None old = old
 closed t (Some k) old = with_opens old (without old.opens t)
 
+-- the open tickets after an answer; where the store failed, they are as before
 abbrev pub tickets_after : Ticket → Result (Option ℕ) StoreError → Tickets → Tickets
 tickets_after t (Ok number) old = closed t number old
 tickets_after t (Err e) old = old

@@ -24,19 +24,23 @@ use Rattle.local_tables.specs.declared.schemas.TableDef.{TableDef}
 abbrev pub Meaning : Type 0 → Type 0
 Meaning X = Result X StmtError
 
+-- the next step, where each one before it has a meaning
 infixl 10 ◌>>=◌
 abbrev pub ◌>>=◌ : {X Y : Type 0} → Meaning X → (X → Meaning Y) → Meaning Y
 (Ok x) >>= next = next x
 (Err e) >>= next = Err e
 
+-- a test, and the error where it isn't passed
 abbrev pub check : Bool → StmtError → Meaning (Unit {0})
 check true error = Ok tt
 check false error = Err error
 
+-- there is to be no such key; the error names the one that there is
 abbrev pub no_key : Option RowKey → (RowKey → StmtError) → Meaning (Unit {0})
 no_key None error = Ok tt
 no_key (Some key) error = Err (error key)
 
+-- the table, and the error where there is none
 abbrev pub found : Option TableDef → Meaning TableDef
 found (Some def) = Ok def
 found None = Err errors.NoTable
@@ -50,6 +54,7 @@ pub record Call : Type 0 where
   pub reads : Rows
   pub touched : List ℕ
 
+-- a call before its first statement
 abbrev pub nothing : Call
 nothing = record { changes = []; reads = []; touched = [] }
 
@@ -58,6 +63,7 @@ abbrev pub insert_all : {X : Type 0} → List (RowKey × X) → List (RowKey × 
 insert_all entries [] = entries
 insert_all entries (e ∷ es) = insert_all (insert_entry key_cmp entries e.0 e.1) es
 
+-- the call with what one more statement changes and reads; it touched as many rows as it changes
 abbrev pub going_on : Call → List Change → Rows → Call
 going_on call changes reads = record {
   changes = insert_all call.changes changes;
@@ -65,6 +71,7 @@ going_on call changes reads = record {
   touched = call.touched ++ min (length changes) (2 ^ 32 - 1) ∷ [];
 }
 
+-- whether a row that was read isn't among those that were touched
 abbrev pub is_only_read : List Change → RowKey × Row → Bool
 is_only_read changes e = is_none (lookup (is_key e.0) changes)
 
@@ -100,13 +107,16 @@ steps db index (Ok call) (s ∷ ss) = steps db (index + 1) (step db call s) ss
 abbrev pub image_of : Rows → Change → Image
 image_of rows change = record { key = change.0; before = row_at rows change.0; after = change.1 }
 
+-- the row at its key, as it was read last
 abbrev pub read_of : RowKey × Row → ReadRow
 read_of e = record { key = e.0; row = e.1 }
 
+-- the effect of the statements so far; the rows before them are those of the database
 abbrev pub effect_of : Database → Call → Effect
 effect_of db call =
     record { images = map (image_of db.rows) call.changes; reads = map read_of call.reads; touched = call.touched }
 
+-- the effect of a call, or its first statement without meaning, and why
 abbrev pub to_effect : Database → Result Call (ℕ × StmtError) → Result Effect (ℕ × StmtError)
 to_effect db (Ok call) = Ok (effect_of db call)
 to_effect db (Err fault) = Err fault

@@ -12,6 +12,7 @@ use Rattle.seata_types.specs.declared.rows.Value.{Value}
 use Rattle.local_tables.specs.declared.schemas.ColType.{ColType}
 use Rattle.local_tables.specs.declared.schemas.TableDef.{TableDef}
 
+-- a column of a table: its name and its type
 abbrev pub Column : Type 0
 Column = List ℕ × ColType
 
@@ -35,6 +36,7 @@ meets op.Le order = not (is_gt order)
 meets op.Gt order = is_gt order
 meets op.Ge order = not (is_lt order)
 
+-- whether a cell's value meets a comparison with a literal; a cell that isn't there meets none
 abbrev pub compares : Op → Value → Option Value → Bool
 compares test literal (Some found) = meets test (value_cmp found literal)
 compares test literal None = false

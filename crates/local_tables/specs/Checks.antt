@@ -17,6 +17,7 @@ use Rattle.local_tables.specs.declared.schemas.ColType.{ColType}
 use Rattle.local_tables.specs.declared.schemas.ColType.TheVariants as type
 use Rattle.local_tables.specs.declared.schemas.TableDef.{TableDef}
 
+-- what an UPDATE sets: a column, and the expression that it is set to
 abbrev pub Set : Type 0
 Set = List ℕ × Expr
 
@@ -61,6 +62,7 @@ knows_columns def (stmt.Select table asked) = passes (knows_condition def) asked
 
 -- ---- an INSERT names each column once and its tuples have as many values; an UPDATE sets no column twice
 
+-- how often a name stands among others
 abbrev pub times : List (List ℕ) → List ℕ → ℕ
 times names name = count_by (same_text name) names
 
@@ -84,6 +86,7 @@ fills_columns def _ = true
 
 -- ---- an UPDATE leaves the key columns
 
+-- whether a column is there and has this place
 abbrev pub is_place : ℕ → Option ℕ → Bool
 is_place key None = false
 is_place key (Some place) = place == key
@@ -112,6 +115,7 @@ type_of (value.Text text) = type.Text
 abbrev pub type_name : Column → ColType
 type_name column = column.1
 
+-- the type that the table gives to a column of this name, if it has one
 abbrev pub column_type : TableDef → List ℕ → Option ColType
 column_type def name = option_map type_name (find (has_name name) def.columns)
 
@@ -121,9 +125,11 @@ same_type (Some type.Int) (Some type.Int) = true
 same_type (Some type.Text) (Some type.Text) = true
 same_type _ _ = false
 
+-- whether a value has the type of a column, which has to be the table's
 abbrev pub fits_column : TableDef → List ℕ → Value → Bool
 fits_column def name found = same_type (column_type def name) (Some (type_of found))
 
+-- the type of a literal, or of a column, if the table has that
 abbrev pub term_type : TableDef → Term → Option ColType
 term_type def (term.Lit literal) = Some (type_of literal)
 term_type def (term.Column name) = column_type def name
@@ -140,6 +146,7 @@ sum_fits def wanted first [] = same_type wanted (term_type def first)
 sum_fits def wanted first (s ∷ ss) =
     same_type wanted (Some type.Int) && (is_number def first && list_all (is_number_part def) (s ∷ ss))
 
+-- whether an expression has the type of the column that is set to it
 abbrev pub fits_set : TableDef → Set → Bool
 fits_set def s = sum_fits def (column_type def s.0) s.1.first s.1.rest
 
@@ -152,6 +159,7 @@ fits_condition def (condition.Not inner) = fits_condition def inner
 abbrev pub fits_named : TableDef → List ℕ × Value → Bool
 fits_named def pair = fits_column def pair.0 pair.1
 
+-- whether each value of a tuple is of the type of the column for which it stands
 abbrev pub fits_tuple : TableDef → List (List ℕ) → List Value → Bool
 fits_tuple def columns tuple = list_all (fits_named def) (zip columns tuple)
 

@@ -24,6 +24,7 @@ abbrev pub is_cell : Value → Option Value → Bool
 is_cell part None = false
 is_cell part (Some v) = is_eq (value_cmp v part)
 
+-- whether a row has this value at this place
 abbrev pub has_part : Row → ℕ × Value → Bool
 has_part row e = is_cell e.1 (slice_get row.0 e.0)
 
@@ -40,6 +41,7 @@ abbrev pub side_fits : TableDef → RowKey → Option Row → Bool
 side_fits def key None = true
 side_fits def key (Some row) = fits_key def key row
 
+-- whether an image is of this resource, and its rows fit this table and have its key; never where there is no table
 abbrev pub image_fits : ℕ → Option TableDef → Image → Bool
 image_fits resource None i = false
 image_fits resource (Some def) i = (i.key.resource == resource) && (side_fits def i.key i.before && side_fits def i.key i.after)
@@ -48,6 +50,7 @@ image_fits resource (Some def) i = (i.key.resource == resource) && (side_fits de
 abbrev pub is_image : ℕ → Schema → Image → Bool
 is_image resource schema i = image_fits resource (table_named schema i.key.table) i
 
+-- whether a read is of this resource, and its row fits this table and has its key; never where there is no table
 abbrev pub read_fits : ℕ → Option TableDef → ReadRow → Bool
 read_fits resource None r = false
 read_fits resource (Some def) r = (r.key.resource == resource) && fits_key def r.key r.row

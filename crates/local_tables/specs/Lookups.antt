@@ -55,6 +55,7 @@ abbrev pub is_equality : Op → Bool
 is_equality op.Eq = true
 is_equality _ = false
 
+-- the first of the two that is there
 abbrev pub first_of_two : Option Value → Option Value → Option Value
 first_of_two (Some found) other = Some found
 first_of_two None other = other

@@ -4,6 +4,7 @@ use Rattle.std.specs.declared.cmp.Ordering.TheVariants.{Less, Greater}
 use Rattle.seata_types.specs.Orders.{key_cmp}
 use Rattle.seata_types.specs.declared.rows.RowKey.{RowKey}
 
+-- keys with what stands at each
 abbrev pub Entries : Type 0 → Type 0
 Entries X = List (RowKey × X)
 

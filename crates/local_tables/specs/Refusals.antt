@@ -24,6 +24,7 @@ refusal def s =
 abbrev pub change_key : Change → RowKey
 change_key c = c.0
 
+-- a change that leaves no row; an UPDATE has one where it can't compute the new row
 abbrev pub is_gone : Change → Bool
 is_gone c = is_none c.1
 

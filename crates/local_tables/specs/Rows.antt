@@ -38,6 +38,7 @@ put rows key None = remove_entry (is_key key) rows
 abbrev pub Change : Type 0
 Change = RowKey × Option Row
 
+-- a row that stands at its key from now on, and below it a row that doesn't any more
 abbrev pub comes : RowKey × Row → Change
 comes e = (e.0, Some e.1)
 
@@ -81,6 +82,7 @@ key_in resource def pk = record { resource = resource; table = def.name; pk = pk
 abbrev pub is_in : ℕ → TableDef → RowKey → Bool
 is_in resource def key = (key.resource == resource) && same_text key.table def.name
 
+-- a row of a table, behind the key with these values
 abbrev pub with_key : ℕ → TableDef → Row → List Value → RowKey × Row
 with_key resource def row pk = (key_in resource def pk, row)
 
@@ -114,9 +116,11 @@ abbrev pub opening_entry : ℕ → Option TableDef → Row → Option (RowKey ×
 opening_entry resource None row = None
 opening_entry resource (Some def) row = if fits_row def row then keyed resource def row else None
 
+-- a row that stands behind its table's name, with its key, where the table is there and the row fits it
 abbrev pub keyed_row : ℕ → Schema → List ℕ × Row → Option (RowKey × Row)
 keyed_row resource schema o = opening_entry resource (table_named schema o.0) o.1
 
+-- each of these rows that fits its table, with its key
 abbrev pub opening_rows : ℕ → Schema → List (List ℕ × Row) → List (RowKey × Row)
 opening_rows resource schema opening = filter_map (keyed_row resource schema) opening
 

@@ -15,6 +15,7 @@ use Rattle.local_tables.specs.declared.schemas.TableDef.{TableDef}
 abbrev pub within : ℤ → Option ℤ
 within sum = if int_le (negsuc (2 ^ 63 - 1)) sum && int_lt sum (pos (2 ^ 63)) then Some sum else None
 
+-- a sum with one more number, where it stays within 64 bits
 abbrev pub joined : Sign → ℤ → ℤ → Option ℤ
 joined sign.Plus total n = within (total +ℤ n)
 joined sign.Minus total n = within (total -ℤ n)
@@ -24,6 +25,7 @@ abbrev pub term_value : TableDef → Row → Term → Option Value
 term_value def row (term.Lit literal) = Some literal
 term_value def row (term.Column name) = cell def row name
 
+-- the number that a value is, and below it the number that a term is in a row
 abbrev pub number : Value → Option ℤ
 number (value.Int n) = Some n
 number (value.Text text) = None
@@ -37,6 +39,7 @@ sum_from def row total [] = Some total
 sum_from def row total (s ∷ ss) =
     option_and_then (λ next. sum_from def row next ss) (option_and_then (joined s.0 total) (term_number def row s.1))
 
+-- a lone term is its own value; more than one are the sum of their numbers
 abbrev pub sum_value : TableDef → Row → Term → List (Sign × Term) → Option Value
 sum_value def row first [] = term_value def row first
 sum_value def row first (s ∷ ss) =
@@ -46,6 +49,7 @@ sum_value def row first (s ∷ ss) =
 abbrev pub expr_value : TableDef → Row → Expr → Option Value
 expr_value def row e = sum_value def row e.first e.rest
 
+-- the cells with this value at the place of a column, if that has one
 abbrev pub set_at : Option ℕ → Value → List Value → List Value
 set_at (Some place) new cells = slice_set cells place new
 set_at None new cells = cells

@@ -32,6 +32,7 @@ value_for columns tuple column = option_and_then (slice_get tuple) (position (sa
 abbrev pub tuple_row : TableDef → List (List ℕ) → List Value → Row
 tuple_row def columns tuple = row_of (filter_map (value_for columns tuple) def.columns)
 
+-- the row that a tuple makes, with its key
 abbrev pub inserted_row : ℕ → TableDef → List (List ℕ) → List Value → Option (RowKey × Row)
 inserted_row resource def columns tuple = keyed resource def (tuple_row def columns tuple)
 
@@ -59,6 +60,7 @@ readings resource def _ rows = []
 
 -- ---- rows that keep a statement from having a meaning
 
+-- whether an UPDATE can't compute what it makes of a row
 abbrev pub overflows : TableDef → List Set → RowKey × Row → Bool
 overflows def sets e = is_none (updated def sets e.1)
 
@@ -75,6 +77,7 @@ overflowing resource def _ rows = None
 abbrev pub is_taken : Rows → List RowKey → RowKey → Bool
 is_taken rows keys key = is_some (row_at rows key) || nat_lt 1 (count_by (is_key key) keys)
 
+-- the first of these keys that is taken
 abbrev pub first_taken : Rows → List RowKey → Option RowKey
 first_taken rows keys = find (is_taken rows keys) keys
 

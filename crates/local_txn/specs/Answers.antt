@@ -20,6 +20,7 @@ abbrev pub owner_by : (xid manager call : ℕ) → Work → Owner
 owner_by zero m c w = OfLocal c
 owner_by (suc x) m c w = OfCall m (suc x) c w
 
+-- an open transaction of the code, in the words of the rules
 abbrev pub open_of : OpenTxn → Open
 open_of txn = record {
   ticket = txn.ticket;
@@ -45,6 +46,7 @@ pub record Tickets : Type 0 where
   pub opened : ℕ
   pub opens : List Open
 
+-- at a boot: none was opened
 abbrev pub no_tickets : ℕ → Tickets
 no_tickets boot = record { boot = boot; opened = 0; opens = [] }
 
@@ -74,6 +76,7 @@ taken_back ts t = record { boot = ts.boot; opened = ts.opened - 1; opens = witho
 abbrev pub raised : Open → ℕ
 raised o = min (o.conflicts + 1) (2 ^ 32 - 1)
 
+-- at a conflict of this ticket: its count is raised, where it is open
 abbrev pub counted : Option Open → Ticket → List Open → List Open
 counted None t opens = opens
 counted (Some o) t opens = map (counting t (raised o)) opens

@@ -29,6 +29,7 @@ pub record Open : Type 0 where
   pub reads : List ReadRow
   pub conflicts : ℕ
 
+-- the effect of no statements, as a TCC call has it at its opening
 abbrev pub no_effect : Effect
 no_effect = record { images = []; reads = []; touched = [] }
 
@@ -36,6 +37,7 @@ no_effect = record { images = []; reads = []; touched = [] }
 abbrev pub opening_of : Ticket → Owner → Effect → Open
 opening_of t owner e = record { ticket = t; owner = owner; images = e.images; reads = e.reads; conflicts = 0 }
 
+-- the open one with this ticket
 abbrev pub open_at : List Open → Ticket → Option Open
 open_at opens t = find (λ o. same_ticket o.ticket t) opens
 
@@ -44,6 +46,7 @@ abbrev pub AreDistinct : List Open → Type 0
 AreDistinct [] = Unit {0}
 AreDistinct (o ∷ os) = AreDistinct os × (open_at os o.ticket ≡ None)
 
+-- all but the one with this ticket; and with one in front, if there is one
 abbrev pub without : List Open → Ticket → List Open
 without opens t = filter (λ o. not (same_ticket o.ticket t)) opens
 
@@ -55,6 +58,7 @@ with_first (Some o) rest = o ∷ rest
 abbrev pub sent_again : Ticket → List Open → List Open
 sent_again t opens = with_first (open_at opens t) (without opens t)
 
+-- the one with this ticket has met so many conflicts
 abbrev pub counting : Ticket → ℕ → Open → Open
 counting t n o = if same_ticket o.ticket t then record o { conflicts = n } else o
 
@@ -66,6 +70,7 @@ last_of (x ∷ y ∷ ys) = last_of (y ∷ ys)
 
 -- ---- whose they are
 
+-- whether it is of call c of x, and whether it is of local transaction k
 abbrev pub is_for_call : ℕ → ℕ → Owner → Bool
 is_for_call x c (OfCall m y d w) = (y == x) && (d == c)
 is_for_call x c (OfLocal k) = false
@@ -84,6 +89,7 @@ has_row r o = has_key (image_keys o.images) r || has_key (read_keys o.reads) r
 abbrev pub ticket_with : List Open → RowKey → Option Open
 ticket_with opens r = find (has_row r) opens
 
+-- this row with the ticket that has it, or else what was found among the rows behind it
 abbrev pub with_ticket : RowKey → Option Open → Option (RowKey × Ticket) → Option (RowKey × Ticket)
 with_ticket k None rest = rest
 with_ticket k (Some o) rest = Some (k, o.ticket)
@@ -93,6 +99,7 @@ abbrev pub busy_in : List Open → List RowKey → Option (RowKey × Ticket)
 busy_in opens [] = None
 busy_in opens (k ∷ ks) = with_ticket k (ticket_with opens k) (busy_in opens ks)
 
+-- of two rows, each with its ticket, the lesser one
 abbrev pub lesser_row : Option (RowKey × Ticket) → Option (RowKey × Ticket) → Option (RowKey × Ticket)
 lesser_row None q = q
 lesser_row (Some p) None = Some p

@@ -17,9 +17,11 @@ use Rattle.local_txn.specs.declared.transactions.OpenTxn.{OpenTxn}
 abbrev pub Index : Type 0
 Index = List (RowKey × Ticket)
 
+-- the ticket that has a row
 abbrev pub at : Index → RowKey → Option Ticket
 at rows r = lookup (is_key r) rows
 
+-- this row with the ticket that has it, or else what was found among the rows behind it
 abbrev pub first_with : RowKey → Option Ticket → Option (RowKey × Ticket) → Option (RowKey × Ticket)
 first_with k None rest = rest
 first_with k (Some t) rest = Some (k, t)

@@ -12,6 +12,7 @@ use Rattle.manager_core.specs.declared.phases.Phase.TheVariants as phase
 abbrev pub call_message : Settings → Xid → (done : ℕ) → ℕ × Work → Message
 call_message m xid done call = message.Call xid m.number call.0 (done + 1) call.1
 
+-- the message of this call, or that of the end where there is none
 abbrev pub message_for : Settings → Xid → (done : ℕ) → Option (ℕ × Work) → Message
 message_for m xid done (Some call) = call_message m xid done call
 message_for m xid done None = end_message m.ending xid
@@ -20,6 +21,7 @@ message_for m xid done None = end_message m.ending xid
 abbrev pub next_message : Settings → Xid → (done : ℕ) → Message
 next_message m xid done = message_for m xid done (slice_get m.calls done)
 
+-- what is waited for after such a message
 abbrev pub phase_for : Settings → Xid → (done : ℕ) → Option (ℕ × Work) → Phase
 phase_for m xid done (Some call) = phase.Calling xid done 0
 phase_for m xid done None = phase.Closing xid m.ending

@@ -22,6 +22,7 @@ pub record HasKeysOf (resource : ℕ) (e : Effect) : Type 0 where
   pub touched : AreKeysOf resource (image_keys e.images)
   pub read : AreKeysOf resource (read_keys e.reads)
 
+-- the keys of such an effect are of the tables' resource and have places
 abbrev pub EffectsHaveKeys : Type 0
 EffectsHaveKeys = (db : Database) (stmts : List Stmt) (e : Effect) → AreTablesWithin db → AllByRecursion IsStmtWithin stmts → effect db stmts ≡ Ok e → HasKeysOf db.resource e
 
@@ -31,6 +32,7 @@ pub record IsFaultAmong (resource : ℕ) (stmts : List Stmt) (index : ℕ) (faul
   pub among : index ≤ length stmts
   pub place : IsFaultOf resource fault
 
+-- so is the fault of statements on tables whose values have places
 abbrev pub FaultsHavePlaces : Type 0
 FaultsHavePlaces = (db : Database) (stmts : List Stmt) (index : ℕ) (fault : StmtError) → AreTablesWithin db → AllByRecursion IsStmtWithin stmts → effect db stmts ≡ Err (index, fault)
     → IsFaultAmong db.resource stmts index fault
@@ -44,5 +46,6 @@ pub record HaveRecordsPlaces (e : Effect) : Type 0 where
   pub local : (number : ℕ) → number < 2 ^ 16 → HasPlace (log.LocalCommitted number e.images)
   pub outside : (number : ℕ) → number < 2 ^ 16 → HasPlace (log.Outside number e.images)
 
+-- of an effect within the limits each such record has a place
 abbrev pub RecordsHavePlaces : Type 0
 RecordsHavePlaces = (e : Effect) → IsEffectWithin e → HaveRecordsPlaces e

@@ -39,6 +39,7 @@ pub record AreTablesWithin (db : Database) : Type 0 where
 
 -- ---- statements
 
+-- the literals of a term, and of what a column is set to, have places
 abbrev pub IsTermWithin : Term → Type 0
 IsTermWithin (term.Lit literal) = FitsValue literal
 IsTermWithin (term.Column name) = Unit {0}
@@ -69,6 +70,7 @@ pub record IsKeyOf (resource : ℕ) (key : RowKey) : Type 0 where
   pub of : key.resource ≡ resource
   pub short : length key.table ≤ NAME_BYTES
 
+-- all these keys are such
 abbrev pub AreKeysOf : ℕ → List RowKey → Type 0
 AreKeysOf resource keys = AllByRecursion (IsKeyOf resource) keys
 

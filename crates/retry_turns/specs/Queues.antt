@@ -7,6 +7,7 @@ use Rattle.std.specs.declared.cmp.Reverse.{Reverse}
 use Rattle.std.specs.Ordering.{nat_cmp, ordering_then}
 use Rattle.retry_turns.specs.Plans.{Plans, moment_of, goes_before}
 
+-- moments with their transactions, as the code's heap keeps them
 abbrev pub Queue : Type 0
 Queue = List (Reverse (ℕ × ℕ))
 

@@ -39,6 +39,7 @@ abbrev pub placed : Image → (List Image → List Image) → List Image → Lis
 placed x rest [] = x ∷ rest []
 placed x rest (y ∷ ys) = match_ordering (key_cmp x.key y.key) (x ∷ rest (y ∷ ys)) (from_to x y ∷ rest ys) (y ∷ placed x rest ys)
 
+-- where both have an image of a row, there is one from the first's before to the second's after
 abbrev pub merged : List Image → List Image → List Image
 merged [] ys = ys
 merged (x ∷ xs) ys = placed x (merged xs) ys

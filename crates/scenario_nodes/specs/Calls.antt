@@ -1,4 +1,4 @@
--- Statements, calls and locals as a scenario has them, and as nodes take them.
+-- For the proofs alone: statements, calls and locals as a scenario has them, and as nodes take them.
 use Rattle.std.specs.Prelude.{◌≡◌, ◌≤◌, ◌==◌, ℕ, if◌then◌else◌, All, IsUtf8, List, length, Option, Some, None, Ok, FitsSigned}
 use Rattle.std.specs.Int.{w64}
 use Rattle.seata_types.specs.declared.limits.TheConstants.{CALLS, STATEMENTS, STATEMENT_BYTES}
@@ -31,10 +31,12 @@ HasTypes named = All HasType named.1.0
 abbrev pub IsRead : Stmt → Type 0
 IsRead s = (text : List ℕ) × (length text ≤ STATEMENT_BYTES) × (reading text ≡ Ok s)
 
+-- no more statements than a list may have, each of which was read
 pub record AreRead (stmts : List Stmt) : Type 0 where
   pub few : length stmts ≤ STATEMENTS
   pub each : All IsRead stmts
 
+-- the same of the parts of a TCC call, of a call's work, of a call and of a local
 pub record IsReadAction (action : Action) : Type 0 where
   pub tries : AreRead action.tries
   pub confirms : AreRead action.confirms
@@ -57,10 +59,12 @@ pub record HasReadCalls (def : ManagerDef) : Type 0 where
 
 -- ---- as frames take them
 
+-- statements within the layout and the limits of a frame
 pub record AreFramable (stmts : List Stmt) : Type 0 where
   pub layout : FitsStmts stmts
   pub limits : AreStmtsWithin stmts
 
+-- the same of the parts of a TCC call, of a call's work and of a call
 pub record IsFramableAction (action : Action) : Type 0 where
   pub tries : AreFramable action.tries
   pub confirms : AreFramable action.confirms

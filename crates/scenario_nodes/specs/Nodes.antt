@@ -29,6 +29,7 @@ use Rattle.scenario_nodes.specs.Shelves.{AllTell}
 
 -- ---- roles, on disks without records
 
+-- the coordinator, and the resource and the manager of a number
 abbrev pub coordinator_role : Scenario → Role
 coordinator_role s = Coordinator (times_of s) []
 

@@ -26,6 +26,7 @@ IsDiskName node name = (name ≡ node) ⊎ (name ≡ second_name node)
 abbrev pub unstopped : DiskState → DiskState
 unstopped disk = with_stop Off 0 disk
 
+-- what the two disks of a node show, without a stop
 abbrev pub pair_of : {D : Type 0} → (D → DiskState) → D × D → Pair
 pair_of state disks = record { first = unstopped (state disks.0); second = unstopped (state disks.1) }
 

@@ -22,6 +22,7 @@ use Rattle.scenario_reader.specs.Tables.{is_table_named}
 
 -- ---- statements
 
+-- the statement that the grammar reads, or the byte at which it refuses the text
 abbrev pub read_by : Result Stmt SqlError → Outcome Stmt
 read_by (Ok found) = Ok found
 read_by (Err (sql.Refused at why)) = wrong_sql at
@@ -45,6 +46,7 @@ suits kind.Tcc kind.Tcc (stmt.Select table asked) = false
 suits kind.Tcc kind.Tcc _ = true
 suits _ _ _ = false
 
+-- the statement, by its table: where it doesn't suit the call the mode is wrong, where there is none the name
 abbrev pub standing_by : BranchKind → Stmt → Option TableDef → Outcome Stmt
 standing_by wanted found (Some def) = if suits wanted def.mode found then Ok found else wrong_mode
 standing_by wanted found None = wrong_name
@@ -53,12 +55,14 @@ standing_by wanted found None = wrong_name
 unfoldable pub standing : Schema → BranchKind → Stmt → Outcome Stmt
 standing schema wanted found = standing_by wanted found (find (is_table_named (table_of found)) schema.tables)
 
+-- a statement of the form: a text of the grammar, whose table is there and of the kind of its call
 unfoldable pub statement : Schema → BranchKind → Data → Outcome Stmt
 statement schema wanted d = do
   written ← text_by (as_str d)
   found ← parsed written
   standing schema wanted found
 
+-- the next statement of a list, whatever stands before it
 abbrev pub next_statement : Schema → BranchKind → List Stmt → Data → Outcome Stmt
 next_statement schema wanted found d = statement schema wanted d
 
@@ -88,9 +92,11 @@ tcc_work schema d = do
   cancels ← member (codes "cancel") (statements schema kind.Tcc) d
   Ok (work.Tcc (record { tries = tries; confirms = confirms; cancels = cancels }))
 
+-- the work of a call, by its mode
 abbrev pub call_work : Schema → Data → Outcome Work
 call_work schema d = if is_action d then tcc_work schema d else at_work schema d
 
+-- the names of the members of an AT call and of a local, and of a TCC call
 abbrev pub local_members : List (List ℕ)
 local_members = codes "at" ∷ codes "do" ∷ []
 
@@ -101,6 +107,7 @@ action_members = codes "at" ∷ codes "try" ∷ codes "confirm" ∷ codes "cance
 abbrev pub only_call : Data → Outcome (Unit {0})
 only_call d = if is_action d then only action_members d else only local_members d
 
+-- a place, where the name was found
 abbrev pub place_by : Option ℕ → Outcome ℕ
 place_by (Some k) = Ok k
 place_by None = wrong_name
@@ -109,11 +116,13 @@ place_by None = wrong_name
 unfoldable pub resource_place : List ResourceDef → List ℕ → Outcome ℕ
 resource_place resources name = if is_word name then place_by (position (is_resource_named name) resources) else wrong_shape
 
+-- the place of the resource that a member names, counted from 0
 unfoldable pub resource_at : List ResourceDef → Option Data → Outcome ℕ
 resource_at resources d = do
   name ← text d
   resource_place resources name
 
+-- the tables of a resource, none where there is no resource
 abbrev pub schema_by : Option ResourceDef → Schema
 schema_by (Some def) = def.schema
 schema_by None = record { tables = [] }
@@ -131,6 +140,7 @@ call resources d = do
   _ ← only_call d
   Ok (k + 1, found)
 
+-- the next call of a list, whatever stands before it
 abbrev pub next_call : List ResourceDef → List (ℕ × Work) → Data → Outcome (ℕ × Work)
 next_call resources calls d = call resources d
 
@@ -142,6 +152,7 @@ calls resources d = do
 
 -- ---- locals
 
+-- the statements of a local, which are of the AT mode
 abbrev pub local_statements : Schema → Data → Outcome (List Stmt)
 local_statements schema d = member (codes "do") (statements schema kind.At) d
 
@@ -154,6 +165,7 @@ local_item resources d = do
   _ ← only local_members d
   Ok (k + 1, found)
 
+-- the next local of a list, whatever stands before it
 abbrev pub next_local : List ResourceDef → List (ℕ × List Stmt) → Data → Outcome (ℕ × List Stmt)
 next_local resources locals d = local_item resources d
 

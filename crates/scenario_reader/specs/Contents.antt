@@ -98,6 +98,7 @@ pub record IsStatement (schema : Schema) (wanted : BranchKind) (s : Stmt) : Type
   pub read : (text : List ℕ) × (length text ≤ STATEMENT_BYTES) × (reading text ≡ Ok s)
   pub stands : (def : TableDef) × (table_named schema (table_of s) ≡ Some def) × (suits wanted def.mode s ≡ true)
 
+-- no more statements than a list may have, each of them such
 pub record AreStatements (schema : Schema) (wanted : BranchKind) (stmts : List Stmt) : Type 0 where
   pub few : length stmts ≤ STATEMENTS
   pub each : All (IsStatement schema wanted) stmts

@@ -9,9 +9,11 @@ use Rattle.seata_types.specs.Orders.{same_text}
 use Rattle.scenario_reader.specs.declared.errors.ScenarioError.{ScenarioError}
 use Rattle.scenario_reader.specs.declared.errors.ScenarioError.TheVariants as fault
 
+-- a value, or the first fault
 abbrev pub Outcome : Type 0 → Type 0
 Outcome A = Result A ScenarioError
 
+-- what is read next, by the value that was read first, or the fault of the first
 infixl 10 ◌>>=◌
 abbrev pub ◌>>=◌ : {A B : Type 0} → Outcome A → (A → Outcome B) → Outcome B
 (Ok x) >>= f = f x
@@ -19,6 +21,7 @@ abbrev pub ◌>>=◌ : {A B : Type 0} → Outcome A → (A → Outcome B) → Ou
 
 -- ---- faults of the value that is read, whose path is empty
 
+-- another shape; beyond this limit; no statement, at this byte; another mode; a name that isn't there or is used
 abbrev pub wrong_shape : {A : Type 0} → Outcome A
 wrong_shape = Err (fault.Shape [])
 
@@ -46,6 +49,7 @@ moved front (fault.Name path) = fault.Name (front ++ path)
 moved front fault.NotJson = fault.NotJson
 moved front fault.NoMemory = fault.NoMemory
 
+-- an outcome, whose fault has this path in front of its own
 abbrev pub within : {A : Type 0} → List ℕ → Outcome A → Outcome A
 within front (Ok x) = Ok x
 within front (Err e) = Err (moved front e)
@@ -68,6 +72,7 @@ each form done (item d ds) = within (to_item (length done)) (form done d) >>= (�
 
 -- ---- shapes
 
+-- a text, where it is there
 abbrev pub text_by : Option (List ℕ) → Outcome (List ℕ)
 text_by (Some text) = Ok text
 text_by None = wrong_shape
@@ -80,6 +85,7 @@ abbrev pub items_length : Items → ℕ
 items_length no_items = 0
 items_length (item d ds) = suc (items_length ds)
 
+-- at most so many items, where a list is there
 abbrev pub list_by : ℕ → Option Items → Outcome Items
 list_by most (Some items) = if nat_le (items_length items) most then Ok items else beyond most
 list_by most None = wrong_shape
@@ -88,6 +94,7 @@ list_by most None = wrong_shape
 unfoldable pub list : ℕ → Option Data → Outcome Items
 list most d = list_by most (option_and_then as_array d)
 
+-- items, where a list is there
 abbrev pub items_by : Option Items → Outcome Items
 items_by (Some items) = Ok items
 items_by None = wrong_shape
@@ -96,6 +103,7 @@ items_by None = wrong_shape
 unfoldable pub any_list : Data → Outcome Items
 any_list d = items_by (as_array d)
 
+-- the items of a list of just two
 abbrev pub pair_by : Option Items → Outcome (Data × Data)
 pair_by (Some (item a (item b no_items))) = Ok (a, b)
 pair_by _ = wrong_shape
@@ -104,6 +112,7 @@ pair_by _ = wrong_shape
 unfoldable pub pair : Data → Outcome (Data × Data)
 pair d = pair_by (as_array d)
 
+-- the items of a list of just three
 abbrev pub triple_by : Option Items → Outcome (Data × Data × Data)
 triple_by (Some (item a (item b (item c no_items)))) = Ok (a, b, c)
 triple_by _ = wrong_shape
@@ -112,6 +121,7 @@ triple_by _ = wrong_shape
 unfoldable pub triple : Data → Outcome (Data × Data × Data)
 triple d = triple_by (as_array d)
 
+-- whether a name is one of these, and whether that of each member is
 abbrev pub is_known : List (List ℕ) → List ℕ → Bool
 is_known names name = list_any (same_text name) names
 
@@ -124,6 +134,7 @@ abbrev pub an_object : Data → Outcome (Unit {0})
 an_object (object ms) = Ok tt
 an_object _ = wrong_shape
 
+-- no fault where this is so; and of an object, where its members have these names alone
 abbrev pub only_by : Bool → Outcome (Unit {0})
 only_by true = Ok tt
 only_by false = wrong_shape

@@ -44,6 +44,7 @@ settings d = do
   disk ← member (codes "disk") (number_or DEFAULT_DISK DISK_LEAST DISK_MOST) d
   Ok (record { timeout = timeout; lock_tries = tries; retry = retry; forget = forget; disk = disk })
 
+-- the names of a scenario's members
 abbrev pub scenario_members : List (List ℕ)
 scenario_members =
     codes "timeout" ∷ codes "lockTries" ∷ codes "retry" ∷ codes "forget" ∷ codes "disk" ∷ codes "resources" ∷ codes "managers" ∷ codes "locals" ∷ codes "stops"
@@ -84,6 +85,7 @@ events servers users found d = do
 unfoldable pub only_members : Data → Outcome (Unit {0})
 only_members d = only scenario_members d
 
+-- the scenario of these nodes and events, which isn't kept under a text yet
 abbrev pub with_parts : Nodes → Events → Scenario
 with_parts n e =
     record {
@@ -113,6 +115,7 @@ abbrev pub told_path : List ℕ → List ℕ
 told_path [] = codes "."
 told_path (c ∷ cs) = c ∷ cs
 
+-- a fault with its path as it is told, and an outcome with such a fault
 abbrev pub told : ScenarioError → ScenarioError
 told (fault.Shape path) = fault.Shape (told_path path)
 told (fault.Limit path limit) = fault.Limit (told_path path) limit

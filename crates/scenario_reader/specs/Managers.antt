@@ -14,6 +14,7 @@ use Rattle.scenario_reader.specs.Numbers.{number_in, number_or}
 use Rattle.scenario_reader.specs.Names.{new_node}
 use Rattle.scenario_reader.specs.Calls.{calls}
 
+-- the ending that this word names
 abbrev pub ending_in : List ℕ → Outcome Ending
 ending_in word =
     if same_text word (codes "commit") then Ok how.Commit
@@ -30,6 +31,7 @@ silent (Some d) = do
   most ← number_in 0 SILENT d
   Ok (Some most)
 
+-- a truth value, where one is there
 abbrev pub truth_by : Option Bool → Outcome Bool
 truth_by (Some b) = Ok b
 truth_by None = wrong_shape
@@ -39,6 +41,7 @@ unfoldable pub poll : Option Data → Outcome Bool
 poll None = Ok false
 poll (Some d) = truth_by (as_bool d)
 
+-- the names of a manager's members
 abbrev pub manager_members : List (List ℕ)
 manager_members = codes "name" ∷ codes "timeout" ∷ codes "calls" ∷ codes "end" ∷ codes "silent" ∷ codes "poll" ∷ []
 
@@ -67,6 +70,7 @@ manager resources timeout defs d = do
   _ ← only manager_members d
   Ok (record { name = head.0; timeout = head.1; calls = head.2; ending = rest.0; silent = rest.1; poll = rest.2 })
 
+-- the managers, each behind those before it, with the timeout of those that have none of their own
 unfoldable pub managers : List ResourceDef → ℕ → Option Data → Outcome (List ManagerDef)
 managers resources timeout d = do
   items ← list MANAGERS d

@@ -10,6 +10,7 @@ use Rattle.scenario_reader.specs.Faults.{Outcome, ◌>>=◌, wrong_shape, beyond
 
 -- ---- nodes
 
+-- a letter of ASCII, and what may stand behind one in a word: a letter, a digit or `_`
 abbrev pub is_letter : ℕ → Bool
 is_letter c = (nat_le 65 c && nat_le c 90) || (nat_le 97 c && nat_le c 122)
 
@@ -42,6 +43,7 @@ new_node_name resources managers name =
     then (if nat_le (length name) NODE_NAME_BYTES then (if is_node resources managers name then wrong_name else Ok name) else beyond NODE_NAME_BYTES)
     else wrong_shape
 
+-- the same of a member
 unfoldable pub new_node : List ResourceDef → List ManagerDef → Option Data → Outcome (List ℕ)
 new_node resources managers d = do
   name ← text d
@@ -49,6 +51,7 @@ new_node resources managers d = do
 
 -- ---- tables and columns
 
+-- a lower-case letter, what may stand behind one in a name, and a word of these
 abbrev pub is_lower : ℕ → Bool
 is_lower c = nat_le 97 c && nat_le c 122
 

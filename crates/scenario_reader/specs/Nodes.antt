@@ -13,10 +13,12 @@ use Rattle.scenario_reader.specs.Faults.{Outcome, ◌>>=◌, wrong_shape, wrong_
 use Rattle.scenario_reader.specs.Numbers.{number_in}
 use Rattle.scenario_reader.specs.Names.{is_word, is_resource_named, is_manager_named}
 
+-- the manager at a place, counted from 0, where the name was found
 abbrev pub manager_by : Option ℕ → Outcome Place
 manager_by (Some k) = Ok (place.Man (k + 1))
 manager_by None = wrong_name
 
+-- the resource at a place, counted from 0, or else what stands among the others
 abbrev pub server_by : Outcome Place → Option ℕ → Outcome Place
 server_by others (Some k) = Ok (place.Res (k + 1))
 server_by others None = others
@@ -36,6 +38,7 @@ node resources managers name = server_or (manager_by (position (is_manager_named
 
 -- ---- stops
 
+-- the coordinator or the resource that a stop names, by the word and by the data
 abbrev pub stopped_in : List ResourceDef → List ℕ → Outcome Place
 stopped_in resources name = if is_word name then server resources name else wrong_shape
 
@@ -51,6 +54,7 @@ stop resources d = do
   pick ← within (to_item 2) (number_in 0 LAST_PICK parts.2)
   Ok (at, calls, pick)
 
+-- the next stop of a list, whatever stands before it
 abbrev pub next_stop : List ResourceDef → List (Place × ℕ × ℕ) → Data → Outcome (Place × ℕ × ℕ)
 next_stop resources stops d = stop resources d
 

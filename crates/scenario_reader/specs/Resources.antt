@@ -24,11 +24,13 @@ each_table defs opening (item d ds) =
     within (to_item (length defs)) (table defs (length opening) d)
     >>= (λ t. each_table (defs ++ t.0 ∷ []) (opening ++ named_rows t.0.name t.1) ds)
 
+-- the tables of a resource, with their opening rows
 unfoldable pub tables : Option Data → Outcome Opened
 tables d = do
   items ← list TABLES d
   each_table [] [] items
 
+-- the names of a resource's members
 abbrev pub resource_members : List (List ℕ)
 resource_members = codes "name" ∷ codes "tables" ∷ []
 
@@ -41,6 +43,7 @@ resource defs d = do
   _ ← only resource_members d
   Ok (record { name = name; schema = record { tables = found.0 }; opening = found.1 })
 
+-- the resources, each behind those before it
 unfoldable pub resources : Option Data → Outcome (List ResourceDef)
 resources d = do
   items ← list RESOURCES d

@@ -30,6 +30,7 @@ has_space text = list_any is_space text
 
 -- ---- one step: the form of the whole text first, then its parts from the left
 
+-- what stands behind the words `turn`, `deliver`, `wait` and `auto`: a node; a stamp; ticks; single steps
 unfoldable pub turn : List ResourceDef → List ManagerDef → List ℕ → Outcome ScheduleItem
 turn resources managers rest =
     if is_word rest then node resources managers rest >>= (λ at. Ok (step.Turn at)) else wrong_shape
@@ -43,6 +44,7 @@ wait rest = if is_plain rest then plain_number 1 TICKS rest >>= (λ t. Ok (step.
 unfoldable pub auto : List ℕ → Outcome ScheduleItem
 auto rest = if is_plain rest then plain_number 1 STEPS rest >>= (λ k. Ok (step.Auto k)) else wrong_shape
 
+-- what stands behind `stop`: a node with disks, and calls
 abbrev pub stop_at : List ResourceDef → List ℕ → List ℕ → Outcome ScheduleItem
 stop_at resources name number = do
   at ← server resources name
@@ -52,9 +54,11 @@ stop_at resources name number = do
 unfoldable pub stop : List ResourceDef → List ℕ → Outcome ScheduleItem
 stop resources rest = if is_word (front rest) && is_plain (behind rest) then stop_at resources (front rest) (behind rest) else wrong_shape
 
+-- what stands behind `crash`: a node with disks
 unfoldable pub crash : List ResourceDef → List ℕ → Outcome ScheduleItem
 crash resources rest = if is_word rest then server resources rest >>= (λ at. Ok (step.Crash at)) else wrong_shape
 
+-- a restart of a node with disks: with its pick, and also with the calls after which a disk of it fails
 abbrev pub restart_at : List ResourceDef → List ℕ → List ℕ → Outcome ScheduleItem
 restart_at resources name picked = do
   at ← server resources name
@@ -73,9 +77,11 @@ unfoldable pub armed_restart : List ResourceDef → List ℕ → List ℕ → Ou
 armed_restart resources name more =
     if is_word name && is_plain (front more) && is_plain (behind more) then armed_restart_at resources name (front more) (behind more) else wrong_shape
 
+-- a restart without such calls, by what follows the node's name
 unfoldable pub plain_restart : List ResourceDef → List ℕ → List ℕ → Outcome ScheduleItem
 plain_restart resources name more = if is_word name && is_plain more then restart_at resources name more else wrong_shape
 
+-- what stands behind `restart`: a node with disks, the pick, and the calls where a second space stands before them
 unfoldable pub restart : List ResourceDef → List ℕ → Outcome ScheduleItem
 restart resources rest =
     if has_space (behind rest) then armed_restart resources (front rest) (behind rest) else plain_restart resources (front rest) (behind rest)
@@ -113,6 +119,7 @@ abbrev pub steps_of : ScheduleItem → ℕ
 steps_of (step.Auto k) = k
 steps_of _ = 1
 
+-- the single steps of all items
 abbrev pub all_steps : List ScheduleItem → ℕ
 all_steps [] = 0
 all_steps (x ∷ items) = steps_of x + all_steps items
@@ -123,6 +130,7 @@ next_item resources managers count items d = do
   found ← item_of resources managers count d
   if nat_le (all_steps items + steps_of found) STEPS then Ok found else beyond STEPS
 
+-- the schedule, each step behind those before it
 unfoldable pub schedule : List ResourceDef → List ManagerDef → ℕ → Option Data → Outcome (List ScheduleItem)
 schedule resources managers count d = do
   items ← list SCHEDULE_MEMBERS d

@@ -25,6 +25,7 @@ use Rattle.scenario_reader.specs.Names.{is_table_name, new_name}
 abbrev pub row_of : List Value → Row
 row_of values = record { 0 = values }
 
+-- a column: its name and its type
 abbrev pub Column : Type 0
 Column = List ℕ × ColType
 
@@ -39,6 +40,7 @@ table_name defs d = do
   name ← text d
   new_name (list_any (is_table_named name) defs) name
 
+-- the mode that this word names, and that of a member
 abbrev pub mode_in : List ℕ → Outcome BranchKind
 mode_in word =
     if same_text word (codes "AT") then Ok kind.At
@@ -52,6 +54,7 @@ mode d = text d >>= mode_in
 abbrev pub is_column_named : List ℕ → Column → Bool
 is_column_named name column = same_text name column.0
 
+-- the type that this word names
 abbrev pub type_in : List ℕ → Outcome ColType
 type_in word =
     if same_text word (codes "int") then Ok type.Int
@@ -61,6 +64,7 @@ type_in word =
 abbrev pub column_type : Data → Outcome ColType
 column_type d = text_by (as_str d) >>= type_in
 
+-- a column's name, behind these columns
 abbrev pub column_name : List Column → Option (List ℕ) → Outcome (List ℕ)
 column_name columns found = do
   name ← text_by found
@@ -74,6 +78,7 @@ column columns d = do
   type ← within (to_item 1) (column_type parts.1)
   Ok (name, type)
 
+-- columns, at least one
 abbrev pub some_columns : List Column → Outcome (List Column)
 some_columns [] = beyond 1
 some_columns (c ∷ cs) = Ok (c ∷ cs)
@@ -87,6 +92,7 @@ columns d = do
 
 -- ---- keys
 
+-- the place of a column, where the name was found
 abbrev pub key_place : Option ℕ → Outcome ℕ
 key_place (Some k) = Ok k
 key_place None = wrong_name
@@ -95,6 +101,7 @@ key_place None = wrong_name
 unfoldable pub key_column : List Column → List ℕ → Outcome ℕ
 key_column columns name = if is_table_name name then key_place (position (is_column_named name) columns) else wrong_shape
 
+-- a place that isn't one of these
 abbrev pub unused_place : List ℕ → ℕ → Outcome ℕ
 unused_place places k = if list_any (λ p. p == k) places then wrong_name else Ok k
 
@@ -105,6 +112,7 @@ key_part columns places d = do
   k ← key_column columns name
   unused_place places k
 
+-- places, at least one
 abbrev pub some_places : List ℕ → Outcome (List ℕ)
 some_places [] = beyond 1
 some_places (k ∷ ks) = Ok (k ∷ ks)
@@ -116,6 +124,7 @@ key_list columns d = do
   places ← each (key_part columns) [] items
   some_places places
 
+-- one column by its name, where the member is a text, else those of a list
 abbrev pub key_by : List Column → Option (List ℕ) → Option Data → Outcome (List ℕ)
 key_by columns (Some name) d = key_column columns name >>= (λ k. Ok (k ∷ []))
 key_by columns None d = key_list columns d
@@ -126,6 +135,7 @@ key columns d = key_by columns (option_and_then as_str d) d
 
 -- ---- rows
 
+-- a signed number of 64 bits; one that has 64 bits only without a sign is beyond the greatest
 abbrev pub int_by : Option ℤ → Option ℕ → Outcome Value
 int_by (Some z) unsigned = Ok (value.Int z)
 int_by None (Some n) = beyond (2 ^ 63 - 1)
@@ -139,15 +149,18 @@ int_cell d = int_by (option_and_then as_i64 (as_number d)) (option_and_then as_u
 abbrev pub is_printable : ℕ → Bool
 is_printable b = nat_le 32 b && not (b == 127)
 
+-- a text for a row: short enough, and without a control character
 abbrev pub cell_text : List ℕ → Outcome Value
 cell_text found =
     if list_all is_printable found
     then (if nat_le (length found) TEXT_BYTES then Ok (value.Text found) else beyond TEXT_BYTES)
     else wrong_shape
 
+-- the same of data
 unfoldable pub text_cell : Data → Outcome Value
 text_cell d = text_by (as_str d) >>= cell_text
 
+-- a value of this type, and one of this column, where there is one
 abbrev pub cell_of : ColType → Data → Outcome Value
 cell_of type.Int d = int_cell d
 cell_of type.Text d = text_cell d
@@ -164,6 +177,7 @@ cell_at columns k d = cell_in (slice_get columns k) d
 abbrev pub cell : List Column → List Value → Data → Outcome Value
 cell columns values d = cell_at columns (length values) d
 
+-- a list of just so many items
 abbrev pub row_items : ℕ → Option Items → Outcome Items
 row_items n (Some items) = if items_length items == n then Ok items else wrong_shape
 row_items n None = wrong_shape
@@ -185,6 +199,7 @@ abbrev pub key_behind : List Value → List ℕ → Row → List Value
 key_behind parts [] row = parts
 key_behind parts (k ∷ ks) row = key_behind (with_part parts (slice_get row.0 k)) ks row
 
+-- the key of a row: its values at the places of the key's columns
 abbrev pub key_of : List ℕ → Row → List Value
 key_of places row = key_behind [] places row
 
@@ -206,6 +221,7 @@ new_row columns places rows d = do
   found ← row columns d
   if has_key places rows (key_of places found) then wrong_name else Ok found
 
+-- a list of rows that a resource may have besides so many
 abbrev pub rows_by : ℕ → Option Items → Outcome Items
 rows_by used (Some items) = if nat_le (used + items_length items) RESOURCE_ROWS then Ok items else beyond RESOURCE_ROWS
 rows_by used None = wrong_shape
@@ -222,10 +238,12 @@ Notes key old new = (q : List Value) → is_noted new q ≡ cond (same_key key q
 unfoldable pub HaveKeys : List ℕ → List Row → List (List Value) → Type 0
 HaveKeys places rows keys = (key : List Value) → is_noted keys key ≡ has_key places rows key
 
+-- the order of a part of two keys, where both are there
 abbrev pub part_order : Option Value → Option Value → Option Ordering
 part_order (Some x) (Some y) = Some (ghosts.cmp x y)
 part_order _ _ = None
 
+-- the second key stands behind by this part, or by those behind it where this one is the same
 abbrev pub rises_by : Option Ordering → Bool → Bool
 rises_by (Some order.Less) later = true
 rises_by (Some order.Equal) later = later
@@ -236,6 +254,7 @@ abbrev pub rises : List ℕ → Row → Row → Bool
 rises [] a b = false
 rises (k ∷ ks) a b = rises_by (part_order (slice_get a.0 k) (slice_get b.0 k)) (rises ks a b)
 
+-- whether a row stands behind the last one, where there is one
 abbrev pub behind_last : List ℕ → Option Row → Row → Bool
 behind_last places (Some last) row = rises places last row
 behind_last places None row = true
@@ -244,6 +263,7 @@ behind_last places None row = true
 abbrev pub is_behind : List ℕ → List Row → Row → Bool
 is_behind places rows row = behind_last places (slice_get rows (length rows - 1)) row
 
+-- a key stands behind that of the last row, where there is one
 abbrev pub IsAbove : List ℕ → Option Row → List Value → Type 0
 IsAbove places (Some last) key = key_order (key_of places last) key ≡ order.Less
 IsAbove places None key = Unit {0}
@@ -265,6 +285,7 @@ rows used columns places d = do
 
 -- ---- tables
 
+-- the names of a table's members
 abbrev pub table_members : List (List ℕ)
 table_members = codes "name" ∷ codes "mode" ∷ codes "columns" ∷ codes "key" ∷ codes "rows" ∷ []
 

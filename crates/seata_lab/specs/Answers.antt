@@ -50,7 +50,7 @@ usage_text = line (codes "usage: seata_lab replay | run | make | stress | frames
 abbrev pub unread : List ℕ → List ℕ
 unread input = drop (INPUT_BYTES + 1) input
 
--- these bytes of an input were read, and the others are left
+-- for the proofs alone: these bytes of an input were read, and the others are left
 pub record HasRead (input bytes : List ℕ) (left : Option (List ℕ)) : Type 0 where
   pub bytes_are : bytes ≡ take (INPUT_BYTES + 1) input
   pub left_are : left ≡ Some (unread input)

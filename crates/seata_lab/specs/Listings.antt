@@ -21,7 +21,7 @@ pub record Awaits (l : Listing) (rest text : List ℕ) : Type 0 where
   pub ended : l.ended ≡ true → text ≡ string_bytes l.lines
   pub going : l.ended ≡ false → text ≡ string_bytes l.lines ++ lines_from l.feed.at (l.feed.rest ++ rest)
 
--- so many bytes of an input were read and fed to it; the others are left, and it will have the lines of all
+-- for the proofs alone: so many bytes of an input were read and fed to it; the others are left, and it will have the lines of all
 pub record IsListing (input : List ℕ) (left : Option (List ℕ)) (total : ℕ) (l : Listing) : Type 0 where
   pub rest : List ℕ
   pub is_left : left ≡ Some rest

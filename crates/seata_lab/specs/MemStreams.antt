@@ -16,12 +16,14 @@ fails_next failing calls = list_any (λ call. nat_eq call (next_call calls)) fai
 
 -- ---- a source
 
+-- the bytes that are left, as they are and as they are told
 abbrev pub left_of : MemSource → List ℕ
 left_of s = drop s.at s.bytes.items
 
 abbrev pub bytes_left : MemSource → Option (List ℕ)
 bytes_left s = Some (left_of s)
 
+-- how often it failed
 abbrev pub source_faults : MemSource → ℕ
 source_faults s = s.faults
 
@@ -39,9 +41,11 @@ source_calls s = s.calls
 
 -- ---- a sink
 
+-- the bytes that were put into it
 abbrev pub bytes_written : MemSink → Option (List ℕ)
 bytes_written s = Some (take s.at s.bytes.items)
 
+-- how often it failed
 abbrev pub sink_faults : MemSink → ℕ
 sink_faults s = s.faults
 
@@ -53,6 +57,7 @@ room_left s = length s.bytes.items - s.at
 abbrev pub sink_step : MemSink → ℕ
 sink_step s = s.step
 
+-- the calls that fail, and how many there were
 abbrev pub sink_fails : MemSink → List ℕ
 sink_fails s = s.failing.items
 

@@ -4,6 +4,7 @@ use Rattle.std.specs.Prelude.{ℕ, List, Option}
 use Rattle.seata_lab.specs.declared.standard.StdSource.{StdSource}
 use Rattle.seata_lab.specs.declared.standard.StdSink.{StdSink}
 
+-- the reader; how often a call of the source failed; and what the reader still has, where it tells it
 abbrev pub reader : {R : Type 0} → StdSource R → R
 reader s = s.input
 
@@ -13,6 +14,7 @@ source_faults s = s.faults
 abbrev pub source_left : {R : Type 0} → (R → Option (List ℕ)) → StdSource R → Option (List ℕ)
 source_left remaining s = remaining s.input
 
+-- the writer; how often a call of the sink failed; and what was written to the writer, where it tells it
 abbrev pub writer : {W : Type 0} → StdSink W → W
 writer s = s.output
 

@@ -15,6 +15,7 @@ pub record Devices : Type 0 where
   pub source_faults : ℕ
   pub sink_faults : ℕ
 
+-- what a source and a sink tell now, by the ghost members of their types
 abbrev pub devices : {S K : Type 0} → (S → Option (List ℕ)) → (S → ℕ) → (K → Option (List ℕ)) → (K → ℕ) → S → K → Devices
 devices left source_faults written sink_faults source sink =
     record { left = left source; written = written sink; source_faults = source_faults source; sink_faults = sink_faults sink }

@@ -34,6 +34,7 @@ tail (gcons a b) = b
 apart : (m n : ℕ) {a b : Gv} → gcons (gnum m) a ≡ gcons (gnum n) b → m ≢ n → ⊥
 apart m n p other = other (cc)
 
+-- a condition is stored as a number for its form, and its parts
 abbrev pub condition_code : Condition → Gv
 condition_code (Cmp a0 a1 a2) =
     gcons (gnum 0) (gcons ((coded_list coded_ℕ).code a0) (gcons (op.the_row.coded.code a1) (value.the_row.coded.code a2)))
@@ -41,6 +42,7 @@ condition_code (And a0 a1) = gcons (gnum 1) (gcons (condition_code a0) (conditio
 condition_code (Or a0 a1) = gcons (gnum 2) (gcons (condition_code a0) (condition_code a1))
 condition_code (Not a0) = gcons (gnum 3) (condition_code a0)
 
+-- different conditions are stored differently
 pub condition_inj : (x y : Condition) → condition_code x ≡ condition_code y → x ≡ y
 condition_inj (Cmp a0 a1 a2) (Cmp b0 b1 b2) p =
     λ i. Cmp

@@ -36,6 +36,7 @@ value_congr (value.Text s) (value.Text t) (value.Text u) p = nat_list_cmp_total.
 pub value_cmp_total : IsTotalOrder value_cmp
 value_cmp_total = record { antisymm = value_antisymm; trans = value_trans; congr = value_congr }
 
+-- two values are equal exactly where neither comes before the other
 pub value_ties : (x y : Value) → equality.TheImpl.eq-value.it x y ≡ eq_by_cmp value_cmp x y
 value_ties (value.Int a) (value.Int b) = refl
 value_ties (value.Int a) (value.Text t) = refl

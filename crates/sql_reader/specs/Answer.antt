@@ -12,6 +12,7 @@ use Rattle.sql_reader.specs.Grammar.{statement}
 abbrev pub place_of : List ℕ → Refusal → ℕ
 place_of text refusal = unwrap_or (slice_get (places text) (length (places text) - refusal.left)) (length text)
 
+-- the statement, or the refusal at its byte in the text
 abbrev pub answer : List ℕ → Outcome Stmt → Result Stmt SqlError
 answer text (Ok found) = Ok found.0
 answer text (Err refusal) = Err (error.Refused (place_of text refusal) refusal.kind)

@@ -21,6 +21,7 @@ use Rattle.sql_reader.specs.declared.symbols.Symbol.{Symbol}
 use Rattle.sql_reader.specs.declared.symbols.Symbol.TheVariants as symbol
 use Rattle.sql_reader.specs.Lexing.{quote}
 
+-- a keyword or a mark, a name, a number with its sign, or a text without its quotes
 pub data Piece : Type 0 where
   Fixed : Symbol → Piece
   Name : List ℕ → Piece
@@ -29,6 +30,7 @@ pub data Piece : Type 0 where
 
 -- ---- the pieces of a statement
 
+-- the one piece of a literal and of a term, and the marks of signs and comparisons
 abbrev pub value_piece : Value → Piece
 value_piece (value.Int number) = Number number
 value_piece (value.Text text) = Quoted text
@@ -54,6 +56,7 @@ abbrev pub comma_separated : {A : Type 0} → (A → List Piece) → List A → 
 comma_separated item [] = []
 comma_separated item (x ∷ xs) = item x ++ flat_map (λ y. Fixed symbol.Comma ∷ item y) xs
 
+-- terms with their signs between; a column, "=" and its expression; values in parentheses
 unfoldable pub expr_pieces : Expr → List Piece
 expr_pieces e = term_piece e.first ∷ flat_map (λ t. Fixed (sign_of t.0) ∷ term_piece t.1 ∷ []) e.rest
 
@@ -63,6 +66,7 @@ assignment_pieces s = Name s.0 ∷ Fixed symbol.Equal ∷ expr_pieces s.1
 unfoldable pub tuple_pieces : List Value → List Piece
 tuple_pieces values = Fixed symbol.Open ∷ comma_separated (λ v. value_piece v ∷ []) values ++ Fixed symbol.Close ∷ []
 
+-- whether a condition is joined by OR, and below it whether by AND
 abbrev pub is_or : Condition → Bool
 is_or (tree.Or left right) = true
 is_or _ = false
@@ -76,6 +80,7 @@ abbrev pub grouped : Bool → List Piece → List Piece
 grouped true pieces = Fixed symbol.Open ∷ pieces ++ Fixed symbol.Close ∷ []
 grouped false pieces = pieces
 
+-- NOT binds before AND, and AND before OR; both of these group to the left
 unfoldable pub condition_pieces : Condition → List Piece
 condition_pieces (tree.Cmp column test compared) = Name column ∷ Fixed (op_symbol test) ∷ value_piece compared ∷ []
 condition_pieces (tree.And left right) =
@@ -83,10 +88,12 @@ condition_pieces (tree.And left right) =
 condition_pieces (tree.Or left right) = condition_pieces left ++ Fixed symbol.Or ∷ grouped (is_or right) (condition_pieces right)
 condition_pieces (tree.Not inner) = Fixed symbol.Not ∷ grouped (is_or inner || is_and inner) (condition_pieces inner)
 
+-- WHERE and the condition, if there is one
 unfoldable pub filter_pieces : Option Condition → List Piece
 filter_pieces None = []
 filter_pieces (Some c) = Fixed symbol.Where ∷ condition_pieces c
 
+-- a whole statement, without a semicolon
 unfoldable pub pieces : Stmt → List Piece
 pieces (stmt.Insert table columns rows) =
     Fixed symbol.Insert ∷ Fixed symbol.Into ∷ Name table ∷ Fixed symbol.Open ∷ comma_separated (λ c. Name c ∷ []) columns
@@ -99,6 +106,7 @@ pieces (stmt.Select table cond) =
 
 -- ---- their text
 
+-- keywords in upper case, and marks
 abbrev pub symbol_text : Symbol → List ℕ
 symbol_text symbol.Insert = codes "INSERT"
 symbol_text symbol.Into = codes "INTO"
@@ -132,6 +140,7 @@ abbrev pub doubled : List ℕ → List ℕ
 doubled [] = []
 doubled (b ∷ z) = if b == quote then quote ∷ quote ∷ doubled z else b ∷ doubled z
 
+-- a text stands in quotes, and each quote in it twice
 unfoldable pub piece_text : Piece → List ℕ
 piece_text (Fixed found) = symbol_text found
 piece_text (Name name) = name
@@ -149,6 +158,7 @@ clings (Fixed symbol.Comma) = true
 clings (Fixed symbol.Close) = true
 clings _ = false
 
+-- what stands before a piece: nothing where it is tight, else one space
 abbrev pub gap : Bool → List ℕ
 gap true = []
 gap false = codes " "
@@ -158,15 +168,18 @@ unfoldable pub spaced : Bool → List Piece → List ℕ
 spaced is_tight [] = []
 spaced is_tight (p ∷ ps) = gap (is_tight || clings p) ++ piece_text p ++ spaced (opens p) ps
 
+-- the canonical text of a statement
 unfoldable pub canonical_text : Stmt → List ℕ
 canonical_text s = spaced true (pieces s)
 
 -- ---- writing piece by piece
 
+-- what is written, and whether no space may stand behind it
 pub record Written : Type 0 where
   pub text : List ℕ
   pub is_tight : Bool
 
+-- it is stored as the pair of its fields
 abbrev pub written_code : Coded Written
 written_code = code_by (List ℕ × Bool) (coded× (coded_list coded_ℕ) coded_bool) (λ w. (w.text, w.is_tight)) (λ p. record { text = p.0; is_tight = p.1 }) (λ _. refl)
 
@@ -174,6 +187,7 @@ written_code = code_by (List ℕ × Bool) (coded× (coded_list coded_ℕ) coded_
 unfoldable pub put : Written → Piece → Written
 put w p = record { text = w.text ++ (gap (w.is_tight || clings p) ++ piece_text p); is_tight = opens p }
 
+-- with these pieces more
 abbrev pub written : Written → List Piece → Written
 written w [] = w
 written w (p ∷ ps) = written (put w p) ps

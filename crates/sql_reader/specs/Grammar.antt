@@ -35,6 +35,7 @@ use Rattle.sql_reader.specs.declared.tokens.Token.TheVariants as token
 use Rattle.sql_reader.specs.declared.errors.SqlKind.TheVariants as kind
 use Rattle.sql_reader.specs.Parsing.{Parser, ◌>>=◌, ◌>>◌, pure, refused, unexpected, sees, eat, expect, end, repeated}
 
+-- a name, which no keyword is
 unfoldable pub name : Parser (List ℕ)
 name (token.Name found ∷ ts) = Ok (found, ts)
 name ts = unexpected ts
@@ -51,6 +52,7 @@ abbrev pub negative : List Token → Parser Value
 negative begun (token.Number n ∷ ts) = in_range (nat_le n (2 ^ 63)) (neg_ℤ (pos n)) begun ts
 negative begun ts = unexpected ts
 
+-- a number of 64 bits, with "-" before it or without, or a text
 unfoldable pub literal : Parser Value
 literal (token.Number n ∷ ts) = in_range (nat_lt n (2 ^ 63)) (pos n) (token.Number n ∷ ts) ts
 literal (token.Symbol symbol.Minus ∷ ts) = negative (token.Symbol symbol.Minus ∷ ts) ts
@@ -60,6 +62,7 @@ literal ts = unexpected ts
 
 -- ---- term and expr
 
+-- a column, or a literal
 unfoldable pub term : Parser Term
 term (token.Name found ∷ ts) = Ok (part.Column found, ts)
 term ts = (do
@@ -72,6 +75,7 @@ plus_or_minus (token.Symbol symbol.Plus ∷ ts) = Ok (Some sign.Plus, ts)
 plus_or_minus (token.Symbol symbol.Minus ∷ ts) = Ok (Some sign.Minus, ts)
 plus_or_minus ts = Ok (None, ts)
 
+-- behind a sign one more term, and then what `go_on` reads; without a sign nothing more
 abbrev pub more_behind : (List (Sign × Term) → Parser (List (Sign × Term))) → List (Sign × Term) → Option Sign → Parser (List (Sign × Term))
 more_behind go_on found None = pure found
 more_behind go_on found (Some sign) = do
@@ -91,6 +95,7 @@ expr = do
 
 -- ---- cond
 
+-- the comparison that a mark stands for
 abbrev pub op_of : Symbol → Option Op
 op_of symbol.Equal = Some op.Eq
 op_of symbol.NotEqual = Some op.Ne
@@ -100,6 +105,7 @@ op_of symbol.Greater = Some op.Gt
 op_of symbol.GreaterOrEqual = Some op.Ge
 op_of _ = None
 
+-- the comparison that was found; any other symbol is refused where it stands
 abbrev pub operator_by : Option Op → List Token → Parser Op
 operator_by (Some found) begun ts = Ok (found, ts)
 operator_by None begun ts = unexpected begun
@@ -108,6 +114,7 @@ unfoldable pub operator : Parser Op
 operator (token.Symbol found ∷ ts) = operator_by (op_of found) (token.Symbol found ∷ ts) ts
 operator ts = unexpected ts
 
+-- `name op lit`
 unfoldable pub comparison : Parser Condition
 comparison = do
   column ← name
@@ -140,6 +147,7 @@ fact (suc room) = do
         expect symbol.Close
         pure inner) else comparison)
 
+-- a condition with as many NOT and parentheses open at once as the limit lets it have
 unfoldable pub cond : Parser Condition
 cond = disjunction (fact NESTING)
 
@@ -157,6 +165,7 @@ filter = do
 abbrev pub listed : {A : Type 0} → Parser A → Parser (List A)
 listed item = repeated symbol.Comma item (λ x. x ∷ []) (λ xs x. xs ++ x ∷ [])
 
+-- lists with commas between, and what they are of
 unfoldable pub names : Parser (List (List ℕ))
 names = listed name
 
@@ -223,6 +232,7 @@ select = do
   expect symbol.Update
   pure (stmt.Select table cond)
 
+-- a statement without its semicolon, by its first word
 unfoldable pub body : Parser Stmt
 body (token.Symbol symbol.Insert ∷ ts) = insert ts
 body (token.Symbol symbol.Update ∷ ts) = update ts

@@ -29,6 +29,7 @@ keywords =
     ∷ (codes "WHERE", symbol.Where) ∷ (codes "DELETE", symbol.Delete) ∷ (codes "FROM", symbol.From) ∷ (codes "SELECT", symbol.Select) ∷ (codes "FOR", symbol.For)
     ∷ (codes "AND", symbol.And) ∷ (codes "OR", symbol.Or) ∷ (codes "NOT", symbol.Not) ∷ []
 
+-- the symbol of a word among these keywords, in any case
 abbrev pub listed_as : List (List ℕ × Symbol) → List ℕ → Option Symbol
 listed_as [] word = None
 listed_as (k ∷ ks) word = if str_eq_ignore_ascii_case word k.0 then Some k.1 else listed_as ks word
@@ -41,11 +42,13 @@ keyword word = listed_as keywords word
 unfoldable pub has_name_form : List ℕ → Bool
 has_name_form word = is_ascii_lowercase (slice_index word 0) && nat_le (length word) NAME_BYTES && list_all is_name_byte word
 
+-- a keyword, else a name where the word has that form, else no token of the grammar
 abbrev pub word_by : Option Symbol → Bool → List ℕ → Token
 word_by (Some found) is_name word = token.Symbol found
 word_by None true word = token.Name word
 word_by None false word = token.Unknown
 
+-- the token that a word is
 unfoldable pub word_token : List ℕ → Token
 word_token word = word_by (keyword word) (has_name_form word) word
 
@@ -73,6 +76,7 @@ text_by z (Some found) = (if has_text_form found.0 then token.Quoted found.0 els
 
 -- ---- marks
 
+-- a mark and how many bytes it has, else one byte that is no token of the grammar
 abbrev pub marked_by : Option (Symbol × ℕ) → Token × ℕ
 marked_by None = (token.Unknown, 1)
 marked_by (Some found) = (token.Symbol found.0, found.1)
@@ -104,6 +108,7 @@ starts_from left [] = []
 starts_from (suc left) (b ∷ z) = starts_from left z
 starts_from zero (b ∷ z) = if is_blank b then starts_from zero z else (b ∷ z) ∷ starts_from ((token_at (b ∷ z)).1 - 1) z
 
+-- the same of a whole text
 unfoldable pub starts : List ℕ → List (List ℕ)
 starts text = starts_from zero text
 

@@ -17,10 +17,12 @@ Outcome A = Result (A × List Token) Refusal
 abbrev pub Parser : Type 0 → Type 0
 Parser A = List Token → Outcome A
 
+-- the next parser, with what was found and on the tokens behind it; a refusal ends the parsing
 abbrev pub and_then : {A B : Type 0} → Outcome A → (A → Parser B) → Outcome B
 and_then (Ok found) f = f found.0 found.1
 and_then (Err refusal) f = Err refusal
 
+-- two parsers, one after the other; `>>` has no use for what the first one gives
 infixl 10 ◌>>=◌
 abbrev pub ◌>>=◌ : {A B : Type 0} → Parser A → (A → Parser B) → Parser B
 p >>= f = λ ts. and_then (p ts) f
@@ -29,11 +31,13 @@ infixl 10 ◌>>◌
 abbrev pub ◌>>◌ : {A B : Type 0} → Parser A → Parser B → Parser B
 p >> q = p >>= (λ _. q)
 
+-- a value for which no token is taken
 abbrev pub pure : {A : Type 0} → A → Parser A
 pure a = λ ts. Ok (a, ts)
 
 -- ---- refusals, at the first of these tokens
 
+-- a refusal tells why, and how many tokens are left from there on
 abbrev pub refused : {A : Type 0} → SqlKind → Parser A
 refused why ts = Err (record { kind = why; left = length ts })
 
@@ -42,6 +46,7 @@ abbrev pub missing : List Token → SqlKind
 missing [] = kind.End
 missing (t ∷ ts) = kind.Token
 
+-- whatever stands next is refused
 abbrev pub unexpected : {A : Type 0} → Parser A
 unexpected ts = refused (missing ts) ts
 
@@ -64,6 +69,7 @@ abbrev pub behind_first : List Token → List Token
 behind_first [] = []
 behind_first (t ∷ ts) = ts
 
+-- the tokens behind this symbol where it stands next, and else all of them
 unfoldable pub past : Symbol → List Token → List Token
 past wanted ts = if sees wanted ts then behind_first ts else ts
 
@@ -99,6 +105,7 @@ repeated separator item first join = do
 
 -- ---- what a function that reads ensures
 
+-- why a function that reads stopped: with the parser's refusal, or for want of memory, which is free
 abbrev pub Stops : {A : Type 0} → Stop → Outcome A → Type 0
 Stops stop.NoMemory outcome = Unit {0}
 Stops (stop.Refused refusal) outcome = outcome ≡ Err refusal

@@ -1,4 +1,4 @@
--- What a stack of tasks is still to write.
+-- For the proofs alone: what a stack of tasks is still to write.
 use Rattle.std.specs.Prelude.{ℕ, ◌+◌, ◌*◌, List, [], ◌∷◌, ◌++◌}
 use Rattle.seata_types.specs.Condition.{nodes}
 use Rattle.sql_reader.specs.declared.tasks.Task.{Task}

@@ -20,6 +20,7 @@ pub record IsName (name : List ℕ) : Type 0 where
   pub form : has_name_form name ≡ true
   pub no_keyword : keyword name ≡ None
 
+-- literals, terms, expressions and assignments that can be read: numbers have 64 bits, texts and names their form
 abbrev pub IsLiteral : Value → Type 0
 IsLiteral (value.Int number) = FitsSigned w64 number
 IsLiteral (value.Text text) = has_text_form text ≡ true
@@ -39,6 +40,7 @@ abbrev pub OneOrMore : {A : Type 0} → (A → Type 0) → List A → Type 0
 OneOrMore Each [] = ⊥
 OneOrMore Each (x ∷ xs) = Each x × AllByRecursion Each xs
 
+-- each column of a condition is a name, and each literal can be read
 abbrev pub HasReadableParts : Condition → Type 0
 HasReadableParts (tree.Cmp column test compared) = IsName column × IsLiteral compared
 HasReadableParts (tree.And left right) = HasReadableParts left × HasReadableParts right
@@ -57,13 +59,16 @@ nesting (tree.And left right) = max (grouped_nesting (is_or left) (nesting left)
 nesting (tree.Or left right) = max (nesting left) (grouped_nesting (is_or right) (nesting right))
 nesting (tree.Not inner) = suc (grouped_nesting (is_or inner || is_and inner) (nesting inner))
 
+-- a condition of such parts, with no more NOT and parentheses open at once than the limit lets it have
 abbrev pub IsCondition : Condition → Type 0
 IsCondition c = HasReadableParts c × (nesting c ≤ NESTING)
 
+-- the condition behind WHERE, if there is one
 abbrev pub IsFilter : Option Condition → Type 0
 IsFilter None = Unit {0}
 IsFilter (Some c) = IsCondition c
 
+-- a statement that some text reads as; none of its lists is empty
 unfoldable pub IsReadable : Stmt → Type 0
 IsReadable (stmt.Insert table columns rows) = IsName table × OneOrMore IsName columns × OneOrMore (OneOrMore IsLiteral) rows
 IsReadable (stmt.Update table sets cond) = IsName table × OneOrMore IsAssignment sets × IsFilter cond

@@ -2,9 +2,11 @@
 use Rattle.std.specs.Prelude.{ℕ, ◌+◌, if◌then◌else◌, ◌==◌, List, [], ◌∷◌, ◌++◌, Option, Some, None, option_map}
 use Rattle.std.specs.Str.{byte}
 
+-- the byte that begins and ends a text
 abbrev pub quote : ℕ
 quote = byte "'"
 
+-- what is found behind so many bytes, with the value that these have before its own
 abbrev pub behind : List ℕ → ℕ → Option (List ℕ × ℕ) → Option (List ℕ × ℕ)
 behind value bytes more = option_map (λ m. (value ++ m.0, bytes + m.1)) more
 

@@ -1,4 +1,4 @@
--- What the types of a statement's values say of their texts: each is UTF-8.
+-- For the proofs alone: what the types of a statement's values say of their texts: each is UTF-8.
 use Rattle.std.specs.Prelude.{All, IsUtf8, List, Option, Some, None}
 use Rattle.seata_types.specs.declared.rows.Value.{Value}
 use Rattle.seata_types.specs.declared.rows.Value.TheVariants as value
@@ -10,6 +10,7 @@ use Rattle.seata_types.specs.declared.statements.Term.TheVariants as part
 use Rattle.seata_types.specs.Condition.{Condition}
 use Rattle.seata_types.specs.Condition as tree
 
+-- each text is UTF-8: of a value, a term, an expression, a condition, and a condition that may be absent
 abbrev pub HasText : Value → Type 0
 HasText (value.Int number) = Unit {0}
 HasText (value.Text text) = IsUtf8 text

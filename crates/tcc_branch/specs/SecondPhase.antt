@@ -29,6 +29,7 @@ tcc_commit leg meaning WasDone = only tcc.Already
 tcc_commit leg meaning Runs = confirm_runs leg meaning
 tcc_commit leg meaning _ = only tcc.Refused
 
+-- a Confirm, by the branch's fence and the effect of its statements on the tables
 abbrev pub confirmed : Leg → Action → Database → List ResourceRecord → Answer TccAnswer
 confirmed leg action db rs = tcc_commit leg (effect db action.confirms) (on_confirm (fence rs leg.xid.0 leg.branch.0))
 
@@ -46,6 +47,7 @@ tcc_rollback leg meaning Refuses = only tcc.Refused
 tcc_rollback leg meaning Suspends = making (log.Suspended leg.xid leg.branch) tcc.Suspended
 tcc_rollback leg meaning Runs = cancel_runs leg meaning
 
+-- a Cancel, by the branch's fence and the effect of its statements on the tables
 abbrev pub cancelled : Leg → Action → Database → List ResourceRecord → Answer TccAnswer
 cancelled leg action db rs = tcc_rollback leg (effect db action.cancels) (on_cancel (fence rs leg.xid.0 leg.branch.0))
 

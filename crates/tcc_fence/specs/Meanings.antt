@@ -36,6 +36,7 @@ answer_of answer.Refuse = Refuses
 abbrev pub Fences : Type 0
 Fences = List ((ℕ × ℕ) × Fence)
 
+-- a branch, a branch with its status, and all such in the words of the records
 abbrev pub pair_of : Leg → ℕ × ℕ
 pair_of leg = (leg.xid.0, leg.branch.0)
 

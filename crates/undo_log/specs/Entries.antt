@@ -51,6 +51,7 @@ abbrev pub log_status : UndoEntry → ℕ
 log_status (entry.Normal r) = 0
 log_status entry.Finished = 1
 
+-- the undo record of an entry before others; a marker adds none
 abbrev pub with_record : UndoEntry → List UndoRecord → List UndoRecord
 with_record (entry.Normal r) rest = r ∷ rest
 with_record entry.Finished rest = rest
@@ -65,6 +66,7 @@ abbrev pub is_of_call : (x c : ℕ) → Leg → UndoEntry → Bool
 is_of_call x c leg (entry.Normal r) = (leg.xid.0 == x) && (r.call == c)
 is_of_call x c leg entry.Finished = false
 
+-- the undo record that an entry is, where it is no marker
 abbrev pub record_in : UndoEntry → Option UndoRecord
 record_in (entry.Normal r) = Some r
 record_in entry.Finished = None
@@ -76,6 +78,7 @@ record_of_call x c (e ∷ es) = if is_of_call x c e.0 e.1 then record_in e.1 els
 
 -- ---- the branches of one transaction
 
+-- branch b of x
 abbrev pub leg_at : (x b : ℕ) → Leg
 leg_at x b = record { xid = record { 0 = x }; branch = record { 0 = b } }
 
