@@ -158,8 +158,5 @@ pub fn rows_fit(rows: &BTreeMap<RowKey, Row>, changes: &RowMap<Option<Row>>) -> 
 {
     let most = rows.len() + puts(changes);
     // Where each changed row may be new, none has to be looked up.
-    if most <= RESOURCE_ROWS {
-        return true;
-    }
-    most - stood(rows, changes) <= RESOURCE_ROWS
+    most <= RESOURCE_ROWS || most - stood(rows, changes) <= RESOURCE_ROWS
 }
