@@ -4,6 +4,7 @@ use Rattle.std.specs.List.{flat_map}
 use Rattle.std.proofs.lemmas.List.{length-append}
 use Rattle.std.proofs.lemmas.List.Concat.{flat_map-cons}
 use Rattle.std.proofs.lemmas.List.Elements.{All-head, All-tail}
+use Rattle.seata_types.specs.declared.limits.TheConstants.{CALL_ROWS}
 use Rattle.seata_types.specs.declared.rows.Value.{Value}
 use Rattle.seata_types.specs.declared.rows.Value.TheVariants as value
 use Rattle.seata_types.specs.declared.rows.RowKey.{RowKey}
@@ -152,8 +153,8 @@ length-fields (message.RollbackStatus xid status) fits within = omega arith
 length-fields (message.Register xid resource call ticket mode hold check) fits within =
     let held = length-keys hold fits.4.each within.2.each in
     let checked = length-keys check fits.5.each within.3.each in
-    let held_few : length hold ≤ 256 = within.2.count in
-    let checked_few : length check ≤ 256 = within.3.count in
+    let held_few : length hold ≤ CALL_ROWS = within.2.count in
+    let checked_few : length check ≤ CALL_ROWS = within.3.count in
     omega (
       arith,
       held,
@@ -168,7 +169,7 @@ length-fields (message.GlobalStatus xid) fits within = omega arith
 length-fields (message.StatusAnswer xid status) fits within = omega arith
 length-fields (message.LockQuery resource ticket check) fits within =
     let checked = length-keys check fits.2.each within.1.each in
-    let few : length check ≤ 256 = within.1.count in
+    let few : length check ≤ CALL_ROWS = within.1.count in
     omega (arith, checked, few, length-ticket ticket, length-append (ticket_bytes ticket) (keys_bytes check))
 length-fields (message.LockAnswer ticket held) fits within =
     omega (arith, length-ticket ticket, length-held held fits.1 within, length-append (ticket_bytes ticket) (held_bytes held))

@@ -1,13 +1,14 @@
 -- That an input is a scenario or has a fault, and not both, and what the bytes that were read say of a longer input.
 use Rattle.std.proofs.Common.{◌≡◌, ◌≤◌, inl, inr, ℕ, List, length, Some, None, ap, sym, subst, ◌∙◌, arith}
 use Rattle.std.proofs.lemmas.Option.{same_Some}
+use Rattle.seata_types.specs.declared.limits.TheConstants.{INPUT_BYTES}
 use Rattle.scenario_reader.specs.Form.{scenario_of}
 use Rattle.scenario_reader.specs.Reading.{IsScenario, IsScenarioOf, IsFault, IsJson, IsNoJson, IsTooLong, IsNotJson, IsOtherForm}
 use Rattle.scenario_reader.specs.declared.errors.ScenarioError.{ScenarioError}
 use Rattle.scenario_reader.specs.declared.scenarios.Scenario.{Scenario}
 
 -- a scenario is short enough to be read whole
-pub scenario_is_short : (bytes : List ℕ) (s : Scenario) → IsScenario bytes s → length bytes ≤ 4194304
+pub scenario_is_short : (bytes : List ℕ) (s : Scenario) → IsScenario bytes s → length bytes ≤ INPUT_BYTES
 unfolding IsScenario
 scenario_is_short bytes s is = is.0
 
@@ -30,13 +31,13 @@ scenario_has_no_fault bytes s e is f =
     ]
 
 -- a fault of the front of an input that was read is one of the input
-pub fault_of_whole : (front whole : List ℕ) → length front ≤ length whole → (length front ≤ 4194304 → whole ≡ front)
+pub fault_of_whole : (front whole : List ℕ) → length front ≤ length whole → (length front ≤ INPUT_BYTES → whole ≡ front)
     → (e : ScenarioError) → IsFault front e → IsFault whole e
 unfolding IsFault IsTooLong IsNotJson IsOtherForm
 fault_of_whole front whole longer all e f =
     elim f.1 [
       | inl long ↦ let many = long.0 in (f.0, inl (omega (arith, longer, many), long.1))
       | inr other ↦
-          let short : length front ≤ 4194304 = elim other [ inl bare ↦ bare.0 | inr form ↦ form.0 ] in
+          let short : length front ≤ INPUT_BYTES = elim other [ inl bare ↦ bare.0 | inr form ↦ form.0 ] in
           subst (λ b. IsFault b e) (sym (all short)) f
     ]
