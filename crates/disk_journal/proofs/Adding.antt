@@ -4,7 +4,7 @@ use Rattle.std.proofs.lemmas.List.{drop-take, drop-drop, drop-append-le, take-ta
 use Rattle.disk_model.specs.Disk.{DiskState, IsLawful, IsSettled, Leaves, Pending, SameOutside, put}
 use Rattle.disk_model.proofs.Calls.{leaves_same, leaves_weaker, leaves_then, leaves_always}
 use Rattle.disk_journal.specs.Reading.{row_length}
-use Rattle.disk_journal.specs.Keeping.{StandsFor, IsBeforeOrAfter, SameFront, Holds, AddsAtMost, Stages}
+use Rattle.disk_journal.specs.Keeping.{StandsFor, IsBeforeOrAfter, SameFront, Holds, AddsAtMost, WrittenThrough, Stages}
 use Rattle.disk_journal.proofs.Rows.{row_of, row_reads}
 use Rattle.disk_journal.proofs.Crash.{IsStaged, row_before, staged_put, torn_gate, opened_gate}
 
@@ -52,10 +52,6 @@ pub front_both : (gate n : ℕ) (old middle new : DiskState) → Leaves old midd
 front_both gate n old middle new first second =
     let staged = front_staged gate n old middle first in
     leaves_then staged (leaves_weaker second (λ c (d, left, same). let f = staged.now d left in (f.0, f.1, same.before ∙ f.2, same.size ∙ f.3)))
-
--- what a write with its sync that answered Ok leaves: one of the images of before, with what was written
-abbrev pub WrittenThrough : ℕ → List ℕ → DiskState → DiskState → Type 0
-WrittenThrough at bytes old new = (c : List ℕ) → new.may_leave c → (p : List ℕ) × old.may_leave p × (c ≡ put at bytes p)
 
 module _ (gate : ℕ) (bytes : List ℕ) (from : ℕ) (bodies : List (List ℕ)) (body : List ℕ) (stages : Stages gate bytes from bodies body) (old : DiskState) (lawful : IsLawful old) (holds : Holds old from bodies) where
   -- the first write leaves the records as they were

@@ -2,6 +2,7 @@
 use Rattle.std.specs.Prelude.{◌≡◌, ℕ, ◌+◌, Bool, List, Result, Ok, Err}
 use Rattle.std.specs.Borrow.{Lends, Fml, RattleType, MutBor}
 use Rattle.disk_model.specs.Disk.{DiskState}
+use Rattle.disk_journal.specs.declared.layout.TheConstants.{SHORTEST}
 use Rattle.disk_journal.specs.Reading.{row_length}
 use Rattle.disk_journal.specs.Keeping.{Holds}
 use Rattle.disk_journal.specs.declared.errors.JournalError.{JournalError}
@@ -26,7 +27,7 @@ end_of journal = journal.end
 
 -- where that record would end if it had a body of so many bytes, with the next gate behind it
 abbrev pub needed_for : {D : Type 0} → Journal D → ℕ → ℕ
-needed_for journal body = end_of journal + body + 6
+needed_for journal body = end_of journal + body + SHORTEST
 
 -- Each image of its disk stands for these records, nothing is pending, and the next record goes behind them.
 pub record Keeps {D : Type 0} (state : D → DiskState) (bodies : List (List ℕ)) (journal : Journal D) : Type 0 where

@@ -1,6 +1,7 @@
 -- Which records stand on a disk, whatever a crash may leave of it.
-use Rattle.std.specs.Prelude.{◌≡◌, ◌⊎◌, ℕ, ◌+◌, ◌<◌, ◌≤◌, Option, Some, None, List, [], ◌∷◌, ◌++◌, length, take, drop, Result, Ok, Err}
-use Rattle.disk_model.specs.Disk.{DiskState, IsSettled, KeepsContent, KeepsRest, Leaves, Counts, CountsCalls}
+use Rattle.std.specs.Prelude.{◌≡◌, ◌⊎◌, ℕ, ◌+◌, ◌<◌, ◌≤◌, Option, Some, None, List, [], ◌∷◌, ◌++◌, length, take, drop, Result, Ok, Err, OnOk}
+use Rattle.disk_model.specs.Disk.{DiskState, IsSettled, KeepsContent, KeepsRest, Leaves, Pending, Counts, CountsCalls, put}
+use Rattle.disk_model.specs.declared.errors.Failed.{Failed}
 use Rattle.seata_types.specs.declared.errors.Full.{Full}
 use Rattle.seata_types.specs.declared.limits.TheConstants.{BODY_BYTES}
 use Rattle.disk_journal.specs.Reading.{Closed, Record, Damage, found, reading, row_length, staged}
@@ -39,6 +40,18 @@ pub record OnlyReads (old new : DiskState) : Type 0 where
   pub faults : old.counts.faults ≤ new.counts.faults
   pub own : old.counts.own ≤ new.counts.own
   pub left : new.counts.left ≡ old.counts.left
+
+-- what a write that was made stable leaves: an image from before, with these bytes from an offset on
+abbrev pub WrittenThrough : ℕ → List ℕ → DiskState → DiskState → Type 0
+WrittenThrough at bytes old new = (c : List ℕ) → new.may_leave c → (p : List ℕ) × old.may_leave p × (c ≡ put at bytes p)
+
+-- These bytes were written from an offset on and made stable, by so many calls, or the disk failed in one of them.
+pub record WritesThrough (calls at : ℕ) (bytes : List ℕ) (result : Result (Unit {0}) Failed) (old new : DiskState) : Type 0 where
+  pub written : OnOk result (WrittenThrough at bytes old new)
+  pub settled : OnOk result (IsSettled new)
+  pub images : Leaves old new (Pending at (length bytes) old.may_leave)
+  pub counts : CountsCalls calls result old.counts new.counts
+  pub rest : KeepsRest old new
 
 -- What an opening finds at a gate is what stands there.
 abbrev pub IsFoundAt : ℕ → List ℕ → Result (Option (List ℕ)) JournalError → Type 0

@@ -3,6 +3,7 @@
 use Rattle.std.specs.Prelude.{ℕ, zero, suc, ◌+◌, ◌==◌, ◌&&◌, nat_lt, nat_le, if◌then◌else◌, List, [], ◌∷◌, ◌++◌, length, take, drop, Result, Ok, Err}
 use Rattle.std.specs.Int.{w32, from_be_bytes, to_be_bytes}
 use Rattle.seata_types.specs.declared.limits.TheConstants.{BODY_BYTES}
+use Rattle.disk_journal.specs.declared.layout.TheConstants.{RECORD_HEAD_BYTES}
 
 -- What stands at a gate: no record, since it is closed, or a record with this body, or damage.
 pub data Found : Type 0 where
@@ -27,7 +28,7 @@ found (gate ∷ rest) = if gate == 1 then record_in rest else Closed
 
 -- how many bytes a record takes, up to the next gate
 abbrev pub record_length : List ℕ → ℕ
-record_length body = 5 + length body
+record_length body = RECORD_HEAD_BYTES + length body
 
 -- these records and then the others, if there is no damage among them
 abbrev pub followed_by : List (List ℕ) → Result (List (List ℕ)) ℕ → Result (List (List ℕ)) ℕ

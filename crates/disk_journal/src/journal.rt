@@ -3,12 +3,13 @@ ghost use Rattle.std.specs.Prelude.{◌≡◌, ◌⊎◌, ◌↔◌, ◌+◌, �
 ghost use Rattle.std.specs.Borrow.{sem};
 ghost use Rattle.disk_model.specs.Disk.{present, IsSettled, Leaves, CountsCalls, HasCause, KeepsRest, Rose};
 ghost use Rattle.seata_types.specs.declared.limits.TheConstants.{BODY_BYTES};
+ghost use Rattle.disk_journal.specs.declared.layout.TheConstants.{RECORD_HEAD_BYTES, GREATEST};
 ghost use Rattle.disk_journal.specs.Reading.{row_length, staged};
 ghost use Rattle.disk_journal.specs.Keeping.{StandsFor, Holds, AddsAtMost, SameFront, OnlyReads, IsDamageIn, IsFull, Stages, CountsAppend};
 
 use crate::device::write_through;
 use crate::errors::{AppendError, JournalError};
-use crate::layout::{CLOSED, HEAD, OPEN, SHORTEST};
+use crate::layout::{CLOSED, GREATEST, OPEN, RECORD_HEAD_BYTES, SHORTEST};
 use crate::opening::read_records;
 use disk_model::{Disk, Failed, append};
 use seata_types::limits::BODY_BYTES;
@@ -29,7 +30,7 @@ pub struct Journal<D> {
     down: bool,
     ghost order: { from ≤ end },
     ghost small: { end < 2 ^ 32 },
-    ghost room: { BODY_BYTES + 5 ≤ vec_capacity scratch },
+    ghost room: { GREATEST ≤ vec_capacity scratch },
 }
 
 impl<D: Disk> Journal<D> {
@@ -40,7 +41,7 @@ impl<D: Disk> Journal<D> {
     /// byte, `NoMemory` where there is none for the records or for appends.
     pub fn open(
         alloc: Global,
-        mut disk: D,
+        disk: D,
         from: u64,
     ) -> Result<(Journal<D>, List<List<u8>>), (JournalError, D)>
         requires { IsSettled (D.state disk) }
@@ -60,18 +61,13 @@ impl<D: Disk> Journal<D> {
             HasCause (D.state disk).counts (D.state failed.1).counts) }
         ensures only_reads { OnlyReads (D.state disk) (D.state (disk_after result)) }
     {
-        match prepare(alloc, &mut disk, from) {
-            Ok((records, end, scratch)) => {
-                let journal = Journal {
-                    disk,
-                    from,
-                    end,
-                    scratch,
-                    down: false,
-                };
-                Ok((journal, List::of(records)))
-            }
-            Err(error) => Err((error, disk)),
+        let mut journal = match Journal::unread(alloc, disk) {
+            Ok(journal) => journal,
+            Err(disk) => return Err((JournalError::NoMemory, disk)),
+        };
+        match journal.reload(alloc, from) {
+            Ok(records) => Ok((journal, records)),
+            Err(error) => Err((error, journal.into_disk())),
         }
     }
 
@@ -82,7 +78,7 @@ impl<D: Disk> Journal<D> {
         ensures down { IfOk result (λ made. is_down made ≡ true) }
         ensures back { IfErr result (λ given. given ≡ disk) }
     {
-        match Vec::with_capacity(alloc, BODY_BYTES + 5) {
+        match Vec::with_capacity(alloc, GREATEST) {
             Ok(scratch) => Ok(Journal {
                 disk,
                 from: 0,
@@ -150,7 +146,7 @@ impl<D: Disk> Journal<D> {
         ensures front { Leaves (D.state (disk_of self.old)) (D.state (disk_of self.new))
             (SameFront (from_of self.old) (D.state (disk_of self.old)).may_leave) }
         ensures begins { from_of self.new ≡ from_of self.old }
-        ensures moved { OnOk result (end_of self.new ≡ end_of self.old + length body.now + 5) }
+        ensures moved { OnOk result (end_of self.new ≡ end_of self.old + length body.now + RECORD_HEAD_BYTES) }
     {
         if let Err(full) = self.fits(body.len()) {
             return Err(AppendError::Full(full));
@@ -158,7 +154,7 @@ impl<D: Disk> Journal<D> {
         stage(&mut self.scratch, body);
         match add_record(&mut self.disk, self.end, &self.scratch) {
             Ok(()) => {
-                self.end += body.len() as u64 + HEAD;
+                self.end += body.len() as u64 + RECORD_HEAD_BYTES;
                 Ok(())
             }
             Err(Failed) => {
@@ -257,32 +253,13 @@ impl<D: Disk> Journal<D> {
     }
 }
 
-// The records of a disk, the offset of the gate behind them, and room for appends.
-fn prepare<D: Disk>(
-    alloc: Global,
-    disk: &mut D,
-    from: u64,
-) -> Result<(Vec<List<u8>>, u64, Vec<u8>), JournalError>
-    ensures records { IfOk result (λ found. (c : List ℕ) → present (D.state disk.old) ≡ Some c → StandsFor from found.0.items c) }
-    ensures end { IfOk result (λ found. found.1 ≡ from + row_length found.0.items) }
-    ensures small { IfOk result (λ found. found.1 < 2 ^ 32) }
-    ensures room { IfOk result (λ found. BODY_BYTES + 5 ≤ vec_capacity found.2) }
-    ensures damaged { IfErr result (λ error. (c : List ℕ) → present (D.state disk.old) ≡ Some c → IsDamageIn from c error) }
-    ensures failed { IfErr result (λ error. error ≡ JournalError.Failed → HasCause (D.state disk.old).counts (D.state disk.new).counts) }
-    ensures only_reads { OnlyReads (D.state disk.old) (D.state disk.new) }
-{
-    let (records, end) = read_records(alloc, disk, from)?;
-    let scratch = Vec::with_capacity(alloc, BODY_BYTES + 5).map_err(|_| JournalError::NoMemory)?;
-    Ok((records, end, scratch))
-}
-
 // A record behind its gate, in place of what was there.
 fn stage(scratch: &mut Vec<u8>, body: &[u8])
     requires small { length body.now ≤ BODY_BYTES }
-    requires room { BODY_BYTES + 5 ≤ vec_capacity scratch.old }
+    requires room { GREATEST ≤ vec_capacity scratch.old }
     ensures staged { scratch.new.items ≡ staged body.now }
-    ensures size { vec_len scratch.new ≡ length body.now + 5 }
-    ensures room { BODY_BYTES + 5 ≤ vec_capacity scratch.new }
+    ensures size { vec_len scratch.new ≡ length body.now + RECORD_HEAD_BYTES }
+    ensures room { GREATEST ≤ vec_capacity scratch.new }
 {
     scratch.clear();
     append(scratch, &(body.len() as u32).to_be_bytes());

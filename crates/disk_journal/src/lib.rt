@@ -11,3 +11,4 @@ mod opening;
 pub use device::{read, write_through};
 pub use errors::{AppendError, JournalError};
 pub use journal::Journal;
+pub use layout::RECORD_HEAD_BYTES;

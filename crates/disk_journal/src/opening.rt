@@ -6,7 +6,7 @@ ghost use Rattle.disk_journal.specs.Keeping.{StandsFor, OnlyReads, IsFoundAt, Is
 
 use crate::device::read;
 use crate::errors::JournalError;
-use crate::layout::{HEAD, OPEN, SHORTEST};
+use crate::layout::{OPEN, RECORD_HEAD_BYTES, SHORTEST};
 use disk_model::{Disk, zeros};
 use seata_types::List;
 use seata_types::limits::BODY_BYTES;
@@ -31,7 +31,7 @@ pub fn read_records<D: Disk>(
     let mut records = Vec::new(alloc);
     let mut gate = from;
     while let Some(body) = read_record(alloc, disk, gate)? {
-        gate += body.as_slice().len() as u64 + HEAD;
+        gate += body.as_slice().len() as u64 + RECORD_HEAD_BYTES;
         records.push(body).map_err(|_| JournalError::NoMemory)?;
     }
     Ok((records, gate))
@@ -66,6 +66,6 @@ fn read_record<D: Disk>(
         return Err(JournalError::Damaged { at: gate });
     }
     let mut body = zeros(alloc, count)?;
-    read(disk, gate + HEAD, &mut body)?;
+    read(disk, gate + RECORD_HEAD_BYTES, &mut body)?;
     Ok(Some(List::of(body)))
 }

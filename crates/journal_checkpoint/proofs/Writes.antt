@@ -2,7 +2,7 @@
 use Rattle.std.proofs.Common.{◌≡◌, ℕ, ◌+◌, ◌^◌, ◌<◌, ◌≤◌, true, List, [], ◌∷◌, length, inl, arith}
 use Rattle.disk_model.specs.Disk.{DiskState, IsLawful, Leaves, Pending}
 use Rattle.disk_model.proofs.Calls.{leaves_weaker, leaves_then}
-use Rattle.disk_journal.proofs.Adding.{WrittenThrough}
+use Rattle.disk_journal.specs.Keeping.{WrittenThrough}
 use Rattle.journal_checkpoint.specs.declared.types.Head.TheVariants as head
 use Rattle.journal_checkpoint.specs.Pairs.{head_of, checkpoint_bytes}
 use Rattle.journal_checkpoint.specs.Images.{IsOtherHead, IsFresh, IsOldOrFresh}

@@ -1,5 +1,6 @@
 -- Where the records end that two disks hold, so that one more has no place behind them.
 use Rattle.std.specs.Prelude.{◌≡◌, ℕ, ◌+◌, List, length, option_map}
+use Rattle.disk_journal.specs.declared.layout.TheConstants.{SHORTEST}
 use Rattle.disk_journal.specs.Reading.{row_length}
 use Rattle.disk_journal.specs.Keeping.{IsFull}
 use Rattle.seata_types.specs.declared.errors.Full.{Full}
@@ -20,4 +21,4 @@ EndAt disks end = (a b : List ℕ) → disks.first.may_leave a → disks.second.
 pub record HasNoPlace (disks : Pair) (size body : ℕ) (full : Full) : Type 0 where
   pub end : ℕ
   pub held : EndAt disks end
-  pub past_end : IsFull (end + body + 6) size full
+  pub past_end : IsFull (end + body + SHORTEST) size full

@@ -1,9 +1,11 @@
 -- What the images of two disks stand for, at the exits of a call and at each moment of it.
-use Rattle.std.specs.Prelude.{◌≡◌, ◌⊎◌, ℕ, ◌+◌, ◌-◌, ◌^◌, ◌<◌, ◌≤◌, Bool, true, false, if◌then◌else◌, Option, Some, None, List, [], ◌∷◌, ◌++◌, length, Result, Ok, Err}
-use Rattle.disk_model.specs.Disk.{DiskState, Counts, SameKind, IsSettled, IsPicked, Rose, present, last_pick}
+use Rattle.std.specs.Prelude.{◌≡◌, ◌⊎◌, ℕ, ◌+◌, ◌-◌, ◌^◌, ◌<◌, ◌≤◌, Bool, true, false, if◌then◌else◌, Option, Some, None, List, [], ◌∷◌, ◌++◌, length, Result, Ok, Err, OnOk}
+use Rattle.disk_model.specs.Disk.{DiskState, Counts, SameKind, CountsCalls, IsSettled, IsPicked, KeepsRest, Leaves, Rose, present, last_pick}
+use Rattle.disk_model.specs.declared.errors.Failed.{Failed}
 use Rattle.disk_journal.specs.Keeping.{StandsFor}
 use Rattle.disk_journal.specs.declared.errors.JournalError.{JournalError}
 use Rattle.disk_journal.specs.declared.errors.JournalError.TheVariants as journal_error
+use Rattle.journal_checkpoint.specs.declared.layout.TheConstants.{SNAPSHOT_HEAD_BYTES, AROUND}
 use Rattle.journal_checkpoint.specs.declared.types.Head.{Head}
 use Rattle.journal_checkpoint.specs.declared.types.Head.TheVariants as head
 use Rattle.journal_checkpoint.specs.declared.types.Active.{Active}
@@ -47,8 +49,8 @@ pub record TellAlike (first second : DiskState) : Type 0 where
 
 -- it has this generation and this snapshot, and its records begin at this offset
 abbrev pub IsActiveDisk : ℕ → ℕ → Option (List ℕ) → List ℕ → Type 0
-IsActiveDisk generation from None c = (generation ≡ 0) × (from ≡ 9) × (head_of c ≡ head.Shut)
-IsActiveDisk generation from (Some s) c = (0 < generation) × (from ≡ 9 + length s) × (head_of c ≡ head.Open generation (length s)) × (snapshot_in c (length s) ≡ s)
+IsActiveDisk generation from None c = (generation ≡ 0) × (from ≡ SNAPSHOT_HEAD_BYTES) × (head_of c ≡ head.Shut)
+IsActiveDisk generation from (Some s) c = (0 < generation) × (from ≡ SNAPSHOT_HEAD_BYTES + length s) × (head_of c ≡ head.Open generation (length s)) × (snapshot_in c (length s) ≡ s)
 
 -- where neither switch is open it is the first one
 abbrev pub IsOnSide : Active → Type 0
@@ -66,8 +68,8 @@ IsPassive generation c = IsOtherHead generation false (head_of c) ⊎ IsOtherHea
 
 -- a new snapshot, and no record
 pub record IsFresh (generation : ℕ) (snapshot c : List ℕ) : Type 0 where
-  pub active : IsActiveDisk generation (9 + length snapshot) (Some snapshot) c
-  pub empty : StandsFor (9 + length snapshot) [] c
+  pub active : IsActiveDisk generation (SNAPSHOT_HEAD_BYTES + length snapshot) (Some snapshot) c
+  pub empty : StandsFor (SNAPSHOT_HEAD_BYTES + length snapshot) [] c
 
 -- it is passive still, or has the new snapshot
 abbrev pub IsOldOrFresh : ℕ → List ℕ → List ℕ → Type 0
@@ -75,11 +77,20 @@ IsOldOrFresh generation snapshot c = IsPassive generation c ⊎ IsFresh (generat
 
 -- no checkpoint can be made: the snapshot doesn't fit on a disk of this size, or there is no greater generation
 abbrev pub CannotCheckpoint : ℕ → ℕ → ℕ → Type 0
-CannotCheckpoint size count generation = (size < count + 10) ⊎ (generation ≡ 2 ^ 32 - 1)
+CannotCheckpoint size count generation = (size < count + AROUND) ⊎ (generation ≡ 2 ^ 32 - 1)
 
 -- how many calls of the other disk a checkpoint makes: two more where its switch is open, to close it
 abbrev pub checkpoint_calls : Bool → ℕ
 checkpoint_calls other_open = if other_open then 8 else 6
+
+-- A snapshot of the generation after this one was written where the switch was open or not, or the disk failed in one of the
+-- calls. A crash at any moment leaves the disk passive, or active with this snapshot.
+pub record WritesSnapshot (was_open : Bool) (generation : ℕ) (snapshot : List ℕ) (result : Result (Unit {0}) Failed) (old new : DiskState) : Type 0 where
+  pub any_moment : ((c : List ℕ) → old.may_leave c → IsOtherHead generation was_open (head_of c)) → Leaves old new (IsOldOrFresh generation snapshot)
+  pub written : OnOk result ((c : List ℕ) → new.may_leave c → IsFresh (generation + 1) snapshot c)
+  pub settled : OnOk result (IsSettled new)
+  pub counts : CountsCalls (checkpoint_calls was_open) result old.counts new.counts
+  pub rest : KeepsRest old new
 
 -- Opening
 
@@ -110,11 +121,11 @@ error_on second journal_error.NoMemory = why.NoMemory
 abbrev pub FitsHead : ℕ → Head → Type 0
 FitsHead size head.Shut = Unit {0}
 FitsHead size head.Broken = Unit {0}
-FitsHead size (head.Open g n) = (0 < g) × (n + 10 ≤ size)
+FitsHead size (head.Open g n) = (0 < g) × (n + AROUND ≤ size)
 
 abbrev pub FitsSnapshot : ℕ → Option ℕ → Type 0
 FitsSnapshot size None = Unit {0}
-FitsSnapshot size (Some n) = n + 10 ≤ size
+FitsSnapshot size (Some n) = n + AROUND ≤ size
 
 -- two disks give this, or are not opened for another reason than damage
 abbrev pub RecoversPair : Found → Result Found TwinError → Type 0

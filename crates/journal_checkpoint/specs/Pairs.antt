@@ -4,6 +4,7 @@
 use Rattle.std.specs.Prelude.{ℕ, ◌+◌, ◌==◌, ◌&&◌, nat_lt, nat_le, Bool, true, false, if◌then◌else◌, List, [], ◌∷◌, ◌++◌, length, take, drop, Option, Some, None, option_map, Result, Ok, Err}
 use Rattle.std.specs.Int.{w32, to_be_bytes}
 use Rattle.disk_journal.specs.Reading.{number_in, reading}
+use Rattle.journal_checkpoint.specs.declared.layout.TheConstants.{SNAPSHOT_HEAD_BYTES, AROUND}
 use Rattle.journal_checkpoint.specs.declared.types.Head.{Head}
 use Rattle.journal_checkpoint.specs.declared.types.Head.TheVariants as head
 use Rattle.journal_checkpoint.specs.declared.types.Active.{Active}
@@ -13,7 +14,7 @@ use Rattle.journal_checkpoint.specs.declared.types.TwinError.TheVariants as why
 
 -- the head behind an open switch, on a disk of this size: the generation is above 0, and a gate stands behind the snapshot
 abbrev pub open_head : ℕ → ℕ → ℕ → Head
-open_head size generation count = if nat_lt 0 generation && nat_le (count + 10) size then head.Open generation count else head.Broken
+open_head size generation count = if nat_lt 0 generation && nat_le (count + AROUND) size then head.Open generation count else head.Broken
 
 -- the head that begins these bytes, on a disk of this size
 unfoldable pub head_in : ℕ → List ℕ → Head
@@ -22,7 +23,7 @@ head_in size (b ∷ rest) = if b == 1 then open_head size (number_in rest) (numb
 
 -- the head of a disk with these bytes
 abbrev pub head_of : List ℕ → Head
-head_of bytes = head_in (length bytes) (take 9 bytes)
+head_of bytes = head_in (length bytes) (take SNAPSHOT_HEAD_BYTES bytes)
 
 -- the disk that is active
 abbrev pub is_active : (second : Bool) → (generation : ℕ) → Option ℕ → (other_open : Bool) → Active
@@ -45,12 +46,12 @@ active_of (head.Open g n) (head.Open h m) =
 
 -- where the records begin, behind a snapshot of so many bytes or none
 abbrev pub begins_at : Option ℕ → ℕ
-begins_at None = 9
-begins_at (Some n) = 9 + n
+begins_at None = SNAPSHOT_HEAD_BYTES
+begins_at (Some n) = SNAPSHOT_HEAD_BYTES + n
 
 -- the snapshot of so many bytes on a disk
 abbrev pub snapshot_in : List ℕ → ℕ → List ℕ
-snapshot_in bytes n = take n (drop 9 bytes)
+snapshot_in bytes n = take n (drop SNAPSHOT_HEAD_BYTES bytes)
 
 -- the snapshot and these records, or the damage on the active disk
 abbrev pub with_records : Active → List ℕ → Result (List (List ℕ)) ℕ → Result Found TwinError

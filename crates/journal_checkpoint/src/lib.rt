@@ -9,5 +9,6 @@ mod twin;
 mod types;
 mod writing;
 
+pub use layout::SNAPSHOT_HEAD_BYTES;
 pub use twin::Twin;
 pub use types::{Found, TwinError};

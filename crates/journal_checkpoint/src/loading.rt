@@ -5,7 +5,7 @@ ghost use Rattle.disk_journal.specs.Keeping.{OnlyReads};
 ghost use Rattle.journal_checkpoint.specs.Pairs.{begins_at, snapshot_in};
 ghost use Rattle.journal_checkpoint.specs.Images.{FitsSnapshot, IsNoDamage, error_on};
 
-use crate::layout::HEAD;
+use crate::layout::SNAPSHOT_HEAD_BYTES;
 use crate::types::TwinError;
 use disk_journal::{JournalError, read};
 use disk_model::{Disk, Failed, NoMemory, zeros};
@@ -31,7 +31,7 @@ pub fn read_snapshot<D: Disk>(
         Ok(bytes) => bytes,
         Err(NoMemory) => return Err(TwinError::NoMemory),
     };
-    match read(disk, HEAD, &mut bytes) {
+    match read(disk, SNAPSHOT_HEAD_BYTES, &mut bytes) {
         Ok(()) => Ok(Some(List::of(bytes))),
         Err(Failed) => Err(TwinError::Failed),
     }
@@ -42,8 +42,8 @@ pub fn begins_at(snapshot: Option<u32>) -> u64
     ensures { result ≡ begins_at snapshot }
 {
     match snapshot {
-        None => HEAD,
-        Some(length) => HEAD + length as u64,
+        None => SNAPSHOT_HEAD_BYTES,
+        Some(length) => SNAPSHOT_HEAD_BYTES + length as u64,
     }
 }
 

@@ -1,6 +1,6 @@
 //! Two disks, of which one is active.
 use crate::heads::read_active;
-use crate::layout::{AROUND, HEAD};
+use crate::layout::{AROUND, SNAPSHOT_HEAD_BYTES};
 use crate::loading::{begins_at, error_on, read_snapshot};
 use crate::types::{Active, Found, TwinError};
 use crate::writing::write_snapshot;
@@ -173,7 +173,8 @@ impl<D: Disk> Twin<D> {
                 Err(error)
             }
             Ok(()) => {
-                self.journal.exchange(&mut self.other, HEAD + length);
+                self.journal
+                    .exchange(&mut self.other, SNAPSHOT_HEAD_BYTES + length);
                 self.other_open = self.generation > 0;
                 self.second = !self.second;
                 self.generation += 1;

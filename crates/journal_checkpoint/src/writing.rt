@@ -1,9 +1,10 @@
 //! A snapshot, written on the disk that is not active.
-ghost use Rattle.std.specs.Prelude.{◌≡◌, ◌+◌, ◌-◌, ◌^◌, ◌<◌, ◌≤◌, ℕ, Bool, List, [], ◌∷◌, ◌++◌, length, if◌then◌else◌, false, OnOk, OnErr};
+ghost use Rattle.std.specs.Prelude.{◌≡◌, ◌+◌, ◌-◌, ◌^◌, ◌<◌, ◌≤◌, ◌++◌, length, false};
 ghost use Rattle.std.specs.Int.{w32, to_be_bytes};
-ghost use Rattle.disk_model.specs.Disk.{put, IsSettled, Leaves, Pending, CountsCalls, KeepsRest};
-ghost use Rattle.journal_checkpoint.specs.Pairs.{head_of, checkpoint_bytes};
-ghost use Rattle.journal_checkpoint.specs.Images.{IsOtherHead, IsFresh, IsOldOrFresh, checkpoint_calls};
+ghost use Rattle.disk_journal.specs.Keeping.{WritesThrough};
+ghost use Rattle.journal_checkpoint.specs.declared.layout.TheConstants.{AROUND};
+ghost use Rattle.journal_checkpoint.specs.Pairs.{checkpoint_bytes};
+ghost use Rattle.journal_checkpoint.specs.Images.{WritesSnapshot};
 
 use crate::layout::{CLOSED, OPEN};
 use disk_journal::write_through;
@@ -17,23 +18,16 @@ pub fn write_snapshot<D: Disk>(
     generation: u32,
     snapshot: &[u8],
 ) -> Result<(), Failed>
-    requires fits { length snapshot.now + 10 ≤ (D.state disk.old).size }
+    requires fits { length snapshot.now + AROUND ≤ (D.state disk.old).size }
     requires small { generation < 2 ^ 32 - 1 }
-    // A crash at any moment of the call, however it ends, leaves the disk passive, or active with this snapshot.
-    ensures any_moment { ((c : List ℕ) → (D.state disk.old).may_leave c → IsOtherHead generation was_open (head_of c)) →
-        Leaves (D.state disk.old) (D.state disk.new) (IsOldOrFresh generation snapshot.now) }
-    ensures written { OnOk result ((c : List ℕ) → (D.state disk.new).may_leave c → IsFresh (generation + 1) snapshot.now c) }
-    ensures settled { OnOk result (IsSettled (D.state disk.new)) }
-    ensures counts { CountsCalls (checkpoint_calls was_open) result (D.state disk.old).counts (D.state disk.new).counts }
-    ensures rest { KeepsRest (D.state disk.old) (D.state disk.new) }
+    ensures { WritesSnapshot was_open generation snapshot.now result (D.state disk.old) (D.state disk.new) }
 {
     if was_open {
         write_through(disk, 0, &[CLOSED])?;
         stage_and_open(disk, generation, snapshot)?;
         return Ok(());
     }
-    stage_and_open(disk, generation, snapshot)?;
-    Ok(())
+    stage_and_open(disk, generation, snapshot)
 }
 
 // Writes three rows of bytes, one behind the other from an offset on, and makes them stable.
@@ -46,12 +40,7 @@ fn write_three<D: Disk>(
 ) -> Result<(), Failed>
     requires fits { at + length one.now + length two.now + length three.now ≤ (D.state disk.old).size }
     requires small { at < 2 ^ 32 }
-    ensures written { OnOk result ((c : List ℕ) → (D.state disk.new).may_leave c → (p : List ℕ) × (D.state disk.old).may_leave p
-        × (c ≡ put at (one.now ++ (two.now ++ three.now)) p)) }
-    ensures settled { OnOk result (IsSettled (D.state disk.new)) }
-    ensures images { Leaves (D.state disk.old) (D.state disk.new) (Pending at (length (one.now ++ (two.now ++ three.now))) (D.state disk.old).may_leave) }
-    ensures counts { CountsCalls 4 result (D.state disk.old).counts (D.state disk.new).counts }
-    ensures rest { KeepsRest (D.state disk.old) (D.state disk.new) }
+    ensures { WritesThrough 4 at (one.now ++ (two.now ++ three.now)) result (D.state disk.old) (D.state disk.new) }
 {
     let _size = disk.size();
     disk.write_at(at, one)?;
@@ -74,30 +63,19 @@ fn head_bytes(generation: u32, length: u32) -> [u8; 8]
 
 // Writes what stands behind a closed switch: generation, length, snapshot, and a closed gate.
 fn stage<D: Disk>(disk: &mut D, generation: u32, snapshot: &[u8]) -> Result<(), Failed>
-    requires fits { length snapshot.now + 10 ≤ (D.state disk.old).size }
-    ensures written { OnOk result ((c : List ℕ) → (D.state disk.new).may_leave c → (p : List ℕ) × (D.state disk.old).may_leave p
-        × (c ≡ put 1 (checkpoint_bytes generation snapshot.now) p)) }
-    ensures settled { OnOk result (IsSettled (D.state disk.new)) }
-    ensures images { Leaves (D.state disk.old) (D.state disk.new) (Pending 1 (length (checkpoint_bytes generation snapshot.now)) (D.state disk.old).may_leave) }
-    ensures counts { CountsCalls 4 result (D.state disk.old).counts (D.state disk.new).counts }
-    ensures rest { KeepsRest (D.state disk.old) (D.state disk.new) }
+    requires fits { length snapshot.now + AROUND ≤ (D.state disk.old).size }
+    ensures { WritesThrough 4 1 (checkpoint_bytes generation snapshot.now) result (D.state disk.old) (D.state disk.new) }
 {
     let _size = disk.size();
     let head = head_bytes(generation, snapshot.len() as u32);
-    write_three(disk, 1, &head, snapshot, &[CLOSED])?;
-    Ok(())
+    write_three(disk, 1, &head, snapshot, &[CLOSED])
 }
 
 // Writes a snapshot behind a closed switch, and opens it.
 fn stage_and_open<D: Disk>(disk: &mut D, generation: u32, snapshot: &[u8]) -> Result<(), Failed>
-    requires fits { length snapshot.now + 10 ≤ (D.state disk.old).size }
+    requires fits { length snapshot.now + AROUND ≤ (D.state disk.old).size }
     requires small { generation < 2 ^ 32 - 1 }
-    ensures any_moment { ((c : List ℕ) → (D.state disk.old).may_leave c → IsOtherHead generation false (head_of c)) →
-        Leaves (D.state disk.old) (D.state disk.new) (IsOldOrFresh generation snapshot.now) }
-    ensures written { OnOk result ((c : List ℕ) → (D.state disk.new).may_leave c → IsFresh (generation + 1) snapshot.now c) }
-    ensures settled { OnOk result (IsSettled (D.state disk.new)) }
-    ensures counts { CountsCalls 6 result (D.state disk.old).counts (D.state disk.new).counts }
-    ensures rest { KeepsRest (D.state disk.old) (D.state disk.new) }
+    ensures { WritesSnapshot false generation snapshot.now result (D.state disk.old) (D.state disk.new) }
 {
     let _size = disk.size();
     stage(disk, generation + 1, snapshot)?;

@@ -1,7 +1,7 @@
 //! The table of global locks.
 ghost use Rattle.std.specs.Prelude.{◌≡◌, ◌+◌, ◌*◌, IfOk, IfErr, OnOk, None, length, []};
 ghost use Rattle.lock_table.specs.Locks.{HaveOneHolder, locks, holder, first_held, with_rows, without_leg, without_xid, TakesAtMost};
-ghost use Rattle.lock_table.specs.Answers.{TakesRows};
+ghost use Rattle.lock_table.specs.Answers.{FindsConflict, TakesRows};
 
 use crate::errors::HoldError;
 use crate::steps::Steps;
@@ -54,9 +54,24 @@ impl LockTable {
         ensures rows { TakesRows self.old leg hold.now check.now self.new result }
         ensures cost { TakesAtMost (2 * length hold.now + length check.now) (length (locks self.old) + length hold.now) steps.old steps.new }
     {
-        holding::conflict(alloc, &self.rows, leg.xid, hold, steps)?;
-        holding::conflict(alloc, &self.rows, leg.xid, check, steps)?;
+        self.conflict(alloc, leg.xid, hold, steps)?;
+        self.conflict(alloc, leg.xid, check, steps)?;
         self.take(alloc, leg, hold, steps)
+    }
+
+    /// Whether another transaction holds one of these rows, and the first one, as an error. A step is a comparison of two
+    /// keys.
+    pub fn conflict<L: Ledger>(
+        &self,
+        alloc: Global,
+        xid: Xid,
+        keys: &[RowKey],
+        steps: &mut Steps<L>,
+    ) -> Result<(), HoldError>
+        ensures found { FindsConflict (locks self.now) xid keys.now result }
+        ensures cost { TakesAtMost (length keys.now) (length (locks self.now)) steps.old steps.new }
+    {
+        holding::conflict(alloc, &self.rows, xid, keys, steps)
     }
 
     // Takes rows that no other transaction holds.

@@ -3,7 +3,9 @@ use Rattle.std.proofs.Common.{◌≡◌, ℕ, ◌+◌, ◌*◌, ◌^◌, ◌<◌
 use Rattle.std.specs.Prelude.{if◌then◌else◌, min, ◌-◌, All, IfOk}
 use Rattle.memory_store.specs.declared.errors.ReadError.{ReadError}
 use Rattle.std.proofs.lemmas.Bool.Decides.{nat_tests}
+use Rattle.disk_journal.specs.declared.layout.TheConstants.{RECORD_HEAD_BYTES}
 use Rattle.disk_journal.specs.Reading.{record_length, row_length}
+use Rattle.journal_checkpoint.specs.declared.layout.TheConstants.{SNAPSHOT_HEAD_BYTES}
 use Rattle.journal_checkpoint.specs.declared.types.Found.{Found}
 use Rattle.journal_checkpoint.specs.Images.{with_record}
 use Rattle.seata_types.specs.declared.limits.TheConstants.{ACTS}
@@ -99,7 +101,7 @@ module _ {K I : Type 0} (m : Meaning K I) (start : K) (from : ℕ) (all : List (
 
   module _ (known : K) (at : ℕ) (body : List ℕ) (rest : List (List ℕ)) (over : GoesOver m start from all known at (body ∷ rest)) where
     pub next_record : (next : K) (behind : ℕ) → ((place : ℕ) → after_one m known place (m.record_of body) ≡ Ok next)
-        → behind ≡ min (min (at + 5) (2 ^ 64 - 1) + length body) (2 ^ 64 - 1) → GoesOver m start from all next behind rest
+        → behind ≡ min (min (at + RECORD_HEAD_BYTES) (2 ^ 64 - 1) + length body) (2 ^ 64 - 1) → GoesOver m start from all next behind rest
     next_record next behind one place small =
         let was = over small in
         let ends : behind ≡ at + record_length body = omega (arith, was.0) in (
@@ -127,12 +129,12 @@ nothing_there second None [] none empty = refl
 nothing_there second None (body ∷ bodies) none empty = absurd (omega arith)
 nothing_there second (Some s) records none empty = absurd (cc)
 
-pub record_there : (second : Bool) (snapshot : Option (List ℕ)) (records : List (List ℕ)) → snapshot ≡ None → 0 < length records → place_of second snapshot records ≡ Some (second, 9)
+pub record_there : (second : Bool) (snapshot : Option (List ℕ)) (records : List (List ℕ)) → snapshot ≡ None → 0 < length records → place_of second snapshot records ≡ Some (second, SNAPSHOT_HEAD_BYTES)
 record_there second None [] none some = absurd (omega arith)
 record_there second None (body ∷ bodies) none some = refl
 record_there second (Some s) records none some = refl
 
-pub snapshot_there : (second : Bool) (snapshot : Option (List ℕ)) (s : List ℕ) (records : List (List ℕ)) → snapshot ≡ Some s → place_of second snapshot records ≡ Some (second, 9)
+pub snapshot_there : (second : Bool) (snapshot : Option (List ℕ)) (s : List ℕ) (records : List (List ℕ)) → snapshot ≡ Some s → place_of second snapshot records ≡ Some (second, SNAPSHOT_HEAD_BYTES)
 snapshot_there second None s records is = absurd (cc)
 snapshot_there second (Some t) s [] is = refl
 snapshot_there second (Some t) s (body ∷ bodies) is = refl

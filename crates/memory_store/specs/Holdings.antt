@@ -1,9 +1,10 @@
 -- What the bytes of two disks hold, by the rules of a memory: a snapshot's memory, or that of no records, and then each record
--- past it. The first record that is none, or may not come, is the damage; a snapshot stands at offset 9.
+-- past it. The first record that is none, or may not come, is the damage; a snapshot stands behind its head.
 use Rattle.std.specs.Prelude.{ℕ, ◌+◌, ◌^◌, nat_lt, ◌&&◌, if◌then◌else◌, Bool, false, Option, Some, None, option_map, List, [], ◌∷◌, length, Result, Ok, Err}
 use Rattle.seata_types.specs.declared.errors.OpenError.{OpenError}
 use Rattle.seata_types.specs.declared.errors.OpenError.TheVariants as open_error
 use Rattle.disk_journal.specs.Reading.{record_length}
+use Rattle.journal_checkpoint.specs.declared.layout.TheConstants.{SNAPSHOT_HEAD_BYTES}
 use Rattle.journal_checkpoint.specs.declared.types.Active.{Active}
 use Rattle.journal_checkpoint.specs.declared.types.Found.{Found}
 use Rattle.journal_checkpoint.specs.declared.types.TwinError.{TwinError}
@@ -43,7 +44,7 @@ abbrev pub records_at : Option (List ℕ) → ℕ
 records_at snapshot = begins_at (option_map length snapshot)
 
 abbrev pub from_start : {K I : Type 0} → Meaning K I → ℕ → List (List ℕ) → Option K → Result K ℕ
-from_start m at bodies None = Err 9
+from_start m at bodies None = Err SNAPSHOT_HEAD_BYTES
 from_start m at bodies (Some known) = replayed m known at bodies
 
 -- the memory that a snapshot and records make, or the offset of the damage
@@ -81,8 +82,8 @@ memory_on m a b = of_pair m (second_in a b) (pair_reading a b)
 
 abbrev pub place_of : Bool → Option (List ℕ) → List (List ℕ) → Option (Bool × ℕ)
 place_of second None [] = None
-place_of second None (body ∷ bodies) = Some (second, 9)
-place_of second (Some snapshot) bodies = Some (second, 9)
+place_of second None (body ∷ bodies) = Some (second, SNAPSHOT_HEAD_BYTES)
+place_of second (Some snapshot) bodies = Some (second, SNAPSHOT_HEAD_BYTES)
 
 -- the first record that was read, if there was one: whether it stands on the second disk, and its offset, which is that of a
 -- snapshot too

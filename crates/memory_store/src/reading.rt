@@ -7,15 +7,10 @@ ghost use Rattle.memory_store.specs.Replays.{TakesIn, Replays, Finds, IsReadingE
 
 use crate::errors::ReadError;
 use crate::machine::StateMachine;
-use journal_checkpoint::{Found, TwinError};
+use disk_journal::RECORD_HEAD_BYTES;
+use journal_checkpoint::{Found, SNAPSHOT_HEAD_BYTES, TwinError};
 use seata_types::{List, NoMemory, OpenError};
 use std::alloc::Global;
-
-// Of a snapshot on its disk, in bytes.
-const SNAPSHOT: u64 = 9;
-
-// A record's gate and length, in bytes.
-const BEFORE_BODY: u64 = 5;
 
 /// The error of two disks, as a store's.
 pub fn store_error(error: TwinError) -> OpenError
@@ -33,12 +28,12 @@ pub fn first_place(second: bool, found: &Found) -> Option<(bool, u64)>
     ensures { result ≡ first_place second found.now }
 {
     match &found.snapshot {
-        Some(_) => Some((second, SNAPSHOT)),
+        Some(_) => Some((second, SNAPSHOT_HEAD_BYTES)),
         None => {
             if found.records.as_slice().is_empty() {
                 None
             } else {
-                Some((second, SNAPSHOT))
+                Some((second, SNAPSHOT_HEAD_BYTES))
             }
         }
     }
@@ -89,7 +84,7 @@ fn replay<M: StateMachine>(
             Err(ReadError::NoMemory) => return Err(OpenError::NoMemory),
         }
         at = at
-            .saturating_add(BEFORE_BODY)
+            .saturating_add(RECORD_HEAD_BYTES)
             .saturating_add(body.len() as u64);
     }
     Ok(())
@@ -126,8 +121,8 @@ fn records_at(snapshot: &Option<List<u8>>) -> u64
     ensures { records_at snapshot.now < 2 ^ 64 → result ≡ records_at snapshot.now }
 {
     match snapshot {
-        Some(bytes) => SNAPSHOT.saturating_add(bytes.as_slice().len() as u64),
-        None => SNAPSHOT,
+        Some(bytes) => SNAPSHOT_HEAD_BYTES.saturating_add(bytes.as_slice().len() as u64),
+        None => SNAPSHOT_HEAD_BYTES,
     }
 }
 
@@ -147,7 +142,7 @@ pub fn read_found<M: StateMachine>(
         Ok(memory) => memory,
         Err(ReadError::Damaged) => return Err(OpenError::Damaged {
             second,
-            at: SNAPSHOT,
+            at: SNAPSHOT_HEAD_BYTES,
         }),
         Err(ReadError::NoMemory) => return Err(OpenError::NoMemory),
     };

@@ -11,6 +11,8 @@ use Rattle.session_log.specs.declared.sessions.Session.{Session}
 use Rattle.session_log.specs.declared.sessions.SessionEntry.{SessionEntry}
 use Rattle.session_log.specs.declared.sessions.Forgotten.{Forgotten}
 use Rattle.session_log.specs.declared.sessions.Snapshot.{Snapshot}
+use Rattle.session_memory.specs.declared.sought.Sought.{Sought}
+use Rattle.session_memory.specs.declared.sought.Sought.TheVariants as sought
 
 -- ---- transactions
 
@@ -91,6 +93,11 @@ has_ticket resource ticket b = is_at b.place.kind && ((b.place.resource == resou
 -- a TCC branch of a call at a resource
 abbrev pub has_call : (resource call : ℕ) → Branch → Bool
 has_call resource call b = not (is_at b.place.kind) && ((b.place.resource == resource) && (b.place.call == call))
+
+-- a branch that is looked for
+abbrev pub is_sought : Sought → Branch → Bool
+is_sought (sought.Ticket resource ticket) = has_ticket resource ticket
+is_sought (sought.Call resource call) = has_call resource call
 
 -- the AT branch that was registered for a resource's ticket
 abbrev pub ticket_leg : Snapshot → (resource : ℕ) → Ticket → Option Leg

@@ -1,13 +1,11 @@
 //! The table of locks beside the transactions.
-ghost use Rattle.std.specs.Prelude.{◌≡◌, length, is_none};
-ghost use Rattle.lock_table.specs.Locks.{first_held, locks as all_locks, TakesAtMost};
-ghost use Rattle.lock_table.specs.Answers.{FindsConflict, IsHeld};
+ghost use Rattle.std.specs.Prelude.{◌≡◌, is_none};
+ghost use Rattle.lock_table.specs.Locks.{first_held};
 ghost use Rattle.session_memory.specs.Changes.{locks_after};
 
 use durable_records::SessionRecord;
-use lock_table::{HoldError, LockTable, Steps};
-use seata_types::{Decision, Duplicate, Leg, RowKey, Xid};
-use std::alloc::Global;
+use lock_table::{LockTable, Steps};
+use seata_types::{Decision, Leg, RowKey, Xid};
 use std::sync::ledger::Ledger;
 
 /// Whether no other transaction holds one of these rows.
@@ -27,36 +25,6 @@ pub(crate) fn are_free<L: Ledger>(
         }
     }
     true
-}
-
-fn held(alloc: Global, key: &RowKey, by: Xid) -> HoldError
-    ensures { IsHeld key.now by result }
-{
-    match key.copy(alloc) {
-        Ok(key) => HoldError::Held { key, by },
-        Err(_) => HoldError::NoMemory,
-    }
-}
-
-/// The first of these rows that another transaction holds, as an error.
-pub(crate) fn conflict<L: Ledger>(
-    alloc: Global,
-    locks: &LockTable,
-    xid: Xid,
-    rows: &[RowKey],
-    steps: &mut Steps<L>,
-) -> Result<(), HoldError>
-    ensures found { FindsConflict (all_locks locks.now) xid rows.now result }
-    ensures cost { TakesAtMost (length rows.now) (length (all_locks locks.now)) steps.old steps.new }
-{
-    for key in rows {
-        if let Some(by) = locks.holder(key, steps) {
-            if by.0 != xid.0 {
-                return Err(held(alloc, key, by));
-            }
-        }
-    }
-    Ok(())
 }
 
 /// Gives back the rows that a record frees: all of a transaction that is decided commit, and those of an ended branch.

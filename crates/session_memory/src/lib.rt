@@ -11,6 +11,7 @@ mod memory;
 mod owners;
 mod sessions;
 mod snapshots;
+mod sought;
 pub mod statuses;
 pub mod uncounted;
 

@@ -3,10 +3,11 @@ ghost use Rattle.std.specs.Prelude.{◌≡◌, ◌≤◌, ◌+◌, ◌&&◌, fin
 ghost use Rattle.std.specs.List.{list_all, list_any, position};
 ghost use Rattle.std.specs.Option.{option_copied};
 ghost use Rattle.session_log.specs.Soundness.{entry_xid, is_at_branch, is_ended_branch, is_open_with};
-ghost use Rattle.session_memory.specs.Lookups.{has_xid, session_of, has_manager, was_of_manager, xid_of, forgotten_xid, has_ticket, has_call, leg_with};
+ghost use Rattle.session_memory.specs.Lookups.{has_xid, session_of, has_manager, was_of_manager, xid_of, forgotten_xid, has_ticket, has_call, is_sought, leg_with};
 ghost use Rattle.session_memory.specs.Order.{AreRising};
 ghost use Rattle.durable_records.specs.Branches.{is_at, same_ticket};
 
+use crate::sought::Sought;
 use lock_table::Steps;
 use seata_types::{BranchId, BranchKind, Leg, List, NoMemory, Ticket, Xid};
 use session_log::{Branch, Forgotten, Session, SessionEntry};
@@ -83,43 +84,28 @@ fn has_call(branch: &Branch, resource: u16, call: u16) -> bool
     !is_at(branch) && branch.place.resource == resource && branch.place.call == call
 }
 
-/// The AT branch of a resource's ticket. A step is a branch that is passed.
-pub(crate) fn ticket_leg<L: Ledger>(
-    xid: Xid,
-    branches: &[Branch],
-    resource: u16,
-    ticket: Ticket,
-    steps: &mut Steps<L>,
-) -> Option<Leg>
-    ensures leg { result ≡ leg_with (has_ticket resource ticket) xid branches.now }
-    ensures cost { steps.new ≤ steps.old + length branches.now }
+fn is_sought(branch: &Branch, sought: Sought) -> bool
+    ensures { result ≡ is_sought sought branch.now }
 {
-    for branch in branches {
-        steps.tick();
-        if has_ticket(branch, resource, ticket) {
-            return Some(Leg {
-                xid,
-                branch: branch.id,
-            });
-        }
+    match sought {
+        Sought::Ticket { resource, ticket } => has_ticket(branch, resource, ticket),
+        Sought::Call { resource, call } => has_call(branch, resource, call),
     }
-    None
 }
 
-/// The TCC branch of a call at a resource. A step is a branch that is passed.
-pub(crate) fn call_leg<L: Ledger>(
+/// The first branch that is looked for. A step is a branch that is passed.
+pub(crate) fn leg<L: Ledger>(
     xid: Xid,
     branches: &[Branch],
-    resource: u16,
-    call: u16,
+    sought: Sought,
     steps: &mut Steps<L>,
 ) -> Option<Leg>
-    ensures leg { result ≡ leg_with (has_call resource call) xid branches.now }
+    ensures leg { result ≡ leg_with (is_sought sought) xid branches.now }
     ensures cost { steps.new ≤ steps.old + length branches.now }
 {
     for branch in branches {
         steps.tick();
-        if has_call(branch, resource, call) {
+        if is_sought(branch, sought) {
             return Some(Leg {
                 xid,
                 branch: branch.id,

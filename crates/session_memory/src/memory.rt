@@ -6,7 +6,7 @@ ghost use Rattle.lock_table.specs.Locks.{locks, TakesAtMost};
 ghost use Rattle.lock_table.specs.Answers.{FindsConflict};
 ghost use Rattle.session_log.specs.SnapshotOf.{snapshot_of};
 ghost use Rattle.session_log.specs.Soundness.{all_differ, same_ticket_key, tickets};
-ghost use Rattle.session_memory.specs.Lookups.{session_in, status_in, xid_for, ticket_leg, call_leg, branches_in, leg_with, has_ticket, xid_of};
+ghost use Rattle.session_memory.specs.Lookups.{session_in, status_in, xid_for, ticket_leg, call_leg, branches_in, leg_with, is_sought, xid_of};
 ghost use Rattle.session_memory.specs.Holding.{held_in};
 ghost use Rattle.session_memory.specs.Changes.{is_begin, is_new, is_open, may_come, after, granted_record, turns, MayTake, TakesIn};
 ghost use Rattle.session_memory.specs.Order.{IsCounted};
@@ -16,6 +16,7 @@ ghost use Rattle.session_memory.specs.Owners.{most_branches};
 
 use crate::errors::LoadError;
 use crate::owners::TicketOwners;
+use crate::sought::Sought;
 use crate::{allowing, loading, lookups, sessions, snapshots, statuses};
 use durable_records::SessionRecord;
 use lock_table::{HoldError, LockTable, Steps};
@@ -147,27 +148,19 @@ impl Memory {
         ensures cost { steps.new ≤ steps.old + 1 + most_branches self.now.sessions }
     {
         match self.owners.find(resource, ticket) {
-            Some(xid) => self.ticket_leg_in(xid, resource, ticket, steps),
+            Some(xid) => self.leg_in(xid, Sought::Ticket { resource, ticket }, steps),
             None => None,
         }
     }
 
-    // The AT branch of a transaction that was registered for a ticket.
-    fn ticket_leg_in<L: Ledger>(
-        &self,
-        xid: Xid,
-        resource: u16,
-        ticket: Ticket,
-        steps: &mut Steps<L>,
-    ) -> Option<Leg>
-        ensures leg { result ≡ leg_with (has_ticket resource ticket) xid (branches_in self.now xid.0) }
+    // The branch of a transaction that is looked for.
+    fn leg_in<L: Ledger>(&self, xid: Xid, sought: Sought, steps: &mut Steps<L>) -> Option<Leg>
+        ensures leg { result ≡ leg_with (is_sought sought) xid (branches_in self.now xid.0) }
         ensures cost { steps.new ≤ steps.old + 1 + length (branches_in self.now xid.0) }
     {
         steps.tick();
         match self.find(xid) {
-            Some(session) => {
-                lookups::ticket_leg(xid, session.branches.as_slice(), resource, ticket, steps)
-            }
+            Some(session) => lookups::leg(xid, session.branches.as_slice(), sought, steps),
             None => None,
         }
     }
@@ -184,13 +177,7 @@ impl Memory {
         ensures leg { result ≡ call_leg self.now xid resource call }
         ensures cost { steps.new ≤ steps.old + 1 + length (branches_in self.now xid.0) }
     {
-        steps.tick();
-        match self.find(xid) {
-            Some(session) => {
-                lookups::call_leg(xid, session.branches.as_slice(), resource, call, steps)
-            }
-            None => None,
-        }
+        self.leg_in(xid, Sought::Call { resource, call }, steps)
     }
 
     /// Whether another transaction holds one of these rows, and the first one, as an error. A step is a comparison of two
@@ -205,7 +192,7 @@ impl Memory {
         ensures found { FindsConflict (locks (held_in self.now)) xid rows.now result }
         ensures cost { TakesAtMost (length rows.now) (length (locks (held_in self.now))) steps.old steps.new }
     {
-        allowing::conflict(alloc, &self.locks, xid, rows, steps)
+        self.locks.conflict(alloc, xid, rows, steps)
     }
 
     /// The numbers of the transactions that are known, in rising order.

@@ -7,13 +7,13 @@ use Rattle.session_memory.proofs.memory.Memory.ticket_leg.Goals as goal
 
 pub returns-in-Some-clause-leg : goal.returns-in-Some-clause-leg
 returns-in-Some-clause-leg g c =
-    c.ticket_leg_in.ensures.leg
+    c.leg_in.ensures.leg
     ∙ sym (leg_owned c.self.inside.owners c.args.resource c.args.ticket c.in-Some.xid (sym c.find.ensures ∙ c.in-Some.is) c.args.self.now
     (owned_as c.self.inside.owners c.self.inside.snapshot c.args.self.now (sym c.self.view_is) c.self.invariant.1)
     (subst (λ (s : Snapshot). AreRising entry_xid s.sessions) c.self.view_is c.self.invariant.0.counted.rising))
 
 pub returns-in-Some-clause-cost : goal.returns-in-Some-clause-cost
-returns-in-Some-clause-cost g c = let few = few_branches c.args.self.now c.in-Some.xid.0 in omega (arith, few, c.ticket_leg_in.ensures.cost)
+returns-in-Some-clause-cost g c = let few = few_branches c.args.self.now c.in-Some.xid.0 in omega (arith, few, c.leg_in.ensures.cost)
 
 pub returns-in-None-clause-leg : goal.returns-in-None-clause-leg
 returns-in-None-clause-leg g c =
