@@ -20,7 +20,7 @@ pub trait Item: Sized + Drop {
 
     ghost follows: { Self → Self → Bool };
 
-    /// Takes the item that stands at the place; after an error the place is anywhere behind it.
+    /// Takes the item that stands at the place; after an error the place is anywhere.
     fn take(alloc: Global, keys: KeyLayout, fields: &mut Fields) -> Result<Self, FieldError>
         ensures { Reads (item keys) fields.old fields.new result };
 
@@ -75,7 +75,7 @@ fn items<T: Item>(
 }
 
 /// Takes two bytes of count, and as many items; one that may not come after the one before it is `BadTag` at its place.
-/// After an error the place is anywhere behind the count.
+/// After an error the place is anywhere.
 #[tactic(auto, unfolding(crate::specs::Reading::list_at))]
 pub fn take_list<T: Item>(
     alloc: Global,

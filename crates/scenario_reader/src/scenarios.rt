@@ -7,7 +7,7 @@ use seata_types::{Ending, List, Place, Row, Stmt, Text, Work};
 /// A local has the number of its resource and its statements. A stop arms the active disk of a node
 /// with a count of calls and has the pick of the restart after it. `base` is the text under which the
 /// scenario is kept: its compact JSON with an empty schedule and without stops, which reads as this
-/// scenario with these two empty.
+/// scenario with these two empty where it is no longer than what may be read.
 #[derive(Drop)]
 pub struct Scenario {
     pub timeout: u64,

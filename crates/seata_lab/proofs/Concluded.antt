@@ -86,6 +86,7 @@ pub record WritesFront (IsAnswer : List ℕ → List ℕ → ℕ → Type 0) (in
   pub status : ℕ
   pub is_answer : IsAnswer input text status
   pub printed : GainsFront old.written new.written text
+  pub read : new.left ≡ Some (unread input)
 
 -- what the status says: those of `texts` come with a text
 pub record Concludes (IsAnswer : List ℕ → List ℕ → ℕ → Type 0) (texts : List ℕ) (result : ℕ) (old new : Devices) : Type 0 where
@@ -181,7 +182,7 @@ module _ (IsAnswer : List ℕ → List ℕ → ℕ → Type 0) (texts : List ℕ
     written = λ known input told.
         let w = whole (λ five. never_among texts result 5 five are.not_five known) in
         record { text = text; is_answer = rw w.0 (answer.is_answer input told); printed = w.1; read = answer.read input told };
-    front = λ five input told. record { text = text; status = status; is_answer = answer.is_answer input told; printed = (front five not_five).1 };
+    front = λ five input told. record { text = text; status = status; is_answer = answer.is_answer input told; printed = (front five not_five).1; read = answer.read input told };
   }
 
 -- there was no text to write

@@ -4,7 +4,7 @@ use Rattle.std.proofs.lemmas.Bool.Decides.{nat_tests}
 use Rattle.std.specs.Io.KnownBytes.{Appends}
 use Rattle.seata_types.specs.declared.limits.TheConstants.{INPUT_BYTES}
 use Rattle.seata_lab.specs.FrameLines.{frames_text}
-use Rattle.seata_lab.specs.Answers.{IsFramesAnswer, ListsFrames, IsOver, TellsFrames, is_among, is_short, over_text, frames_answer, frames_status, frames_statuses}
+use Rattle.seata_lab.specs.Answers.{IsFramesAnswer, ListsFrames, IsOver, TellsFrames, is_among, is_short, over_text, frames_answer, frames_status, frames_statuses, unread}
 use Rattle.seata_lab.specs.Streams.{Devices, GainsFront, IsCalm}
 use Rattle.seata_lab.proofs.Concluded.{none_unread, AreTexts, Writes, Concludes, calm}
 
@@ -69,10 +69,10 @@ module _ (result : ℕ) (old new : Devices) (t : Concludes IsFramesAnswer frames
       by (inl h) = absurd (omega (arith, three, w.is_answer.status_is, h.status))
       by (inr h) = record { read_to_end = w.read; long = h.long; printed = subst (λ x. Appends old.written new.written x) (w.is_answer.text_is ∙ h.text) w.printed }
 
-  cut_says : result ≡ 5 → (input : List ℕ) → old.left ≡ Some input → GainsFront old.written new.written (frames_answer input)
+  cut_says : result ≡ 5 → (input : List ℕ) → old.left ≡ Some input → (new.left ≡ Some (unread input)) × GainsFront old.written new.written (frames_answer input)
   cut_says five input told =
       let w = t.front five input told in
-      subst (λ x. GainsFront old.written new.written x) w.is_answer.text_is w.printed
+      (w.read, subst (λ x. GainsFront old.written new.written x) w.is_answer.text_is w.printed)
 
   complete_says : (input : List ℕ) → old.left ≡ Some input → IsCalm old new → (result ≡ frames_status input) ⊎ (result ≡ 6)
   complete_says input told still = by (calm IsFramesAnswer frames_statuses result old new t still)

@@ -111,6 +111,7 @@ module _ (ends : Ending) where
       cut_short = λ five input told.
           let w = t.front five input told in
           record {
+            read_to_end = w.read;
             text = w.text;
             status = w.status;
             is_answer = w.is_answer;

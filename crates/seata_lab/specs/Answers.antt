@@ -170,8 +170,10 @@ pub record Refuses (input : List ℕ) (old new : Devices) : Type 0 where
   pub is_refusal : IsFaultOf input text
   pub printed : Appends old.written new.written text
 
--- at status 5: the sink got the front of the text that another status would have; where that is 0, all holds that is said of a text at 0
+-- at status 5: the source was read as far as inputs are, and the sink got the front of the text that another status would have; where that
+-- is 0, all holds that is said of a text at 0
 pub record CutsShort (ends : Ending) (IsDone : Scenario → List ℕ → Type 0) (input : List ℕ) (old new : Devices) : Type 0 where
+  pub read_to_end : new.left ≡ Some (unread input)
   pub text : List ℕ
   pub status : ℕ
   pub is_answer : IsAnswerTo ends input text status
@@ -268,7 +270,7 @@ pub record IsOver (input : List ℕ) (old new : Devices) : Type 0 where
 pub record TellsFrames (status : ℕ) (old new : Devices) : Type 0 where
   pub listed : status ≡ 0 → (input : List ℕ) → old.left ≡ Some input → ListsFrames input old new
   pub over : status ≡ 3 → (input : List ℕ) → old.left ≡ Some input → IsOver input old new
-  pub cut_short : status ≡ 5 → (input : List ℕ) → old.left ≡ Some input → GainsFront old.written new.written (frames_answer input)
+  pub cut_short : status ≡ 5 → (input : List ℕ) → old.left ≡ Some input → (new.left ≡ Some (unread input)) × GainsFront old.written new.written (frames_answer input)
   pub complete : (input : List ℕ) → old.left ≡ Some input → IsCalm old new → (status ≡ frames_status input) ⊎ (status ≡ 6)
 
 -- ---- all words

@@ -57,6 +57,7 @@ impl Source for MemSource {
     ghost use Rattle.std.specs.Prelude.{◌≡◌, ◌<◌, ◌≤◌, min, take, length, is_err, IfOk, OnErr};
     ghost use Rattle.disk_model.specs.Disk.{Rose};
     ghost use Rattle.std.specs.Io.KnownBytes.{Consumes, Keeps, IsAtEnd};
+    ghost use Rattle.seata_lab.specs.Streams.{count_after};
     ghost use Rattle.seata_lab.specs.MemStreams.{bytes_left, left_of, source_faults, source_step, source_fails, source_calls, next_call, fails_next};
 
     ghost left = { bytes_left };
@@ -70,6 +71,8 @@ impl Source for MemSource {
         ensures failed { OnErr result (Keeps (bytes_left self.old) (bytes_left self.new)) }
         ensures err { OnErr result (Rose (source_faults self.old) (source_faults self.new)) }
         ensures counted { source_faults self.old ≤ source_faults self.new }
+        // Each error is counted, and nothing else.
+        ensures count { source_faults self.new ≡ count_after (is_err result) (source_faults self.old) }
         // It fails at the calls that it was given, and else reads as much as it can, up to its step.
         ensures fails { is_err result ≡ fails_next (source_fails self.old) (source_calls self.old) }
         ensures most { IfOk result (λ n. n ≡ min (min (length into.old) (length (left_of self.old))) (source_step self.old)) }
@@ -117,7 +120,7 @@ impl MemSink {
         MemSink::with_step(alloc, room, usize::MAX, failing)
     }
 
-    /// The same, where each call takes at most so many bytes; with 0 it takes nothing, which is a fault at each call.
+    /// The same, where each call takes at most so many bytes; with 0 it takes nothing, which is a fault at each call with some bytes.
     pub fn with_step(
         alloc: Global,
         room: usize,
@@ -154,6 +157,7 @@ impl Sink for MemSink {
     ghost use Rattle.std.specs.Prelude.{◌≡◌, ◌<◌, ◌≤◌, ◌+◌, min, take, length, is_err, IfOk, OnErr};
     ghost use Rattle.disk_model.specs.Disk.{Rose};
     ghost use Rattle.std.specs.Io.KnownBytes.{Appends, Keeps};
+    ghost use Rattle.seata_lab.specs.Streams.{count_after, is_failed_write};
     ghost use Rattle.seata_lab.specs.MemStreams.{bytes_written, sink_faults, room_left, sink_step, sink_fails, sink_calls, next_call, fails_next};
 
     ghost written = { bytes_written };
@@ -167,11 +171,14 @@ impl Sink for MemSink {
         ensures failed { OnErr result (Keeps (bytes_written self.old) (bytes_written self.new)) }
         ensures err { OnErr result (Rose (sink_faults self.old) (sink_faults self.new)) }
         ensures counted { sink_faults self.old ≤ sink_faults self.new }
+        // Each error, and each write that takes none of some bytes, is counted, and nothing else.
+        ensures count { sink_faults self.new ≡ count_after (is_failed_write bytes.now result) (sink_faults self.old) }
         // It fails at the calls that it was given, and else writes as much as there is room for, up to its step.
         ensures fails { is_err result ≡ fails_next (sink_fails self.old) (sink_calls self.old) }
         ensures most { IfOk result (λ n. n ≡ min (min (length bytes.now) (room_left self.old)) (sink_step self.old)) }
         ensures step { sink_step self.new ≡ sink_step self.old }
         ensures room { IfOk result (λ n. room_left self.new + n ≡ room_left self.old) }
+        ensures kept { OnErr result (room_left self.new ≡ room_left self.old) }
         ensures same { sink_fails self.new ≡ sink_fails self.old }
         ensures calls { sink_calls self.new ≡ next_call (sink_calls self.old) }
     {
@@ -181,9 +188,8 @@ impl Sink for MemSink {
             return Err(Failed);
         }
         let count = bytes.len().min(self.bytes.len() - self.at).min(self.step);
-        if count == 0 {
+        if count == 0 && !bytes.is_empty() {
             self.faults = self.faults.saturating_add(1);
-            return Ok(0);
         }
         self.bytes[self.at..self.at + count].copy_from_slice(&bytes[..count]);
         self.at += count;

@@ -4,7 +4,7 @@ ghost use Rattle.std.specs.Io.KnownBytes.{Appends};
 ghost use Rattle.disk_model.specs.Disk.{Rose};
 ghost use Rattle.scenario_nodes.specs.Shelves.{ReturnsAll, showing};
 ghost use Rattle.replay_runner.specs.Leaving.{Replays as Replayed};
-ghost use Rattle.seata_lab.specs.Answers.{Answers, IsAnswerTo, IsFramesAnswer, Replays, TellsShelf, TellsFrames, TellsUsage, TellsFaults, is_replay, is_frames, replay_statuses, frames_statuses, with_failures};
+ghost use Rattle.seata_lab.specs.Answers.{Answers, IsAnswerTo, IsFramesAnswer, Replays, TellsShelf, TellsFrames, TellsUsage, TellsFaults, is_among, is_replay, is_frames, replay_statuses, frames_statuses, with_failures};
 ghost use Rattle.seata_lab.specs.Once.{ReplaysOnce};
 ghost use Rattle.seata_lab.specs.Streams.{GainsFront, devices};
 
@@ -93,7 +93,8 @@ fn write_answer<K: Sink>(sink: &mut K, answer: Result<Answer, u8>) -> u8
 /// node's next record would pass the end of its disk, and 9 where a disk has bytes that are no journal. At each status the
 /// disks that were taken are given back: where the shelf tells of them, each name that has a place there had one before or has
 /// a disk that was given back to it, and a name that had such a disk still has one. Where a shelf had no place for any node
-/// before, its places say of how many nodes the disks were taken. Where nothing fails, the status of a scenario is 0, 6 or 8.
+/// before, its places say of how many nodes the disks were taken. Where nothing fails, and the shelf and its disks tell, the status of a
+/// scenario is 0, 6 or 8.
 pub fn replay_once<S: Source, K: Sink, H: Shelf>(
     alloc: Global,
     source: &mut S,
@@ -136,7 +137,7 @@ pub fn top<S: Source, K: Sink, H: Shelf>(
     shelf: &mut H,
 ) -> u8
     ensures words { result ≡ 2 → (is_replay words.now ≡ false) × (is_frames words.now ≡ false) }
-    ensures unread { result ≡ 2 → source.new ≡ source.old }
+    ensures unread { is_replay words.now ≡ false → is_frames words.now ≡ false → source.new ≡ source.old }
     ensures usage { is_replay words.now ≡ false → is_frames words.now ≡ false
         → TellsUsage result (devices S.left S.faults K.written K.faults source.old sink.old) (devices S.left S.faults K.written K.faults source.new sink.new) }
     ensures replay { is_replay words.now ≡ true → ReplaysOnce H.D.state
@@ -149,6 +150,7 @@ pub fn top<S: Source, K: Sink, H: Shelf>(
     ensures untouched { is_replay words.now ≡ false → shelf.new ≡ shelf.old }
     ensures frames { is_frames words.now ≡ true
         → TellsFrames result (devices S.left S.faults K.written K.faults source.old sink.old) (devices S.left S.faults K.written K.faults source.new sink.new) }
+    ensures listing { is_frames words.now ≡ true → is_among (with_failures frames_statuses) result ≡ true }
     ensures faults { TellsFaults (2 ∷ with_failures replay_statuses) result (devices S.left S.faults K.written K.faults source.old sink.old) (devices S.left S.faults K.written K.faults source.new sink.new) }
 {
     if words::are(words, "replay") {

@@ -72,7 +72,7 @@ impl Fence {
         self.entries.len()
     }
 
-    /// All branches that have a status, by transaction and branch.
+    /// All branches that have a status.
     pub fn list(&self, alloc: Global) -> Result<List<(Leg, FenceStatus)>, NoMemory>
         ensures { IfOk result (λ all. fences_of all ≡ self.now) }
     {
