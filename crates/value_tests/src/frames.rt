@@ -86,12 +86,24 @@ const BRANCH: BranchId = BranchId(3);
 
 const TICKET: Ticket = Ticket { boot: 1, seq: 2 };
 
+// Frames and opens a message under the stamp of its type code, which has to stand in the frame as its code too.
+fn typed(alloc: Global, message: Message, code: u16) -> Result<(), Fail>
+    requires { IsFramable message }
+{
+    let bytes = sent(alloc, message, code as u32)?;
+    let wanted = code.to_be_bytes();
+    match bytes.get(16..18) {
+        Some(found) if found == wanted.as_slice() => Ok(()),
+        _ => Err(Fail::from("another type code")),
+    }
+}
+
 // One message of each type code that holds no list and no answer.
 fn plain_messages(alloc: Global) -> Result<(), Fail> {
     let xid = Xid(7);
     let kind = BranchKind::Tcc;
     let (manager, call, stmt) = (1, 2, 0);
-    sent(alloc, Message::Begun { xid }, 2)?;
+    typed(alloc, Message::Begun { xid }, 2)?;
     let commit = Message::BranchCommit {
         xid,
         branch: BRANCH,
@@ -99,14 +111,14 @@ fn plain_messages(alloc: Global) -> Result<(), Fail> {
         manager,
         call,
     };
-    sent(alloc, commit, 3)?;
+    typed(alloc, commit, 3)?;
     let committed = Message::BranchCommitted {
         xid,
         branch: BRANCH,
         status: BranchStatus::PhaseTwoCommitted,
         stmt,
     };
-    sent(alloc, committed, 4)?;
+    typed(alloc, committed, 4)?;
     let rollback = Message::BranchRollback {
         xid,
         branch: BRANCH,
@@ -114,18 +126,18 @@ fn plain_messages(alloc: Global) -> Result<(), Fail> {
         manager,
         call,
     };
-    sent(alloc, rollback, 5)?;
+    typed(alloc, rollback, 5)?;
     let rollbacked = Message::BranchRollbacked {
         xid,
         branch: BRANCH,
         status: BranchStatus::PhaseTwoRollbacked,
         stmt,
     };
-    sent(alloc, rollbacked, 6)?;
+    typed(alloc, rollbacked, 6)?;
     let status = GlobalStatus::Finished;
-    sent(alloc, Message::CommitStatus { xid, status }, 8)?;
-    sent(alloc, Message::GlobalRollback { xid }, 9)?;
-    sent(alloc, Message::RollbackStatus { xid, status }, 10)?;
+    typed(alloc, Message::CommitStatus { xid, status }, 8)?;
+    typed(alloc, Message::GlobalRollback { xid }, 9)?;
+    typed(alloc, Message::RollbackStatus { xid, status }, 10)?;
     Ok(())
 }
 
@@ -142,7 +154,7 @@ fn registrations(alloc: Global) -> Result<(), Fail> {
         hold,
         check,
     };
-    sent(alloc, register, 11)?;
+    typed(alloc, register, 11)?;
     let key = key(alloc)?;
     let answer = Registered::Conflict {
         key,
@@ -154,7 +166,7 @@ fn registrations(alloc: Global) -> Result<(), Fail> {
         xid,
         answer,
     };
-    sent(alloc, conflict, 12)?;
+    typed(alloc, conflict, 12)?;
     Ok(())
 }
 
@@ -166,7 +178,7 @@ fn answers(alloc: Global) -> Result<(), Fail> {
         why: StmtError::Overflow { key },
     };
     let answer = CallAnswer::Failed { why };
-    sent(
+    typed(
         alloc,
         Message::Answer {
             xid,
@@ -182,19 +194,19 @@ fn answers(alloc: Global) -> Result<(), Fail> {
 fn questions(alloc: Global) -> Result<(), Fail> {
     let xid = Xid(7);
     let status = GlobalStatus::Committed;
-    sent(alloc, Message::GlobalStatus { xid }, 15)?;
-    sent(alloc, Message::StatusAnswer { xid, status }, 16)?;
+    typed(alloc, Message::GlobalStatus { xid }, 15)?;
+    typed(alloc, Message::StatusAnswer { xid, status }, 16)?;
     let query = Message::LockQuery {
         resource: 2,
         ticket: TICKET,
         check: keys(alloc)?,
     };
-    sent(alloc, query, 21)?;
+    typed(alloc, query, 21)?;
     let held = Message::LockAnswer {
         ticket: TICKET,
         held: Some((key(alloc)?, xid)),
     };
-    sent(alloc, held, 22)?;
+    typed(alloc, held, 22)?;
     let call = Message::Call {
         xid,
         manager: 1,
@@ -202,7 +214,7 @@ fn questions(alloc: Global) -> Result<(), Fail> {
         call: 3,
         work: Work::At(List::of(Vec::new(alloc))),
     };
-    sent(alloc, call, 201)?;
+    typed(alloc, call, 201)?;
     Ok(())
 }
 
