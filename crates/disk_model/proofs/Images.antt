@@ -11,6 +11,13 @@ use Rattle.disk_model.proofs.Stored.{unmarked_written}
 use Rattle.disk_model.proofs.Picked.{length-picked, picked_clear}
 use Rattle.disk_model.proofs.Put.{before, within, after, placed, outside, same_before, same_after, length-put, put_before, put_within, put_after}
 
+-- which bytes are images doesn't depend on the stable ones
+same_images : (a b : Memory) → a.present ≡ b.present → a.pending ≡ b.pending → (c : List ℕ) → IsImage a c → IsImage b c
+same_images a b present pending c image = record {
+  size = image.size ∙ ap length present;
+  kept = λ k clear. image.kept k (ap (λ marks. get_or marks k false) pending ∙ clear) ∙ ap (λ there. get_or there k 0) present;
+}
+
 module _ (at : ℕ) (bytes : List ℕ) (disk : Memory) (fits : at + length bytes ≤ length disk.present) (sound : IsSound disk) where
   marks_fit : at + length (replicate (length bytes) true) ≤ length disk.pending
   marks_fit = omega (arith, sound.marks, length-replicate (length bytes) true)
@@ -60,12 +67,16 @@ module _ (at : ℕ) (bytes : List ℕ) (disk : Memory) (fits : at + length bytes
       same : SameOutside at (length bytes) (put at shown c) c
       same = outside at (length bytes) (put at shown c) c (sym (length-put at shown c shown_fits)) (λ k l. sym (put_before at shown c shown_fits k 0 l)) (λ k g. sym (put_after at shown c shown_fits k 0 (omega (arith, length-shown))))
 
-  pub memory_written : IsWritten at bytes (memory_state disk) (memory_state (written at bytes disk))
-  memory_written = record { present = refl; pending = written_pending }
+  -- both hold whatever the stable bytes are after the write
+  pub memory_written : (new : Memory) → new.present ≡ (written at bytes disk).present → new.pending ≡ (written at bytes disk).pending → IsWritten at bytes (memory_state disk) (memory_state new)
+  memory_written new present pending = record {
+    present = ap Some present;
+    pending = λ c was. same_images (written at bytes disk) new (sym present) (sym pending) c (written_pending c was);
+  }
 
-  pub written_leaves : Leaves (memory_state disk) (memory_state (written at bytes disk)) (Pending at (length bytes) (IsImage disk))
-  written_leaves = record {
-    now = image_written;
+  pub written_leaves : (new : Memory) → new.present ≡ (written at bytes disk).present → new.pending ≡ (written at bytes disk).pending → Leaves (memory_state disk) (memory_state new) (Pending at (length bytes) (IsImage disk))
+  written_leaves new present pending = record {
+    now = λ c image. image_written c (same_images new (written at bytes disk) present pending c image);
     later = omega arith;
     since = λ t c le never. absurd never;
     kept = λ t c le never. never;

@@ -155,5 +155,6 @@ pub record CountsRestart {T E : Type 0} (result : Result T E) (old new : Counts)
   pub own : old.own ≤ new.own
   pub unarmed : OnOk result (new.left ≡ None)
   pub stuck : OnErr result (new.left ≡ old.left)
+  pub held : OnErr result (new.stopped ≡ old.stopped)
   pub fault : OnErr result (Rose old.faults new.faults)
   pub cause : OnErr result (Rose old.own new.own)

@@ -1,5 +1,5 @@
 -- A stop, and what it makes of the disk below it.
-use Rattle.std.specs.Prelude.{◌≡◌, IsTrue, ℕ, zero, suc, ◌+◌, Bool, true, false, Option, Some, None}
+use Rattle.std.specs.Prelude.{◌≡◌, IsTrue, ℕ, zero, suc, ◌+◌, ◌-◌, ◌^◌, min, Bool, true, false, Option, Some, None}
 use Rattle.std.proofs.Common.{refl, arith}
 use Rattle.std.proofs.lemmas.Bool.{false≢true}
 use Rattle.disk_model.specs.Disk.{DiskState, IsLawful}
@@ -36,6 +36,18 @@ next_stop ok Stopped = Stopped
 next_stop ok (Armed zero) = Stopped
 next_stop true (Armed (suc calls)) = Armed calls
 next_stop false (Armed (suc calls)) = Armed (suc calls)
+
+-- it lets no write or sync pass
+abbrev pub lets_none : Stop → Bool
+lets_none Off = false
+lets_none (Armed zero) = true
+lets_none (Armed (suc calls)) = false
+lets_none Stopped = true
+
+-- how often the stop has failed a call, after one more call that it failed or not; at its type's end it stands still
+abbrev pub next_failures : Bool → ℕ → ℕ
+next_failures true failures = min (failures + 1) (2 ^ 64 - 1)
+next_failures false failures = failures
 
 -- the disk below, with the failures of the stop among its faults
 abbrev pub with_stop : Stop → ℕ → DiskState → DiskState

@@ -1,4 +1,4 @@
-ghost use Rattle.std.specs.Prelude.{◌≡◌, ◌+◌, ◌^◌, ◌<◌, ◌≤◌, length, take, drop, IfOk};
+ghost use Rattle.std.specs.Prelude.{◌≡◌, ◌+◌, ◌^◌, ◌<◌, ◌≤◌, length, take, drop, IfOk, OnOk};
 ghost use Rattle.disk_model.specs.declared.disk.TheConstants.{LAST_PICK};
 ghost use Rattle.disk_model.specs.Memory.{picked, picked_byte};
 
@@ -90,7 +90,8 @@ impl MemDisk {
 }
 
 impl Disk for MemDisk {
-    ghost use Rattle.disk_model.specs.Memory.{memory_state, memory_lawful};
+    ghost use Rattle.disk_model.specs.Disk.{IsWritten, Leaves, Pending, CountsCalls, KeepsRest};
+    ghost use Rattle.disk_model.specs.Memory.{memory_state, memory_lawful, written};
 
     ghost state = { memory_state };
 
@@ -103,7 +104,15 @@ impl Disk for MemDisk {
         Ok(())
     }
 
-    fn write_at(&mut self, at: u64, bytes: &[u8]) -> Result<(), Failed> {
+    fn write_at(&mut self, at: u64, bytes: &[u8]) -> Result<(), Failed>
+        requires { at + length bytes.now ≤ (memory_state self.old).size }
+        ensures written { OnOk result (IsWritten at bytes.now (memory_state self.old) (memory_state self.new)) }
+        ensures images { Leaves (memory_state self.old) (memory_state self.new) (Pending at (length bytes.now) (memory_state self.old).may_leave) }
+        ensures counts { CountsCalls 1 result (memory_state self.old).counts (memory_state self.new).counts }
+        ensures rest { KeepsRest (memory_state self.old) (memory_state self.new) }
+
+        ensures exact { self.new ≡ written at bytes.now self.old }
+    {
         self.write(at, bytes);
         Ok(())
     }

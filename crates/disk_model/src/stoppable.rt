@@ -1,7 +1,8 @@
-ghost use Rattle.std.specs.Prelude.{◌≡◌, ◌⊎◌, ◌+◌, ◌≤◌, Some, length, IsErr, OnOk, OnErr, is_ok};
-ghost use Rattle.disk_model.specs.Disk.{Reads, KeepsContent, IsWritten, IsSynced, Leaves, Pending, CountsCalls, HasReadCause, KeepsRest, Rose};
+ghost use Rattle.std.specs.Prelude.{◌≡◌, ◌⊎◌, ◌+◌, ◌≤◌, Some, option_map, length, IsErr, OnOk, OnErr, is_ok};
+ghost use Rattle.disk_model.specs.declared.disk.TheConstants.{LAST_PICK};
+ghost use Rattle.disk_model.specs.Disk.{SameKind, Reads, KeepsContent, IsWritten, IsSynced, IsSettled, IsPicked, Leaves, Pending, CountsCalls, CountsRestart, HasReadCause, KeepsRest, Rose, last_pick};
 
-use crate::disk::Disk;
+use crate::disk::{Disk, LAST_PICK};
 use crate::errors::Failed;
 
 /// A disk that can be armed: then so many writes and syncs pass, the next one fails, and from then on every call
@@ -64,7 +65,7 @@ impl<D: Disk> Stoppable<D> {
 }
 
 impl<D: Disk> Disk for Stoppable<D> {
-    ghost use Rattle.disk_model.specs.Stop.{below, stop_of, left_of, next_stop, state_of, stopped_lawful};
+    ghost use Rattle.disk_model.specs.Stop.{below, stop_of, failures_of, left_of, has_failed, lets_none, next_stop, next_failures, state_of, stopped_lawful};
 
     ghost state = { state_of D.state };
 
@@ -82,6 +83,7 @@ impl<D: Disk> Disk for Stoppable<D> {
         ensures rest { KeepsRest (state_of D.state self.old) (state_of D.state self.new) }
 
         ensures stop { stop_of self.new ≡ stop_of self.old }
+        ensures failures { failures_of self.new ≡ next_failures (has_failed (stop_of self.old)) (failures_of self.old) }
         ensures stopped { stop_of self.old ≡ Stop.Stopped → IsErr result × (below self.new ≡ below self.old) }
     {
         match self.stop {
@@ -98,6 +100,7 @@ impl<D: Disk> Disk for Stoppable<D> {
         ensures rest { KeepsRest (state_of D.state self.old) (state_of D.state self.new) }
 
         ensures stop { stop_of self.new ≡ next_stop (is_ok result) (stop_of self.old) }
+        ensures failures { failures_of self.new ≡ next_failures (lets_none (stop_of self.old)) (failures_of self.old) }
         ensures stopped { stop_of self.old ≡ Stop.Stopped → below self.new ≡ below self.old }
         // The write that fails is handed on: the disk below has it, unless it failed too.
         ensures handed_on { stop_of self.old ≡ Stop.Armed 0 → IsWritten at bytes.now (D.state (below self.old)) (D.state (below self.new)) ⊎ Rose (D.state (below self.old)).counts.faults (D.state (below self.new)).counts.faults }
@@ -125,6 +128,7 @@ impl<D: Disk> Disk for Stoppable<D> {
         ensures rest { KeepsRest (state_of D.state self.old) (state_of D.state self.new) }
 
         ensures stop { stop_of self.new ≡ next_stop (is_ok result) (stop_of self.old) }
+        ensures failures { failures_of self.new ≡ next_failures (lets_none (stop_of self.old)) (failures_of self.old) }
         // The sync that fails is not handed on.
         ensures not_handed_on { left_of (stop_of self.old) ≡ Some 0 → below self.new ≡ below self.old }
     {
@@ -142,7 +146,18 @@ impl<D: Disk> Disk for Stoppable<D> {
         }
     }
 
-    fn restart(&mut self, pick: u16) -> Result<(), Failed> {
+    fn restart(&mut self, pick: u16) -> Result<(), Failed>
+        requires { pick ≤ LAST_PICK }
+        ensures settled { OnOk result (IsSettled (state_of D.state self.new)) }
+        ensures outcome { OnOk result (IsPicked pick (state_of D.state self.old) (state_of D.state self.new)) }
+        ensures picked { OnOk result (last_pick (state_of D.state self.new) ≡ option_map (λ _. Some pick) (last_pick (state_of D.state self.old))) }
+        ensures not_picked { OnErr result (last_pick (state_of D.state self.new) ≡ last_pick (state_of D.state self.old)) }
+        ensures images { Leaves (state_of D.state self.old) (state_of D.state self.new) (state_of D.state self.old).may_leave }
+        ensures counts { CountsRestart result (state_of D.state self.old).counts (state_of D.state self.new).counts }
+        ensures kind { SameKind (state_of D.state self.old) (state_of D.state self.new) }
+
+        ensures failures { failures_of self.new ≡ failures_of self.old }
+    {
         self.disk.restart(pick)?;
         self.stop = Stop::Off;
         Ok(())

@@ -1,4 +1,4 @@
-ghost use Rattle.std.specs.Prelude.{◌≡◌, ◌+◌, ◌^◌, ◌<◌, ◌≤◌, [], ◌++◌, length, take, drop, vec_len, vec_capacity, IfOk, OnOk, OnErr};
+ghost use Rattle.std.specs.Prelude.{◌≡◌, ◌+◌, ◌^◌, ◌<◌, ◌≤◌, Some, option_map, [], ◌++◌, length, take, drop, vec_len, vec_capacity, IsOk, IfOk, OnOk, OnErr};
 ghost use Rattle.disk_model.specs.declared.disk.TheConstants.{LAST_PICK};
 
 use crate::bytes::append;
@@ -122,7 +122,9 @@ impl TracedDisk {
 }
 
 impl Disk for TracedDisk {
-    ghost use Rattle.disk_model.specs.Trace.{trace_state, trace_lawful};
+    ghost use Rattle.disk_model.specs.Disk.{SameKind, KeepsRest, KeepsContent, Reads, IsWritten, IsSynced, IsSettled, IsPicked, Leaves, Pending, CountsCalls, CountsRestart, HasReadCause, last_pick};
+    ghost use Rattle.disk_model.specs.Trace.{trace_state, trace_lawful, IsNoted, IsRefused};
+    ghost use Rattle.disk_model.specs.Trace.Call.{Wrote, Synced, Restarted};
 
     ghost state = { trace_state };
 
@@ -130,22 +132,61 @@ impl Disk for TracedDisk {
         self.disk.size()
     }
 
-    fn read_at(&mut self, at: u64, into: &mut [u8]) -> Result<(), Failed> {
+    fn read_at(&mut self, at: u64, into: &mut [u8]) -> Result<(), Failed>
+        requires { at + length into.old ≤ (trace_state self.old).size }
+        ensures read { OnOk result (Reads (trace_state self.old) at into.new) }
+        ensures unchanged { KeepsContent (trace_state self.old) (trace_state self.new) }
+        ensures images { Leaves (trace_state self.old) (trace_state self.new) (trace_state self.old).may_leave }
+        ensures counts { CountsCalls 0 result (trace_state self.old).counts (trace_state self.new).counts }
+        ensures missed { OnErr result (HasReadCause (trace_state self.old).counts (trace_state self.new).counts) }
+        ensures rest { KeepsRest (trace_state self.old) (trace_state self.new) }
+
+        ensures whole { IsOk result × (self.new ≡ self.old) }
+    {
         self.read(at, into);
         Ok(())
     }
 
-    fn write_at(&mut self, at: u64, bytes: &[u8]) -> Result<(), Failed> {
+    fn write_at(&mut self, at: u64, bytes: &[u8]) -> Result<(), Failed>
+        requires { at + length bytes.now ≤ (trace_state self.old).size }
+        ensures written { OnOk result (IsWritten at bytes.now (trace_state self.old) (trace_state self.new)) }
+        ensures images { Leaves (trace_state self.old) (trace_state self.new) (Pending at (length bytes.now) (trace_state self.old).may_leave) }
+        ensures counts { CountsCalls 1 result (trace_state self.old).counts (trace_state self.new).counts }
+        ensures rest { KeepsRest (trace_state self.old) (trace_state self.new) }
+
+        ensures noted { OnOk result (IsNoted (Wrote at bytes.now) self.old self.new) }
+        ensures refused { OnErr result (IsRefused (length bytes.now) self.old self.new) }
+    {
         self.write(at, bytes)?;
         Ok(())
     }
 
-    fn sync(&mut self) -> Result<(), Failed> {
+    fn sync(&mut self) -> Result<(), Failed>
+        ensures synced { OnOk result (IsSynced (trace_state self.old) (trace_state self.new)) }
+        ensures images { Leaves (trace_state self.old) (trace_state self.new) (trace_state self.old).may_leave }
+        ensures counts { CountsCalls 1 result (trace_state self.old).counts (trace_state self.new).counts }
+        ensures rest { KeepsRest (trace_state self.old) (trace_state self.new) }
+
+        ensures noted { OnOk result (IsNoted Synced self.old self.new) }
+        ensures refused { OnErr result (IsRefused 0 self.old self.new) }
+    {
         self.flush()?;
         Ok(())
     }
 
-    fn restart(&mut self, pick: u16) -> Result<(), Failed> {
+    fn restart(&mut self, pick: u16) -> Result<(), Failed>
+        requires { pick ≤ LAST_PICK }
+        ensures settled { OnOk result (IsSettled (trace_state self.new)) }
+        ensures outcome { OnOk result (IsPicked pick (trace_state self.old) (trace_state self.new)) }
+        ensures picked { OnOk result (last_pick (trace_state self.new) ≡ option_map (λ _. Some pick) (last_pick (trace_state self.old))) }
+        ensures not_picked { OnErr result (last_pick (trace_state self.new) ≡ last_pick (trace_state self.old)) }
+        ensures images { Leaves (trace_state self.old) (trace_state self.new) (trace_state self.old).may_leave }
+        ensures counts { CountsRestart result (trace_state self.old).counts (trace_state self.new).counts }
+        ensures kind { SameKind (trace_state self.old) (trace_state self.new) }
+
+        ensures noted { OnOk result (IsNoted (Restarted pick) self.old self.new) }
+        ensures refused { OnErr result (IsRefused 0 self.old self.new) }
+    {
         self.crash(pick)?;
         Ok(())
     }
