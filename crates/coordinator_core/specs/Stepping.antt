@@ -1,6 +1,6 @@
 -- What the calls of the coordinator as a node promise: all that `Node` promises of them, and that its scenario and what its
 -- opening found stay.
-use Rattle.std.specs.Prelude.{◌≡◌, ◌+◌, ◌≤◌, ℕ, true, false, List, length, Option, Some, None, Result, Ok, Err, IfOk, IfErr, OnOk, OnErr}
+use Rattle.std.specs.Prelude.{◌≡◌, ◌+◌, ◌<◌, ◌≤◌, ℕ, true, false, List, length, Option, Some, None, Result, Ok, Err, IfOk, IfErr, OnOk, OnErr}
 use Rattle.disk_model.specs.Disk.{DiskState}
 use Rattle.disk_model.specs.Stop.{state_of}
 use Rattle.seata_types.specs.declared.acts.Act.{Act}
@@ -11,6 +11,7 @@ use Rattle.seata_types.specs.declared.errors.OpenError.{OpenError}
 use Rattle.seata_types.specs.declared.errors.OpenError.TheVariants as open_error
 use Rattle.seata_types.specs.declared.ids.Place.{Place}
 use Rattle.seata_types.specs.declared.ids.Place.TheVariants as place
+use Rattle.seata_types.specs.declared.limits.TheConstants.{LATEST_MOMENT}
 use Rattle.seata_types.specs.declared.messages.Input.{Input}
 use Rattle.seata_types.specs.declared.messages.Step.{Step}
 use Rattle.memory_store.specs.Keeping.{IsNotFull, StaysWhereShort}
@@ -40,6 +41,13 @@ HadRoom state c given now (Ok step) = HasRoom state c given now
 HadRoom state c given now (Err (error.Failed flight)) = HasRoom state c given now
 HadRoom state c given now (Err (error.Full full)) = Unit {0}
 HadRoom state c given now (Err error.NoMemory) = Unit {0}
+
+-- what a step asks: the coordinator is up, has steps left and serves the input, at a moment that a clock shows
+pub record MayStep {D : Type 0} (c : Coordinator D) (given : Input) (now : ℕ) : Type 0 where
+  pub up : is_down c ≡ false
+  pub able : 0 < steps_left c
+  pub moment : now ≤ LATEST_MOMENT
+  pub served : serves c given
 
 pub record StepsBy {D : Type 0} (state : D → DiskState) (old new : Coordinator D) (given : Input) (now : ℕ) (result : Result Step NodeError) : Type 0 where
   pub answers : IfOk result (TakesStep (StandsAs state) old new given now)

@@ -37,7 +37,7 @@ fn give_back<D: Disk>(
 }
 
 impl<D: Disk> Coordinator<D> {
-    ghost use Rattle.std.specs.Prelude.{◌≡◌, ◌<◌, ◌≤◌, ◌^◌, true, false, [], ℕ, List, Some, IfOk, IfErr};
+    ghost use Rattle.std.specs.Prelude.{◌≡◌, ◌<◌, ◌≤◌, false, List, Some, IfOk, IfErr};
     ghost use Rattle.std.specs.Borrow.{sem};
     ghost use Rattle.disk_model.specs.Disk.{IsSettled};
     ghost use Rattle.durable_records.specs.declared.coordinators.SessionRecord.{SessionRecord};
@@ -45,16 +45,15 @@ impl<D: Disk> Coordinator<D> {
     ghost use Rattle.session_log.specs.SnapshotOf.{snapshot_of};
     ghost use Rattle.journal_checkpoint.specs.Keeping.{active_disk, first_disk, second_disk};
     ghost use Rattle.disk_model.specs.Stop.{below};
-    ghost use Rattle.seata_types.specs.declared.limits.TheConstants.{MANAGERS, LATEST_MOMENT};
+    ghost use Rattle.seata_types.specs.declared.limits.TheConstants.{MANAGERS};
     ghost use Rattle.coordinator_core.specs.Opening.{IsOpened, HandsBack};
-    ghost use Rattle.coordinator_core.specs.Standing.{StandsOver, start_of, times_of, steps_left, serves, is_down, sessions_of, course, unended_sessions};
+    ghost use Rattle.coordinator_core.specs.Standing.{StandsOver, start_of, times_of, steps_left, is_down, sessions_of, course, unended_sessions};
     ghost use Rattle.coordinator_core.specs.Costs.{InputPasses};
     ghost use Rattle.coordinator_core.specs.Moving.{kept_of, Misses, Arms, ArmsWith, ComesBack, LendsActive};
-    ghost use Rattle.coordinator_core.specs.Stepping.{StepsBy, CountsStep, RestartsBy};
+    ghost use Rattle.coordinator_core.specs.Stepping.{CountsStep, MayStep, StepsBy};
     ghost use Rattle.coordinator_core.specs.Tracks.{records};
     ghost use Rattle.history_rules.specs.Own.{Own};
     ghost use Rattle.history_rules.specs.CoordinatorMemory.{start};
-    ghost use Rattle.disk_model.specs.declared.disk.TheConstants.{LAST_PICK};
 
     /// Opens two disks of one size, of the scenario with so many managers and resources. It asks a branch again after `retry`
     /// ticks, and forgets a finished transaction after `forget`, or never where that is 0. The disks come back where it fails;
@@ -168,10 +167,7 @@ impl<D: Disk> Coordinator<D> {
         now: u64,
         steps: &mut Steps<L>,
     ) -> Result<Step, NodeError>
-        requires up { is_down self.old ≡ false }
-        requires able { 0 < steps_left self.old }
-        requires moment { now ≤ LATEST_MOMENT }
-        requires served { serves self.old input }
+        requires { MayStep self.old input now }
         ensures { CountsStep D.state self.old self.new input now result steps.old steps.new }
     {
         self.step_with_passes::<L, Brand>(alloc, input, now, steps, Blank::new(1))
@@ -187,10 +183,7 @@ impl<D: Disk> Coordinator<D> {
         steps: &mut Steps<L>,
         passes: &mut Steps<P>,
     ) -> Result<Step, NodeError>
-        requires up { is_down self.old ≡ false }
-        requires able { 0 < steps_left self.old }
-        requires moment { now ≤ LATEST_MOMENT }
-        requires served { serves self.old input }
+        requires { MayStep self.old input now }
         ensures counts { CountsStep D.state self.old self.new input now result steps.old steps.new }
         ensures passes { InputPasses input (known (sessions_of self.old)) passes.old passes.new }
     {
@@ -234,10 +227,7 @@ impl<D: Disk> Coordinator<D> {
         requires name { blank.name ≡ P.name }
         requires parts { blank.parts ≡ P.parts }
         requires some { 0 < blank.parts }
-        requires up { is_down self.old ≡ false }
-        requires able { 0 < steps_left self.old }
-        requires moment { now ≤ LATEST_MOMENT }
-        requires served { serves self.old input }
+        requires may { MayStep self.old input now }
         ensures { CountsStep D.state self.old self.new input now result steps.old steps.new }
     {
         let mut passes = Steps::<P>::new(blank);
@@ -255,24 +245,11 @@ impl<D: Disk> Coordinator<D> {
         requires name { blank.name ≡ L.name }
         requires parts { blank.parts ≡ L.parts }
         requires some { 0 < blank.parts }
-        requires up { is_down self.old ≡ false }
-        requires able { 0 < steps_left self.old }
-        requires moment { now ≤ LATEST_MOMENT }
-        requires served { serves self.old input }
+        requires may { MayStep self.old input now }
         ensures { StepsBy D.state self.old self.new input now result }
     {
         let mut steps = Steps::<L>::new(blank);
         self.step_counted(alloc, input, now, &mut steps)
-    }
-
-    fn step_uncounted(&mut self, alloc: Global, input: Input, now: u64) -> Result<Step, NodeError>
-        requires up { is_down self.old ≡ false }
-        requires able { 0 < steps_left self.old }
-        requires moment { now ≤ LATEST_MOMENT }
-        requires served { serves self.old input }
-        ensures { StepsBy D.state self.old self.new input now result }
-    {
-        self.step_with::<Brand>(alloc, input, now, Blank::new(1))
     }
 
     // Lets so many writes and syncs of the active disk pass.
@@ -305,30 +282,6 @@ impl<D: Disk> Coordinator<D> {
                 Err(NoMemory)
             }
         }
-    }
-
-    // Comes back after a crash.
-    fn restart_in_place(
-        &mut self,
-        alloc: Global,
-        now: u64,
-        pick: u16,
-        calls: Option<u32>,
-    ) -> Result<Act, OpenError>
-        requires down { is_down self.old ≡ true }
-        requires moment { now ≤ LATEST_MOMENT }
-        requires pick { pick ≤ LAST_PICK }
-        ensures { RestartsBy D.state self.old self.new pick calls now result }
-    {
-        if let Err(error) = self.table.sessions.restart(alloc, pick) {
-            return Err(error);
-        }
-        if let Err(NoMemory) = self.come_back(alloc, now) {
-            return Err(OpenError::NoMemory);
-        }
-        self.arm_with(calls);
-        let kept = self.kept();
-        Ok(Act::Restarted { kept })
     }
 
     // The act in flight, where its record is on the disks.
@@ -379,7 +332,7 @@ impl<D: Disk> Node for Coordinator<D> {
         requires served { serves self.old input }
         ensures { StepsBy D.state self.old self.new input now result }
     {
-        self.step_uncounted(alloc, input, now)
+        self.step_with::<Brand>(alloc, input, now, Blank::new(1))
     }
 
     fn is_down(&self) -> bool {
@@ -419,7 +372,15 @@ impl<D: Disk> Node for Coordinator<D> {
         requires pick { pick ≤ LAST_PICK }
         ensures { RestartsBy D.state self.old self.new pick calls now result }
     {
-        self.restart_in_place(alloc, now, pick, calls)
+        if let Err(error) = self.table.sessions.restart(alloc, pick) {
+            return Err(error);
+        }
+        if let Err(NoMemory) = self.come_back(alloc, now) {
+            return Err(OpenError::NoMemory);
+        }
+        self.arm_with(calls);
+        let kept = self.kept();
+        Ok(Act::Restarted { kept })
     }
 
     ghost places = { laws.places D.state };

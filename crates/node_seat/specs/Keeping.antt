@@ -1,6 +1,7 @@
 -- What a seat keeps: there are moments whose entries its trace is, legal for its node alone, and the node is what they replay to.
-use Rattle.std.specs.Prelude.{◌≡◌, ◌<◌, ◌≤◌, ℕ, true, List, [], All, Option, Some, None}
+use Rattle.std.specs.Prelude.{◌≡◌, ◌<◌, ◌≤◌, ℕ, Bool, true, List, [], All, Option, Some, None, IfSome}
 use Rattle.journal_checkpoint.specs.Images.{Pair}
+use Rattle.seata_types.specs.declared.limits.TheConstants.{LATEST_MOMENT}
 use Rattle.seata_types.specs.declared.messages.Input.{Input}
 use Rattle.seata_types.specs.declared.messages.Input.TheVariants as input
 use Rattle.history_rules.specs.Own.{Own}
@@ -9,8 +10,10 @@ use Rattle.history_rules.specs.Histories.{Moment, own}
 use Rattle.history_text.specs.declared.entries.Cause.{Cause}
 use Rattle.history_text.specs.declared.entries.Cause.TheVariants as cause
 use Rattle.history_text.specs.declared.entries.Entry.{Entry}
+use Rattle.history_text.specs.Framing.{ComesFramable}
 use Rattle.history_text.specs.History.{entries}
 use Rattle.history_text.specs.Promises.{AreTold, has_disks, place_of}
+use Rattle.node_seat.specs.Entering.{CanReact}
 use Rattle.node_seat.specs.Traces.{Alone}
 use Rattle.node_seat.specs.declared.stations.Station.{Station}
 
@@ -47,6 +50,13 @@ pub record IsBehind (stamp now : ℕ) (older : Entry) : Type 0 where
 pub record IsNext (trace : List Entry) (stamp now : ℕ) (why : Cause) (given : Option Input) : Type 0 where
   pub behind : All (IsBehind stamp now) trace
   pub input : IsInputOf stamp why given
+
+-- what an entry of a node asks: it may come next, and the node can be given this, which can be framed, at a moment that a clock shows
+pub record MayEnter {N : Type 0} (stops : N → Bool) (left : N → ℕ) (serves : N → Input → Type 0) (node : N) (trace : List Entry) (stamp now : ℕ) (why : Cause) (given : Option Input) : Type 0 where
+  pub next : IsNext trace stamp now why given
+  pub can : CanReact stops left serves node why given
+  pub moment : now ≤ LATEST_MOMENT
+  pub framable : IfSome given ComesFramable
 
 -- a node of a run that did nothing yet; where it has disks, this is said where they tell their bytes
 abbrev pub IsFresh : {N : Type 0} → (N → Role → List Own → Type 0) → (N → Pair) → World → Past → N → Type 0

@@ -30,14 +30,9 @@ impl<N: Node, K: RunName> Model for Seat<N, K> {
 }
 
 impl<N: Node, K: RunName> Seat<N, K> {
-    ghost use Rattle.std.specs.Prelude.{◌≡◌, ◌≤◌, ◌+◌, [], Some, IfErr, IfSome};
-    ghost use Rattle.seata_types.specs.declared.limits.TheConstants.{LATEST_MOMENT};
-    ghost use Rattle.history_rules.specs.Own.{Event};
-    ghost use Rattle.history_text.specs.Framing.{ComesFramable};
-    ghost use Rattle.history_text.specs.Promises.{StaysItself};
-    ghost use Rattle.node_seat.specs.Entering.{event_by, CanReact, IsEntered};
-    ghost use Rattle.node_seat.specs.Faults.{CountsFault};
-    ghost use Rattle.node_seat.specs.Keeping.{IsNext, IsFresh};
+    ghost use Rattle.std.specs.Prelude.{◌≡◌, []};
+    ghost use Rattle.node_seat.specs.Entering.{HasEntered};
+    ghost use Rattle.node_seat.specs.Keeping.{IsFresh, MayEnter};
 
     /// A seat for a node of the run that did nothing yet.
     pub fn new(alloc: Global, node: N) -> Seat<N, K>
@@ -66,15 +61,8 @@ impl<N: Node, K: RunName> Seat<N, K> {
         cause: Cause,
         input: Option<Input>,
     ) -> Result<Option<Packet>, RunFault>
-        requires next { IsNext self.old.trace stamp now cause input }
-        requires can { CanReact N.stops N.left N.serves self.old.node cause input }
-        requires moment { now ≤ LATEST_MOMENT }
-        requires framable { IfSome input ComesFramable }
-        ensures entered { (event : Event) → event_by cause input ≡ Some event
-            → IsEntered N.stands_for N.stands_at N.disks N.size self.old.node self.new.node self.old.trace self.new.trace stamp now cause event result }
-        ensures failed { IfErr result (CountsFault (N.stands_at self.old.node) (N.disks self.old.node) (N.disks self.new.node)) }
-        ensures same { StaysItself N.stands_at N.serves N.disks self.old.node self.new.node }
-        ensures counted { N.left self.old.node ≤ N.left self.new.node + 1 }
+        requires { MayEnter N.stops N.left N.serves self.old.node self.old.trace stamp now cause input }
+        ensures { HasEntered N.stands_for N.stands_at N.serves N.disks N.size N.left self.old.node self.new.node self.old.trace self.new.trace stamp now cause input result }
     {
         self.station.enter(alloc, stamp, now, cause, input)
     }

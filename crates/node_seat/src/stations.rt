@@ -14,15 +14,9 @@ pub struct Station<N> {
 }
 
 impl<N: Node> Station<N> {
-    ghost use Rattle.std.specs.Prelude.{◌≡◌, ◌≤◌, ◌+◌, Some, IfErr, IfSome};
-    ghost use Rattle.seata_types.specs.declared.limits.TheConstants.{LATEST_MOMENT};
-    ghost use Rattle.history_rules.specs.Own.{Event};
     ghost use Rattle.history_rules.specs.Nodes.{World, Past};
-    ghost use Rattle.history_text.specs.Framing.{ComesFramable};
-    ghost use Rattle.history_text.specs.Promises.{StaysItself};
-    ghost use Rattle.node_seat.specs.Entering.{event_by, CanReact, IsEntered};
-    ghost use Rattle.node_seat.specs.Faults.{CountsFault};
-    ghost use Rattle.node_seat.specs.Keeping.{KeepsSome, IsNext};
+    ghost use Rattle.node_seat.specs.Entering.{HasEntered};
+    ghost use Rattle.node_seat.specs.Keeping.{KeepsSome, MayEnter};
 
     /// Makes one entry.
     pub fn enter(
@@ -33,15 +27,8 @@ impl<N: Node> Station<N> {
         cause: Cause,
         input: Option<Input>,
     ) -> Result<Option<Packet>, RunFault>
-        requires next { IsNext self.old.trace.items stamp now cause input }
-        requires can { CanReact N.stops N.left N.serves self.old.node cause input }
-        requires moment { now ≤ LATEST_MOMENT }
-        requires framable { IfSome input ComesFramable }
-        ensures entered { (event : Event) → event_by cause input ≡ Some event
-            → IsEntered N.stands_for N.stands_at N.disks N.size self.old.node self.new.node self.old.trace.items self.new.trace.items stamp now cause event result }
-        ensures failed { IfErr result (CountsFault (N.stands_at self.old.node) (N.disks self.old.node) (N.disks self.new.node)) }
-        ensures same { StaysItself N.stands_at N.serves N.disks self.old.node self.new.node }
-        ensures counted { N.left self.old.node ≤ N.left self.new.node + 1 }
+        requires { MayEnter N.stops N.left N.serves self.old.node self.old.trace.items stamp now cause input }
+        ensures entered { HasEntered N.stands_for N.stands_at N.serves N.disks N.size N.left self.old.node self.new.node self.old.trace.items self.new.trace.items stamp now cause input result }
         ensures keeps { (w : World) (past : Past) → KeepsSome N.stands_for N.disks w past self.old → KeepsSome N.stands_for N.disks w past self.new }
     {
         enter(

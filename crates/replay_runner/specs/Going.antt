@@ -1,6 +1,7 @@
 -- What a replay on its way keeps whatever its disks tell: its next entry can be made.
-use Rattle.std.specs.Prelude.{◌≡◌, ◌+◌, ◌*◌, ◌≤◌, ◌<◌, ◌&&◌, ℕ, Bool, true, false, List, All, length, slice_get, Option, Some, None}
+use Rattle.std.specs.Prelude.{◌≡◌, ◌+◌, ◌*◌, ◌≤◌, ◌<◌, ◌&&◌, ℕ, Bool, true, false, List, All, length, slice_get, Option, Some, None, Result, IfErr, OnOk}
 use Rattle.std.specs.List.{list_all}
+use Rattle.disk_model.specs.Disk.{DiskState}
 use Rattle.seata_types.specs.declared.ids.Place.{Place}
 use Rattle.seata_types.specs.declared.ids.Place.TheVariants as place
 use Rattle.seata_types.specs.declared.limits.TheConstants.{LOCALS, STEPS, TICKS}
@@ -25,10 +26,13 @@ use Rattle.manager_core.specs.declared.nodes.Manager.{Manager}
 use Rattle.manager_core.specs.Standing as manager
 use Rattle.node_seat.specs.Entering.{IsOfDisks}
 use Rattle.node_seat.specs.Keeping.{IsBehind, IsInputOf}
+use Rattle.node_seat.specs.declared.faults.RunFault.{RunFault}
 use Rattle.scenario_nodes.specs.Nodes.{MayHear, ServesAll}
 use Rattle.replay_runner.specs.declared.members.Member.{Member}
 use Rattle.replay_runner.specs.declared.nodes.Nodes.{Nodes}
 use Rattle.replay_runner.specs.declared.runs.Run.{Run}
+use Rattle.replay_runner.specs.Ends.{HaveCountedAt}
+use Rattle.replay_runner.specs.Standing.{disks_at}
 
 -- ---- the nodes
 
@@ -123,6 +127,13 @@ pub record CanGo {D K : Type 0} (r : Run D K) (steps : ℕ) : Type 0 where
 -- they were made
 abbrev pub Went : {D K : Type 0} → (old new : Run D K) → (steps : ℕ) → Type 0
 Went old new steps = Goes (length old.nodes.managers.items) (length old.nodes.resources.items) (length old.places.items + steps) new
+
+-- What came of a call that was to make so many entries: at Ok they were made, and after a fault by disks these counted it. There are as
+-- many resources as before.
+pub record HasGone {D K : Type 0} (state : D → DiskState) (old new : Run D K) (steps : ℕ) (result : Result (Unit {0}) RunFault) : Type 0 where
+  pub failed : IfErr result (HaveCountedAt (disks_at state new.nodes))
+  pub went : OnOk result (Went old new steps)
+  pub count : length new.nodes.resources.items ≡ length old.nodes.resources.items
 
 -- the next entry can be made at a place, by a cause with what it gives
 pub record CanMake {D K : Type 0} (r : Run D K) (at : Place) (why : Cause) (given : Option Input) : Type 0 where

@@ -16,14 +16,12 @@ pub struct Member<N: Node, K: RunName> {
 }
 
 impl<N: Node, K: RunName> Member<N, K> {
-    ghost use Rattle.std.specs.Prelude.{◌≡◌, ◌≤◌, ◌+◌, [], Some, IfErr, IfSome};
-    ghost use Rattle.seata_types.specs.declared.limits.TheConstants.{LATEST_MOMENT};
+    ghost use Rattle.std.specs.Prelude.{◌≡◌, ◌≤◌, ◌+◌, [], Some, IfErr};
     ghost use Rattle.history_rules.specs.Own.{Event};
-    ghost use Rattle.history_text.specs.Framing.{ComesFramable};
     ghost use Rattle.history_text.specs.Promises.{StaysItself};
-    ghost use Rattle.node_seat.specs.Entering.{event_by, CanReact};
+    ghost use Rattle.node_seat.specs.Entering.{event_by};
     ghost use Rattle.node_seat.specs.Faults.{CountsFault};
-    ghost use Rattle.node_seat.specs.Keeping.{IsNext, IsFresh};
+    ghost use Rattle.node_seat.specs.Keeping.{IsFresh, MayEnter};
     ghost use Rattle.replay_runner.specs.Members.{IsMade};
 
     /// A node that did nothing yet.
@@ -48,10 +46,7 @@ impl<N: Node, K: RunName> Member<N, K> {
         cause: Cause,
         input: Option<Input>,
     ) -> Result<Option<Letter>, RunFault>
-        requires next { IsNext self.old.seat.trace stamp now cause input }
-        requires can { CanReact N.stops N.left N.serves self.old.seat.node cause input }
-        requires moment { now ≤ LATEST_MOMENT }
-        requires framable { IfSome input ComesFramable }
+        requires { MayEnter N.stops N.left N.serves self.old.seat.node self.old.seat.trace stamp now cause input }
         ensures made { (event : Event) → event_by cause input ≡ Some event
             → IsMade N.stands_for N.stands_at N.disks N.size self.old self.new stamp now cause event result }
         ensures failed { IfErr result (CountsFault (N.stands_at self.old.seat.node) (N.disks self.old.seat.node) (N.disks self.new.seat.node)) }

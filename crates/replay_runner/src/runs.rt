@@ -44,7 +44,7 @@ impl<D: Disk, K: RunName> Run<D, K> {
     ghost use Rattle.history_rules.specs.Schedules.{Auto, DeliverOf, TurnOf, singles_of, times};
     ghost use Rattle.history_text.specs.Worlds.{item_of};
     ghost use Rattle.replay_runner.specs.Ends.{HaveCountedAt};
-    ghost use Rattle.replay_runner.specs.Going.{AreLocals, CanGo, CanMake, Goes, NodesGo, Went};
+    ghost use Rattle.replay_runner.specs.Going.{AreLocals, CanGo, CanMake, Goes, HasGone, NodesGo};
     ghost use Rattle.replay_runner.specs.Letters.{delivery_of, letter_at};
     ghost use Rattle.replay_runner.specs.Plays.{Brings, HasMade, HasPlayed, Hears, IsPassed, Made, Names, Plays, Ready, ReadyWith};
     ghost use Rattle.replay_runner.specs.Standing.{AreNodes, disks_at};
@@ -98,9 +98,7 @@ impl<D: Disk, K: RunName> Run<D, K> {
     ) -> Result<(), RunFault>
         requires can { CanMake self.old place cause input }
         ensures made { (b : Brings D.state self.old place cause input) → Made D.state self.old self.new place cause input b result }
-        ensures failed { IfErr result (HaveCountedAt (disks_at D.state self.new.nodes)) }
-        ensures went { OnOk result (Went self.old self.new 1) }
-        ensures count { length self.new.nodes.resources.items ≡ length self.old.nodes.resources.items }
+        ensures gone { HasGone D.state self.old self.new 1 result }
     {
         let stamp = self.next_stamp();
         let now = self.clock;
@@ -145,9 +143,7 @@ impl<D: Disk, K: RunName> Run<D, K> {
         requires can { CanGo self.old 1 }
         requires there { IsPlaceAmong (length self.old.nodes.resources.items) (length self.old.nodes.managers.items) place }
         ensures made { (names : Names D.state self.old (TurnOf place)) → HasMade D.state self.old self.new names.here result }
-        ensures failed { IfErr result (HaveCountedAt (disks_at D.state self.new.nodes)) }
-        ensures went { OnOk result (Went self.old self.new 1) }
-        ensures count { length self.new.nodes.resources.items ≡ length self.old.nodes.resources.items }
+        ensures gone { HasGone D.state self.old self.new 1 result }
     {
         self.make(alloc, place, Cause::Turn, Some(Input::Turn))
     }
@@ -158,9 +154,7 @@ impl<D: Disk, K: RunName> Run<D, K> {
         requires sent { option_map delivery_of (letter_at stamp self.old.messages.letters.items) ≡ Some delivery }
         requires framable { IsFramable delivery.message }
         ensures made { (hears : Hears D.state self.old stamp delivery) → HasMade D.state self.old self.new hears.step.here result }
-        ensures failed { IfErr result (HaveCountedAt (disks_at D.state self.new.nodes)) }
-        ensures went { OnOk result (Went self.old self.new 1) }
-        ensures count { length self.new.nodes.resources.items ≡ length self.old.nodes.resources.items }
+        ensures gone { HasGone D.state self.old self.new 1 result }
     {
         if !fits(
             self.nodes.managers.len(),
@@ -183,9 +177,7 @@ impl<D: Disk, K: RunName> Run<D, K> {
     fn deliver(&mut self, alloc: Global, stamp: u32) -> Result<(), RunFault>
         requires can { CanGo self.old 1 }
         ensures made { (names : Names D.state self.old (DeliverOf stamp)) → HasMade D.state self.old self.new names.here result }
-        ensures failed { IfErr result (HaveCountedAt (disks_at D.state self.new.nodes)) }
-        ensures went { OnOk result (Went self.old self.new 1) }
-        ensures count { length self.new.nodes.resources.items ≡ length self.old.nodes.resources.items }
+        ensures gone { HasGone D.state self.old self.new 1 result }
     {
         match self.messages.delivery(alloc, stamp) {
             Ok(Some(delivery)) => self.hear(alloc, stamp, delivery),
@@ -198,9 +190,7 @@ impl<D: Disk, K: RunName> Run<D, K> {
     fn choose(&mut self, alloc: Global) -> Result<(), RunFault>
         requires can { CanGo self.old 1 }
         ensures made { (names : Names D.state self.old (Auto 1)) → HasMade D.state self.old self.new names.here result }
-        ensures failed { IfErr result (HaveCountedAt (disks_at D.state self.new.nodes)) }
-        ensures went { OnOk result (Went self.old self.new 1) }
-        ensures count { length self.new.nodes.resources.items ≡ length self.old.nodes.resources.items }
+        ensures gone { HasGone D.state self.old self.new 1 result }
     {
         match self.messages.oldest() {
             Some(stamp) => self.deliver(alloc, stamp),
@@ -215,9 +205,7 @@ impl<D: Disk, K: RunName> Run<D, K> {
     fn choose_each(&mut self, alloc: Global, steps: u32) -> Result<(), RunFault>
         requires can { CanGo self.old steps }
         ensures played { (ready : Ready D.state self.old (times steps (Auto 1))) → HasPlayed D.state ready.s self.new ready.rest result }
-        ensures failed { IfErr result (HaveCountedAt (disks_at D.state self.new.nodes)) }
-        ensures went { OnOk result (Went self.old self.new steps) }
-        ensures count { length self.new.nodes.resources.items ≡ length self.old.nodes.resources.items }
+        ensures gone { HasGone D.state self.old self.new steps result }
     {
         for _ in 0..steps {
             if let Err(fault) = self.choose(alloc) {
@@ -238,9 +226,7 @@ impl<D: Disk, K: RunName> Run<D, K> {
         requires locals { AreLocals (length self.old.nodes.resources.items) locals.now }
         requires fits { FitsNodes (length self.old.nodes.resources.items) (length self.old.nodes.managers.items) (length locals.now) item }
         ensures played { (ready : ReadyWith D.state self.old locals.now (singles_of (item_of item))) → HasPlayed D.state ready.ready.s self.new ready.ready.rest result }
-        ensures failed { IfErr result (HaveCountedAt (disks_at D.state self.new.nodes)) }
-        ensures went { OnOk result (Went self.old self.new (steps_of item)) }
-        ensures count { length self.new.nodes.resources.items ≡ length self.old.nodes.resources.items }
+        ensures gone { HasGone D.state self.old self.new (steps_of item) result }
     {
         match item {
             ScheduleItem::Turn { place } => self.turn(alloc, place),

@@ -1,5 +1,5 @@
 -- What a scenario says of a call, an action and a local transaction by their numbers, all counted from 1.
-use Rattle.std.specs.Prelude.{ℕ, ◌==◌, if◌then◌else◌, ◌≤◌, List, length, Option, Some, None, option_map}
+use Rattle.std.specs.Prelude.{◌≡◌, ℕ, ◌==◌, if◌then◌else◌, ◌≤◌, List, length, Option, Some, None, option_map}
 use Rattle.std.specs.Option.{option_and_then}
 use Rattle.seata_types.specs.declared.limits.TheConstants.{FIELD_ITEMS}
 use Rattle.seata_types.specs.declared.statements.Action.{Action}
@@ -65,3 +65,8 @@ local_at s n k = option_and_then (local_in n) (counted_at s.locals k)
 abbrev pub AreFew : Option (List Stmt) → Type 0
 AreFew None = Unit {0}
 AreFew (Some stmts) = length stmts ≤ FIELD_ITEMS
+
+-- the statements that were found are those wanted, and few
+pub record AreFound (found wanted : Option (List Stmt)) : Type 0 where
+  pub is : found ≡ wanted
+  pub few : AreFew found

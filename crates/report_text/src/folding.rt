@@ -6,7 +6,7 @@ ghost use Rattle.scenario_reader.specs.Runnable.{IsRunnable};
 ghost use Rattle.report_text.specs.Folds.{first_from};
 ghost use Rattle.report_text.specs.Keeping.{number_at};
 ghost use Rattle.report_text.specs.Made.{sending_manager, run_by, run_for, tries_for};
-ghost use Rattle.report_text.specs.Numbered.{AreFew};
+ghost use Rattle.report_text.specs.Numbered.{AreFound};
 
 use crate::left::{CoordinatorLeft, Folded, ResourceLeft};
 use crate::scenarios;
@@ -146,8 +146,7 @@ fn run_by<'a>(
     done: Durable,
 ) -> Option<&'a List<Stmt>>
     requires { IsRunnable scenario.now }
-    ensures is { option_copied result ≡ run_by scenario.now (number_at coordinator.now.managers) (number_at coordinator.now.calls) n done }
-    ensures few { AreFew (option_copied result) }
+    ensures { AreFound (option_copied result) (run_by scenario.now (number_at coordinator.now.managers) (number_at coordinator.now.calls) n done) }
 {
     match done {
         Durable::Confirmed { xid, branch } => {
@@ -179,8 +178,7 @@ fn statements<'a>(
     next: &Entry,
 ) -> Option<&'a List<Stmt>>
     requires { IsRunnable scenario.now }
-    ensures is { option_copied result ≡ run_for scenario.now (number_at coordinator.now.managers) (number_at coordinator.now.calls) n next.entry.now.cause next.entry.now.act }
-    ensures few { AreFew (option_copied result) }
+    ensures { AreFound (option_copied result) (run_for scenario.now (number_at coordinator.now.managers) (number_at coordinator.now.calls) n next.entry.now.cause next.entry.now.act) }
 {
     match &next.act {
         Act::Opened { call, .. } => {
@@ -196,8 +194,7 @@ fn statements<'a>(
 // The statements of the Try that an entry opens a ticket for.
 fn tries<'a>(scenario: &'a Scenario, next: &Entry) -> Option<&'a List<Stmt>>
     requires { IsRunnable scenario.now }
-    ensures is { option_copied result ≡ tries_for scenario.now next.entry.now.cause next.entry.now.act }
-    ensures few { AreFew (option_copied result) }
+    ensures { AreFound (option_copied result) (tries_for scenario.now next.entry.now.cause next.entry.now.act) }
 {
     match &next.act {
         Act::Opened { call, .. } => scenarios::tries(scenario, sending_manager(&next.cause), *call),

@@ -4,7 +4,7 @@ ghost use Rattle.std.specs.Prelude.{◌≡◌, OnSome};
 ghost use Rattle.std.specs.Option.{option_copied};
 ghost use Rattle.scenario_reader.specs.Runnable.{IsRunnable};
 ghost use Rattle.history_rules.specs.Nodes.{counted_at};
-ghost use Rattle.report_text.specs.Numbered.{AreFew, call_at, statements_at, tries_at, action_at, confirms_at, cancels_at, local_at};
+ghost use Rattle.report_text.specs.Numbered.{AreFound, call_at, statements_at, tries_at, action_at, confirms_at, cancels_at, local_at};
 
 use scenario_reader::Scenario;
 use seata_types::{Action, List, Stmt, Work};
@@ -32,8 +32,7 @@ fn call(scenario: &Scenario, manager: u16, call: u16) -> Option<&(u16, Work)>
 /// The statements that an AT call runs as it is opened.
 pub(crate) fn statements(scenario: &Scenario, manager: u16, number: u16) -> Option<&List<Stmt>>
     requires { IsRunnable scenario.now }
-    ensures is { option_copied result ≡ statements_at scenario.now manager number }
-    ensures few { AreFew (option_copied result) }
+    ensures { AreFound (option_copied result) (statements_at scenario.now manager number) }
 {
     match call(scenario, manager, number) {
         Some((_, Work::At(stmts))) => Some(stmts),
@@ -44,8 +43,7 @@ pub(crate) fn statements(scenario: &Scenario, manager: u16, number: u16) -> Opti
 /// The statements of the Try of a TCC call.
 pub(crate) fn tries(scenario: &Scenario, manager: u16, number: u16) -> Option<&List<Stmt>>
     requires { IsRunnable scenario.now }
-    ensures is { option_copied result ≡ tries_at scenario.now manager number }
-    ensures few { AreFew (option_copied result) }
+    ensures { AreFound (option_copied result) (tries_at scenario.now manager number) }
 {
     match call(scenario, manager, number) {
         Some((_, Work::Tcc(action))) => Some(&action.tries),
@@ -71,8 +69,7 @@ pub(crate) fn confirms(
     number: u16,
 ) -> Option<&List<Stmt>>
     requires { IsRunnable scenario.now }
-    ensures is { option_copied result ≡ confirms_at scenario.now resource manager number }
-    ensures few { AreFew (option_copied result) }
+    ensures { AreFound (option_copied result) (confirms_at scenario.now resource manager number) }
 {
     match action(scenario, resource, manager, number) {
         Some(Action { confirms, .. }) => Some(confirms),
@@ -88,8 +85,7 @@ pub(crate) fn cancels(
     number: u16,
 ) -> Option<&List<Stmt>>
     requires { IsRunnable scenario.now }
-    ensures is { option_copied result ≡ cancels_at scenario.now resource manager number }
-    ensures few { AreFew (option_copied result) }
+    ensures { AreFound (option_copied result) (cancels_at scenario.now resource manager number) }
 {
     match action(scenario, resource, manager, number) {
         Some(Action { cancels, .. }) => Some(cancels),
@@ -100,8 +96,7 @@ pub(crate) fn cancels(
 /// The statements of a local transaction, where it is this resource's.
 pub(crate) fn local(scenario: &Scenario, resource: u16, number: u16) -> Option<&List<Stmt>>
     requires { IsRunnable scenario.now }
-    ensures is { option_copied result ≡ local_at scenario.now resource number }
-    ensures few { AreFew (option_copied result) }
+    ensures { AreFound (option_copied result) (local_at scenario.now resource number) }
 {
     match counted(scenario.locals.as_slice(), u64::from(number)) {
         Some((at, stmts)) if *at == resource => Some(stmts),

@@ -124,10 +124,15 @@ pub(crate) fn committed(leg: Leg, answer: Committed) -> Step
     ensures { result ≡ at_steps.commit_step leg.xid.0 leg.branch.0 answer }
 {
     let Leg { xid, branch } = leg;
-    let act = match answer {
-        Committed::Cleared => Act::Durable(Durable::Cleared { xid, branch }),
-        Committed::Empty => Act::Empty { xid, branch },
-    };
+    match answer {
+        Committed::Cleared => is_committed(leg, Act::Durable(Durable::Cleared { xid, branch })),
+        Committed::Empty => is_committed(leg, Act::Empty { xid, branch }),
+    }
+}
+
+fn is_committed(leg: Leg, act: Act) -> Step
+    ensures { result ≡ tells_committed leg act BranchStatus.PhaseTwoCommitted 0 }
+{
     tells_committed(leg, act, BranchStatus::PhaseTwoCommitted, 0)
 }
 
@@ -178,18 +183,8 @@ pub(crate) fn confirmed(leg: Leg, answer: TccAnswer) -> Step
 {
     let Leg { xid, branch } = leg;
     match answer {
-        TccAnswer::Ran => tells_committed(
-            leg,
-            Act::Durable(Durable::Confirmed { xid, branch }),
-            BranchStatus::PhaseTwoCommitted,
-            0,
-        ),
-        TccAnswer::Already => tells_committed(
-            leg,
-            Act::Already { xid, branch },
-            BranchStatus::PhaseTwoCommitted,
-            0,
-        ),
+        TccAnswer::Ran => is_committed(leg, Act::Durable(Durable::Confirmed { xid, branch })),
+        TccAnswer::Already => is_committed(leg, Act::Already { xid, branch }),
         TccAnswer::Refused => tells_committed(
             leg,
             Act::Unfenced { xid, branch },

@@ -39,7 +39,6 @@ impl<D: Disk> Resource<D> {
     ghost use Rattle.std.specs.Borrow.{sem};
     ghost use Rattle.disk_model.specs.Disk.{IsSettled};
     ghost use Rattle.disk_model.specs.Stop.{below, state_of};
-    ghost use Rattle.disk_model.specs.declared.disk.TheConstants.{LAST_PICK};
     ghost use Rattle.journal_checkpoint.specs.Keeping.{active_disk, first_disk, second_disk};
     ghost use Rattle.durable_records.specs.declared.resources.ResourceRecord.{ResourceRecord};
     ghost use Rattle.history_rules.specs.Own.{Own};
@@ -47,9 +46,8 @@ impl<D: Disk> Resource<D> {
     ghost use Rattle.resource_store.specs.Keeping.{twin, found_of, setting_of, KeepsRecords};
     ghost use Rattle.resource_store.specs.Keeping.{is_down as store_is_down};
     ghost use Rattle.resource_core.specs.NodeOpening.{IsSetupWithin, IsOpened, HandsBack};
-    ghost use Rattle.resource_core.specs.NodeStanding.{StandsOver, IsSound, serves};
+    ghost use Rattle.resource_core.specs.NodeStanding.{StandsOver};
     ghost use Rattle.resource_core.specs.NodeMoving.{kept_of, Misses, Arms, ArmsWith, Boots, LendsActive};
-    ghost use Rattle.resource_core.specs.NodeStepping.{StepsBy, RestartsBy};
     ghost use Rattle.resource_core.specs.Shown.{store_of, stands_at, steps_left, is_down};
 
     /// Opens two disks of one size, of the resource with this number, and writes the record of one more boot. The disks come
@@ -138,28 +136,6 @@ impl<D: Disk> Resource<D> {
         (first.into_inner(), second.into_inner())
     }
 
-    // Takes a turn, a message or a local transaction.
-    fn answer(&mut self, alloc: Global, input: Input, now: u64) -> Result<Step, NodeError>
-        requires up { is_down self.old ≡ false }
-        requires able { 0 < steps_left self.old }
-        requires served { serves self.old input }
-        ensures { StepsBy D.state self.old self.new input now result }
-    {
-        let records = self.branches.store.records();
-        match self.branches.answer(alloc, &input) {
-            Ok(step) => {
-                drop(input);
-                self.left -= 1;
-                Ok(step)
-            }
-            Err(error) => {
-                drop(input);
-                self.miss(records, error);
-                Err(error)
-            }
-        }
-    }
-
     // A step ended without an answer. Where the disks failed, it is down with its act in flight over so many records.
     fn miss(&mut self, records: u32, error: NodeError)
         requires able { 0 < steps_left self.old }
@@ -187,26 +163,6 @@ impl<D: Disk> Resource<D> {
         if let Some(calls) = calls {
             self.arm_active(calls);
         }
-    }
-
-    // Comes back after a crash. A stop is armed before the boot, which is its first record.
-    fn restart_in_place(
-        &mut self,
-        alloc: Global,
-        now: u64,
-        pick: u16,
-        calls: Option<u32>,
-    ) -> Result<Act, OpenError>
-        requires down { is_down self.old ≡ true }
-        requires pick { pick ≤ LAST_PICK }
-        ensures { RestartsBy D.state self.old self.new pick calls now result }
-    {
-        if let Err(error) = self.branches.store.restart(alloc, pick) {
-            return Err(error);
-        }
-        self.arm_with(calls);
-        let kept = self.kept();
-        self.boot(alloc, kept)
     }
 
     // The act in flight, where its record is on the disks.
@@ -281,7 +237,19 @@ impl<D: Disk> Node for Resource<D> {
         requires served { serves self.old input }
         ensures { StepsBy D.state self.old self.new input now result }
     {
-        self.answer(alloc, input, now)
+        let records = self.branches.store.records();
+        match self.branches.answer(alloc, &input) {
+            Ok(step) => {
+                drop(input);
+                self.left -= 1;
+                Ok(step)
+            }
+            Err(error) => {
+                drop(input);
+                self.miss(records, error);
+                Err(error)
+            }
+        }
     }
 
     fn is_down(&self) -> bool {
@@ -320,7 +288,13 @@ impl<D: Disk> Node for Resource<D> {
         requires pick { pick ≤ LAST_PICK }
         ensures { RestartsBy D.state self.old self.new pick calls now result }
     {
-        self.restart_in_place(alloc, now, pick, calls)
+        if let Err(error) = self.branches.store.restart(alloc, pick) {
+            return Err(error);
+        }
+        // A stop is armed before the boot, which is its first record.
+        self.arm_with(calls);
+        let kept = self.kept();
+        self.boot(alloc, kept)
     }
 
     ghost places = { laws.places D.state };

@@ -3,7 +3,7 @@ use Rattle.report_text.specs.Numbered.{AreFew, confirms_at}
 use Rattle.report_text.proofs.FewLaws.{confirms_few}
 use Rattle.report_text.proofs.scenarios.confirms.Goals as goal
 
-pub returns-in-Some-clause-few : goal.returns-in-Some-clause-few
-returns-in-Some-clause-few c =
+pub returns-in-Some : goal.returns-in-Some
+returns-in-Some c =
     let is : Some c.in-Some.field-0.now.confirms ≡ confirms_at c.args.scenario.now c.args.resource c.args.manager c.args.number = search rules in
-    subst AreFew (sym is) (confirms_few c.args.scenario.now c.requires c.args.resource c.args.manager c.args.number)
+    record { is = is; few = subst AreFew (sym is) (confirms_few c.args.scenario.now c.requires c.args.resource c.args.manager c.args.number) }

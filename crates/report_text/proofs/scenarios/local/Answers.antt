@@ -3,7 +3,7 @@ use Rattle.report_text.specs.Numbered.{AreFew, local_at}
 use Rattle.report_text.proofs.FewLaws.{local_few}
 use Rattle.report_text.proofs.scenarios.local.Goals as goal
 
-pub returns-in-Some-clause-few : goal.returns-in-Some-clause-few
-returns-in-Some-clause-few c =
+pub returns-in-Some : goal.returns-in-Some
+returns-in-Some c =
     let is : Some c.in-Some.field-0.now.1 ≡ local_at c.args.scenario.now c.args.resource c.args.number = search rules in
-    subst AreFew (sym is) (local_few c.args.scenario.now c.requires c.args.resource c.args.number)
+    record { is = is; few = subst AreFew (sym is) (local_few c.args.scenario.now c.requires c.args.resource c.args.number) }

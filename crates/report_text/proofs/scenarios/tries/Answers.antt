@@ -3,7 +3,7 @@ use Rattle.report_text.specs.Numbered.{AreFew, tries_at}
 use Rattle.report_text.proofs.FewLaws.{tries_few}
 use Rattle.report_text.proofs.scenarios.tries.Goals as goal
 
-pub returns-in-Some-default-Tcc-clause-few : goal.returns-in-Some-default-Tcc-clause-few
-returns-in-Some-default-Tcc-clause-few c =
+pub returns-in-Some-default-Tcc : goal.returns-in-Some-default-Tcc
+returns-in-Some-default-Tcc c =
     let is : Some c.in-Some-default-Tcc.action.tries ≡ tries_at c.args.scenario.now c.args.manager c.args.number = search rules in
-    subst AreFew (sym is) (tries_few c.args.scenario.now c.requires c.args.manager c.args.number)
+    record { is = is; few = subst AreFew (sym is) (tries_few c.args.scenario.now c.requires c.args.manager c.args.number) }

@@ -1,4 +1,4 @@
-use Rattle.std.proofs.Common.{length, refl, sym, ◌∙◌}
+use Rattle.std.proofs.Common.{ap, length, refl, sym, ◌∙◌}
 use Rattle.history_text.specs.declared.entries.Cause.TheVariants as cause
 use Rattle.replay_runner.specs.Standing.{disks_at}
 use Rattle.replay_runner.proofs.Failed.{memory_at}
@@ -22,9 +22,9 @@ returns-in-Ok-None-clause-made g c = λ names.
     missed_or_ends g.D.Disk.state c.args.self.now c.make_without_node.new.self c.args.stamp names (sym c.in-Ok-None.ensures.found ∙ c.in-Ok-None.field-0-is) c.make_without_node.result c.make_without_node.ensures.passed c.make_without_node.ensures.fault
     c.make_without_node.ensures.nodes c.make_without_node.ensures.waiting c.make_without_node.ensures.clock
 
-pub returns-in-Ok-None-clause-failed : goal.returns-in-Ok-None-clause-failed
-returns-in-Ok-None-clause-failed g c = memory_at (disks_at g.D.Disk.state c.make_without_node.new.self.nodes) c.make_without_node.result c.make_without_node.ensures.fault
-
-pub returns-in-Ok-None-clause-went : goal.returns-in-Ok-None-clause-went
-returns-in-Ok-None-clause-went g c =
-    went_missing (length c.args.self.now.nodes.managers.items) (length c.args.self.now.nodes.resources.items) (length c.args.self.now.places.items) c.args.self.now c.make_without_node.new.self c.requires.can.goes (cause.Missing c.args.stamp) c.make_without_node.result c.make_without_node.ensures.passed c.make_without_node.ensures.nodes c.make_without_node.ensures.waiting c.make_without_node.ensures.clock
+pub returns-in-Ok-None-clause-gone : goal.returns-in-Ok-None-clause-gone
+returns-in-Ok-None-clause-gone g c = record {
+  failed = memory_at (disks_at g.D.Disk.state c.make_without_node.new.self.nodes) c.make_without_node.result c.make_without_node.ensures.fault;
+  went = went_missing (length c.args.self.now.nodes.managers.items) (length c.args.self.now.nodes.resources.items) (length c.args.self.now.places.items) c.args.self.now c.make_without_node.new.self c.requires.can.goes (cause.Missing c.args.stamp) c.make_without_node.result c.make_without_node.ensures.passed c.make_without_node.ensures.nodes c.make_without_node.ensures.waiting c.make_without_node.ensures.clock;
+  count = ap (λ v. length v.resources.items) c.make_without_node.ensures.nodes;
+}

@@ -34,7 +34,7 @@ take-requires-clause-counted g c = first_stamp c.args.self.now c.args.stamp c.ar
 pub take-requires-clause-there : goal.take-requires-clause-there
 take-requires-clause-there g c =
     let there = stamp_there c.args.self.now c.args.stamp c.args.delivery c.requires.can c.requires.sent in
-    let marks = c.in_default.ensures.went.marks in
+    let marks = c.in_default.ensures.gone.went.marks in
     omega (arith, there, marks)
 
 pub returns-in-Err-clause-made : goal.returns-in-Err-clause-made
@@ -55,16 +55,19 @@ returns-clause-made g c = λ hears.
     (c.in_default.ensures.made (brings_delivery g.D.Disk.state c.args.self.now c.args.stamp hears.step c.args.delivery hears.is_found node.0 node.1))
     c.take.ensures.taken c.take.ensures.letters c.take.ensures.waiting refl refl refl refl
 
-pub returns-clause-went : goal.returns-clause-went
-returns-clause-went g c =
-    let went = c.in_default.ensures.went in
+pub returns-clause-gone : goal.returns-clause-gone
+returns-clause-gone g c =
+    let went = c.in_default.ensures.gone.went in
     let within = went.within in
-    let same = c.take.ensures.waiting in
-    goes_messages (length c.args.self.now.nodes.managers.items) (length c.args.self.now.nodes.resources.items) (length c.args.self.now.places.items + 1) c.make.new.self (record {
-      nodes = c.make.new.self.nodes;
-      network = c.make.new.self.network;
-      places = c.make.new.self.places;
-      messages = c.take.new.self;
-      clock = c.make.new.self.clock;
-    }) went refl refl refl (ap (λ v. length v.items) c.take.ensures.letters) (ap length c.take.ensures.taken ∙ length-set c.make.new.self.messages.taken.items (c.args.stamp - 1) true)
-    (omega (arith, within, same))
+    let same = c.take.ensures.waiting in record {
+      failed = tt;
+      went = goes_messages (length c.args.self.now.nodes.managers.items) (length c.args.self.now.nodes.resources.items) (length c.args.self.now.places.items + 1) c.make.new.self (record {
+        nodes = c.make.new.self.nodes;
+        network = c.make.new.self.network;
+        places = c.make.new.self.places;
+        messages = c.take.new.self;
+        clock = c.make.new.self.clock;
+      }) went refl refl refl (ap (λ v. length v.items) c.take.ensures.letters) (ap length c.take.ensures.taken ∙ length-set c.make.new.self.messages.taken.items (c.args.stamp - 1) true)
+          (omega (arith, within, same));
+      count = c.make.ensures.gone.count;
+    }

@@ -1,4 +1,4 @@
-use Rattle.std.proofs.Common.{OnOk, sym, ◌+◌, length, refl, subst, arith}
+use Rattle.std.proofs.Common.{OnOk, ap, sym, ◌+◌, length, refl, subst, arith}
 use Rattle.scenario_reader.specs.declared.scenarios.ScheduleItem.{ScheduleItem}
 use Rattle.scenario_reader.specs.declared.scenarios.ScheduleItem.TheVariants as item
 use Rattle.scenario_reader.specs.Runnable.{FitsNodes}
@@ -52,21 +52,21 @@ returns-in-Wait-clause-played g c = λ ready.
     (subst (FitsNodes (length c.args.self.now.nodes.resources.items) (length c.args.self.now.nodes.managers.items) (length c.args.locals.now)) c.in-Wait.is c.requires.fits).1
     c.make_without_node.result c.make_without_node.ensures.passed c.make_without_node.ensures.fault refl refl refl refl c.make_without_node.ensures.nodes c.make_without_node.ensures.waiting c.make_without_node.ensures.clock
 
-pub returns-in-Wait-clause-failed : goal.returns-in-Wait-clause-failed
-returns-in-Wait-clause-failed g c = memory_at (disks_at g.D.Disk.state c.make_without_node.new.self.nodes) c.make_without_node.result c.make_without_node.ensures.fault
-
-pub returns-in-Wait-clause-went : goal.returns-in-Wait-clause-went
-returns-in-Wait-clause-went g c =
-    subst (λ (i : ScheduleItem). OnOk c.make_without_node.result (Went c.args.self.now c.make_without_node.new.self (steps_of i))) (sym c.in-Wait.is)
-    (went_waiting (length c.args.self.now.nodes.managers.items) (length c.args.self.now.nodes.resources.items) (length c.args.self.now.places.items) c.args.self.now (record {
-      nodes = c.args.self.now.nodes;
-      network = c.args.self.now.network;
-      places = c.args.self.now.places;
-      messages = c.args.self.now.messages;
-      clock = c.args.self.now.clock + c.in-Wait.ticks;
-    }) c.make_without_node.new.self c.requires.can.goes (cause.Wait c.in-Wait.ticks) c.in-Wait.ticks
-    (subst (FitsNodes (length c.args.self.now.nodes.resources.items) (length c.args.self.now.nodes.managers.items) (length c.args.locals.now)) c.in-Wait.is c.requires.fits).1
-    c.make_without_node.result c.make_without_node.ensures.passed refl refl refl c.make_without_node.ensures.nodes c.make_without_node.ensures.waiting c.make_without_node.ensures.clock)
+pub returns-in-Wait-clause-gone : goal.returns-in-Wait-clause-gone
+returns-in-Wait-clause-gone g c = record {
+  failed = memory_at (disks_at g.D.Disk.state c.make_without_node.new.self.nodes) c.make_without_node.result c.make_without_node.ensures.fault;
+  went = subst (λ (i : ScheduleItem). OnOk c.make_without_node.result (Went c.args.self.now c.make_without_node.new.self (steps_of i))) (sym c.in-Wait.is)
+      (went_waiting (length c.args.self.now.nodes.managers.items) (length c.args.self.now.nodes.resources.items) (length c.args.self.now.places.items) c.args.self.now (record {
+        nodes = c.args.self.now.nodes;
+        network = c.args.self.now.network;
+        places = c.args.self.now.places;
+        messages = c.args.self.now.messages;
+        clock = c.args.self.now.clock + c.in-Wait.ticks;
+      }) c.make_without_node.new.self c.requires.can.goes (cause.Wait c.in-Wait.ticks) c.in-Wait.ticks
+      (subst (FitsNodes (length c.args.self.now.nodes.resources.items) (length c.args.self.now.nodes.managers.items) (length c.args.locals.now)) c.in-Wait.is c.requires.fits).1
+      c.make_without_node.result c.make_without_node.ensures.passed refl refl refl c.make_without_node.ensures.nodes c.make_without_node.ensures.waiting c.make_without_node.ensures.clock);
+  count = ap (λ v. length v.resources.items) c.make_without_node.ensures.nodes;
+}
 
 -- a stop, a crash and a restart come to a node with disks
 pub make-requires : goal.make-requires

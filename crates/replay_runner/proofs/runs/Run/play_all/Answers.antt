@@ -57,7 +57,7 @@ loop-item-preserved g c =
           c.in_default.ensures.played (record { ready = next_member g.D.Disk.state c.loop-item.self c.args.schedule.now k next here s runs kept.0 kept.1 kept.2; locals_are = listed });
       goes = (
         entries + steps_of next,
-        went_on (length c.args.self.now.nodes.managers.items) (length c.args.self.now.nodes.resources.items) entries (steps_of next) c.loop-item.self c.play.new.self goes c.in_default.ensures.went,
+        went_on (length c.args.self.now.nodes.managers.items) (length c.args.self.now.nodes.resources.items) entries (steps_of next) c.loop-item.self c.play.new.self goes c.in_default.ensures.gone.went,
         omega (arith, room, steps),
       );
     }
@@ -68,7 +68,7 @@ returns-clause-played g c = λ s runs listed same plays.
     (kept.0, kept.1, all_played s c.args.schedule.now kept.0 c.loop-item.item-index (let past = c.loop-item-test.false in omega (arith, past)) kept.2)
 
 pub returns-in-Err-clause-count : goal.returns-in-Err-clause-count
-returns-in-Err-clause-count g c = let (entries, goes, room) = c.loop-item.invariant.goes in c.play.ensures.count ∙ goes.nodes.resource_count
+returns-in-Err-clause-count g c = let (entries, goes, room) = c.loop-item.invariant.goes in c.play.ensures.gone.count ∙ goes.nodes.resource_count
 
 pub returns-clause-count : goal.returns-clause-count
 returns-clause-count g c = let (entries, goes, room) = c.loop-item.invariant.goes in goes.nodes.resource_count

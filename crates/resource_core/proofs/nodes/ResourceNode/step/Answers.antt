@@ -1,7 +1,7 @@
 use Rattle.std.proofs.Common.{refl, arith}
 use Rattle.resource_core.proofs.NodeDisks.{stopped}
 use Rattle.resource_core.proofs.NodeStepped.{ready_by, stepped, missed}
-use Rattle.resource_core.proofs.nodes.Resource.answer.Goals as goal
+use Rattle.resource_core.proofs.nodes.ResourceNode.step.Goals as goal
 
 pub answer-requires-clause-ready : goal.answer-requires-clause-ready
 answer-requires-clause-ready g c = ready_by c.args.self.now c.requires.served.0 c.requires.up c.requires.able

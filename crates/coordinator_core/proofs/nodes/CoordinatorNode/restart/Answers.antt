@@ -1,7 +1,7 @@
 use Rattle.std.proofs.Common.{refl, ap}
 use Rattle.coordinator_core.proofs.Disks.{stopped}
 use Rattle.coordinator_core.proofs.Restarted.{not_back, no_memory, is_back, unit_error}
-use Rattle.coordinator_core.proofs.nodes.Coordinator.restart_in_place.Goals as goal
+use Rattle.coordinator_core.proofs.nodes.CoordinatorNode.restart.Goals as goal
 
 pub returns-in-Err : goal.returns-in-Err
 returns-in-Err g c =

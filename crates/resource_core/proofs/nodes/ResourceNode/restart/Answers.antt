@@ -2,7 +2,7 @@ use Rattle.std.proofs.Common.{ap}
 use Rattle.resource_core.specs.NodeMoving.{with_store}
 use Rattle.resource_core.proofs.NodeDisks.{stopped}
 use Rattle.resource_core.proofs.NodeRestarted.{not_back, restarted_by, unit_error, up_armed}
-use Rattle.resource_core.proofs.nodes.Resource.restart_in_place.Goals as goal
+use Rattle.resource_core.proofs.nodes.ResourceNode.restart.Goals as goal
 
 pub returns-in-Err : goal.returns-in-Err
 returns-in-Err g c =
