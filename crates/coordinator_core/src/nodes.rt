@@ -55,7 +55,7 @@ impl<D: Disk> Coordinator<D> {
     ghost use Rattle.history_rules.specs.Own.{Own};
     ghost use Rattle.history_rules.specs.CoordinatorMemory.{start};
 
-    /// Opens two disks of one size, of the scenario with so many managers and resources. It asks a branch again after `retry`
+    /// Opens two disks, of the scenario with so many managers and resources. It asks a branch again after `retry`
     /// ticks, and forgets a finished transaction after `forget`, or never where that is 0. The disks come back where it fails;
     /// `Full` never comes.
     pub fn open(

@@ -1,6 +1,7 @@
 -- What the trait `Node` promises, in the words of the rules of all nodes.
 use Rattle.std.specs.Prelude.{◌≡◌, ◌⊎◌, ◌+◌, ◌≤◌, ℕ, Bool, true, false, IsSome, List, ◌∷◌, length, Option, Some, None, option_map, Result, Ok, Err}
 use Rattle.disk_model.specs.Disk.{DiskState, SameKind, Rose}
+use Rattle.disk_journal.specs.declared.layout.TheConstants.{SHORTEST}
 use Rattle.journal_checkpoint.specs.Images.{Pair}
 use Rattle.journal_checkpoint.specs.Ends.{EndAt, HasNoPlace}
 use Rattle.seata_types.specs.declared.acts.Act.{Act}
@@ -129,7 +130,7 @@ Overflows stands_for disks size old given now full =
 pub record HasPlace (disks : Pair) (size body : ℕ) : Type 0 where
   pub end : ℕ
   pub held : EndAt disks end
-  pub within : end + body + 6 ≤ size
+  pub within : end + body + SHORTEST ≤ size
 
 -- the record that the rule's answer asks for, if it asks for one, has a place
 abbrev pub Fits : {N : Type 0} → (N → Role → List Own → Type 0) → (disks : Pair) → (size : ℕ) → N → Input → ℕ → Type 0

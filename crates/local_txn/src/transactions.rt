@@ -10,7 +10,7 @@ pub struct OpenTxn {
     pub xid: Xid,
     /// The call, counted from 1; of a guarded local transaction its number.
     pub call: u16,
-    /// The manager that called.
+    /// The manager that called, and what it asked for. Of a guarded local transaction no clause says either.
     pub manager: u16,
     pub work: Work,
     /// What it did to rows, and the rows that it read, both in rising order of their keys.

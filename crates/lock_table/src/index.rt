@@ -23,7 +23,7 @@ fn compare<C: Count>(key: &RowKey, other: &RowKey, steps: &mut C) -> Ordering
     key.cmp(other)
 }
 
-/// The place of a key, or else the place where it belongs, in as many steps as the number of rows has binary digits.
+/// The place of a key, or else the place where it belongs, in at most as many steps as the number of rows has binary digits.
 fn place<C: Count>(rows: &[(RowKey, Xid)], key: &RowKey, steps: &mut C) -> Result<usize, usize>
     requires { IsRising rows.now }
     ensures found { IfOk result (λ i. IsPlace rows.now key.now i) }

@@ -1,5 +1,5 @@
 //! Seata's global lock: which transaction holds a row. One transaction holds a row at a time, by as many of its branches as
-//! it likes. Rows are found by an index in their order, in as many comparisons as the number of held rows has binary
+//! it likes. Rows are found by an index in their order, in at most as many comparisons as the number of held rows has binary
 //! digits.
 #![tactic(auto)]
 

@@ -101,7 +101,7 @@ impl LockTable {
         Ok(())
     }
 
-    /// Who holds a row, in as many steps as the number of held rows has binary digits; takes no memory.
+    /// Who holds a row, in at most as many steps as the number of held rows has binary digits; takes no memory.
     pub fn holder<L: Ledger>(&self, key: &RowKey, steps: &mut Steps<L>) -> Option<Xid>
         ensures holder { result ≡ holder self.now key.now }
         ensures alone { HaveOneHolder self.now }

@@ -135,7 +135,7 @@ impl Node for Manager {
         self.left
     }
 
-    // A manager has no disk: none of these three does anything to it.
+    // A manager has no disk, so nothing is promised of these three, which do nothing.
     fn arm(&mut self, _calls: u32) {}
 
     fn crash(&mut self) {}

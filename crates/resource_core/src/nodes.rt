@@ -50,7 +50,7 @@ impl<D: Disk> Resource<D> {
     ghost use Rattle.resource_core.specs.NodeMoving.{kept_of, Misses, Arms, ArmsWith, Boots, LendsActive};
     ghost use Rattle.resource_core.specs.Shown.{store_of, stands_at, steps_left, is_down};
 
-    /// Opens two disks of one size, of the resource with this number, and writes the record of one more boot. The disks come
+    /// Opens two disks, of the resource with this number, and writes the record of one more boot. The disks come
     /// back where it fails.
     pub fn open(
         alloc: Global,

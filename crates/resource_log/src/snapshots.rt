@@ -178,8 +178,8 @@ fn laid_out(alloc: Global, bytes: &[u8]) -> Result<ResourceSnapshot, SnapshotErr
     }
 }
 
-/// The snapshot that the bytes are, in the layout that is written or in the older one, where a resource with this number
-/// and these tables can have written it: it stands for fewer than `ACTS` acts and no more boots than acts; each row is of
+/// The snapshot that the bytes are, in the layout that is written or in the older one, where it passes these tests, by the
+/// resource's number and tables: it stands for fewer than `ACTS` acts and no more boots than acts; each row is of
 /// one of the tables and has its key's columns, and the rows stand in rising order of table and key; and the images and
 /// reads of its undo records are of rows of these tables.
 pub fn read_snapshot(

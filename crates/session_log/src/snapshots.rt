@@ -196,8 +196,8 @@ fn laid_out(alloc: Global, bytes: &[u8]) -> Result<Snapshot, SnapshotError>
     }
 }
 
-/// The snapshot that the bytes are, in the layout that is written or in an older one, where a coordinator of so many
-/// managers and resources can have written it. That no row has two holders is asked where the rows are taken.
+/// The snapshot that the bytes are, in the layout that is written or in an older one, where it passes the tests of
+/// `specs/Soundness`, as each does that a coordinator of so many managers and resources wrote. That no row has two holders is asked where the rows are taken.
 pub fn read_snapshot(
     alloc: Global,
     body: &[u8],
