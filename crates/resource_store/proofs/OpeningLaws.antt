@@ -149,6 +149,7 @@ module _ {D : Type 0} (state : D → DiskState) where
     makes = λ rs k. absurd (never (counts_boots state s rs k));
     disks = refl;
     knows = tt;
+    lost = λ failed. absurd cc;
     down = up;
     setting = refl;
     found = refl;

@@ -192,6 +192,12 @@ module _ {D : Type 0} (state : D → DiskState) (old new : Store D) (r : Resourc
     knows_by (Ok done) memory = memory
     knows_by (Err e) memory = tt
 
+    lost_by : (result : Result (Unit {0}) StoreError) → ChangesKnown result → result ≡ Err store_error.Failed → known new ≡ after r (known old)
+    lost_by (Ok done) memory failed = memory
+    lost_by (Err store_error.Failed) memory failed = memory
+    lost_by (Err (store_error.Full full)) memory failed = absurd cc
+    lost_by (Err store_error.NoMemory) memory failed = absurd cc
+
     pub changes : (result : Result (Unit {0}) StoreError) → OnOk result Kept → ChangesKnown result → AtAnyMoment → NotBegun →
         OnOk result (Takes state (twin old) (twin new)) → (result ≡ Err store_error.Failed → Falls state (twin old) (twin new)) → IsExact result → HasRoomIfTaken state (length body) result old.kept →
         IsTrue (is_down new) ↔ (result ≡ Err store_error.Failed) → machine_of new.kept ≡ machine_of old.kept → found_of new ≡ found_of old →
@@ -200,6 +206,7 @@ module _ {D : Type 0} (state : D → DiskState) (old new : Store D) (r : Resourc
       makes = makes_by result keeps memory any_moment not_begun exact room;
       disks = moves_by result memory took falls;
       knows = knows_by result memory;
+      lost = lost_by result memory;
       down = failed_down new result down;
       setting = machine;
       found = found;
@@ -207,7 +214,7 @@ module _ {D : Type 0} (state : D → DiskState) (old new : Store D) (r : Resourc
 
 -- nothing changed: memory was refused, or it doesn't fit
 pub changes_nothing : {D : Type 0} (state : D → DiskState) (s : Store D) (r : ResourceRecord) → is_down s ≡ false → Changes state r (Err store_error.NoMemory) s s
-changes_nothing state s r up = record { makes = λ rs k. tt; disks = refl; knows = tt; down = up; setting = refl; found = refl }
+changes_nothing state s r up = record { makes = λ rs k. tt; disks = refl; knows = tt; lost = λ failed. absurd cc; down = up; setting = refl; found = refl }
 
 pub is_full : {D : Type 0} (state : D → DiskState) (s : Store D) (r : ResourceRecord) (body : List ℕ) (full : Full) → is_down s ≡ false → body ≡ record_bytes r →
     ((found : Found) → Keeps state (meaning_of (setting_of s)) found s.kept → IsFullFor state (length body) s.kept full) → Changes state r (Err (store_error.Full full)) s s
@@ -215,6 +222,7 @@ is_full state s r body full up is exact = record {
   makes = λ rs k. subst (λ (bytes : List ℕ). IsFullFor state (length bytes) s.kept full) is (exact k.found k.kept);
   disks = refl;
   knows = tt;
+  lost = λ failed. absurd cc;
   down = up;
   setting = refl;
   found = refl;

@@ -74,10 +74,6 @@ pub record HasPlace (r : ResourceRecord) : Type 0 where
 abbrev pub HasPlaces : Database → List Stmt → (List Image → ResourceRecord) → Type 0
 HasPlaces db stmts with_images = (e : Effect) → effect db stmts ≡ Ok e → HasPlace (with_images e.images)
 
--- where statements have an effect on these tables, its images are ones that a store takes in this record
-abbrev pub TakesEffect : Database → List Stmt → (List Image → ResourceRecord) → Type 0
-TakesEffect db stmts with_images = (e : Effect) → effect db stmts ≡ Ok e → TakesRows db e.images [] (with_images e.images)
-
 -- ---- whatever a store keeps
 
 -- What a call leaves of its store: all stays, or a record that is taken was made, or failed to be.

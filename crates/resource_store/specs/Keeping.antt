@@ -110,6 +110,7 @@ pub record Changes {D : Type 0} (state : D → DiskState) (r : ResourceRecord) (
   pub makes : (rs : List ResourceRecord) → KeepsRecords state (setting_of old) rs old → Makes state r rs result old new
   pub disks : Moves state result old new
   pub knows : OnOk result (known new ≡ after r (known old))
+  pub lost : result ≡ Err store_error.Failed → known new ≡ after r (known old)
   pub down : is_down new ≡ has_failed result
   pub setting : setting_of new ≡ setting_of old
   pub found : found_of new ≡ found_of old
