@@ -114,8 +114,9 @@ pub fn rows_of_chains_are_free_from_the_grant_on()
     ensures { FreeOfChains }
 {}
 
-/// Each finish of the coordinator tells the status of its decision: committed after a commit, rolled back after a rollback,
-/// rolled back by the timeout after that.
+/// Each finish that an entry of the coordinator names, one that is done, one in flight as it goes down or one that its restart
+/// keeps, tells the status of its decision: committed after a commit, rolled back after a rollback, rolled back by the timeout
+/// after that.
 pub fn finishes_tell_the_decision()
     ensures { FinishesLaw }
 {}
