@@ -21,7 +21,7 @@ use Rattle.resource_core.specs.declared.nodes.Resource.{Resource}
 use Rattle.node_seat.specs.declared.faults.RunFault.{RunFault}
 use Rattle.node_seat.specs.declared.faults.RunFault.TheVariants as fault
 use Rattle.scenario_nodes.specs.Nodes.{IsNewCoordinator, coordinator_role, resource_role}
-use Rattle.scenario_nodes.specs.Opening.{IsNotHad, IsNotOpened, IsOpenFault, IsReturned, IsShelfFault}
+use Rattle.scenario_nodes.specs.Opening.{HaveNoEntry, IsNotHad, IsNotOpened, IsOpenFault, IsReturned, IsShelfFault}
 use Rattle.scenario_nodes.specs.Shelves.{AllTell, AreGivenBack, IsDiskName, KeepsOthers, SamePlaces, Showing, coordinator_name, pair_of, second_name}
 use Rattle.replay_runner.specs.declared.members.Member.{Member}
 use Rattle.replay_runner.specs.declared.runs.Run.{Run}
@@ -38,7 +38,7 @@ use Rattle.replay_runner.proofs.Closed.{both_stay, coordinator_back, count_serve
 use Rattle.replay_runner.proofs.Failed.{failure_among, failure_back}
 use Rattle.replay_runner.proofs.Gathered.{gathered}
 use Rattle.replay_runner.proofs.Lists.{drop_all}
-use Rattle.replay_runner.proofs.Shown.{all_left, all_sized, all_show, all_stand, alike_in, count_disks, first_show, first_sized, none_show, none_sized, nth_end, one_shows, one_sized, place_behind, role_behind, show_more, sized_more}
+use Rattle.replay_runner.proofs.Shown.{all_left, all_sized, all_show, all_stand, alike_in, count_disks, first_show, first_sized, none_show, none_sized, nth_end, one_sized, place_behind, role_behind, show_before, sized_more}
 use Rattle.replay_runner.proofs.Taken.{coordinators_alone, next_not_taken, next_taken_too, none_taken, not_coordinators, second_since, taken_on}
 
 -- ---- a whole schedule
@@ -199,7 +199,8 @@ module _ {D : Type 0} (state : D → DiskState) (s : Scenario) where
     disks = [];
     taken = none_taken s old.has_place old.has_place (λ n here. here);
     back = none_back s old.tells old.given_back;
-    device = λ all. none_show s;
+    next = omega arith;
+    device = λ all. none_show s [];
     sized = none_sized s;
     cause = tt;
   })
@@ -211,7 +212,8 @@ module _ {D : Type 0} (state : D → DiskState) (s : Scenario) where
     disks = [];
     taken = not_coordinators s old.has_place new.has_place runs keeps.made n.not_made;
     back = none_back s old.tells new.given_back;
-    device = λ all. none_show s;
+    next = omega arith;
+    device = λ all. none_show s [];
     sized = none_sized s;
     cause = n.cause;
   })
@@ -224,10 +226,11 @@ module _ {D : Type 0} (state : D → DiskState) (s : Scenario) where
     leaves = λ all. inr (record {
       opened = 0;
       count = refl;
-      device = one_shows s (pair_of state g.disks) (g.unopened all).device;
+      device = none_show s (pair_of state g.disks ∷ []);
       sized = one_sized s (pair_of state g.disks) (g.unopened all).sized;
       role = coordinator_role s;
       there = refl;
+      last = (g.unopened all).device;
       cause = (g.unopened all).cause;
     });
   })
@@ -285,7 +288,8 @@ module _ {D : Type 0} (state : D → DiskState) (s : Scenario) where
       taken = subst (AreTaken old.has_place after.has_place s) (sym disks_count)
           (next_not_taken s runs old.has_place begun taken after.has_place (length opened) made_first made_then same have t.def t.there n.not_made);
       back = back;
-      device = λ all. first_show state s all managers resources c new opened first;
+      next = let below = slice_get_within s.resources (length opened) t.def t.there in let size = disks_count in omega (arith, below, size);
+      device = λ all. first_show state s all managers resources c new opened first (length (server_disks c opened)) disks_count;
       sized = first_sized state s managers resources c new opened first;
       cause = subst (λ (p : Place). IsShelfFault p (Rose old.faults after.faults) missed) (sym (place_behind (length opened) (length (server_disks c opened)) disks_count))
           (shelf_fault (place.Res (length opened + 1)) rose (Rose old.faults after.faults) missed grows n.cause);
@@ -310,12 +314,12 @@ module _ {D : Type 0} (state : D → DiskState) (s : Scenario) where
           (inr (record {
             opened = length (map (pair_of state) (server_disks c opened));
             count = let more = length-append (map (pair_of state) (server_disks c opened)) (pair_of state g.disks ∷ []) in omega (arith, more);
-            device = show_more s (map (pair_of state) (server_disks c opened)) (pair_of state g.disks) (resource_role s (length opened + 1) t.def)
-                (role_behind s (length opened) t.def t.there (length (map (pair_of state) (server_disks c opened))) (count_disks state c opened)) (g.unopened all).device
-                (first_show state s all managers resources c new opened first);
+            device = show_before s (map (pair_of state) (server_disks c opened)) (pair_of state g.disks)
+                (first_show state s all managers resources c new opened first (length (map (pair_of state) (server_disks c opened))) (count_disks state c opened));
             sized = sized_more s (map (pair_of state) (server_disks c opened)) (pair_of state g.disks) (g.unopened all).sized (first_sized state s managers resources c new opened first);
             role = resource_role s (length opened + 1) t.def;
             there = role_behind s (length opened) t.def t.there (length (map (pair_of state) (server_disks c opened))) (count_disks state c opened);
+            last = subst (HaveNoEntry (resource_role s (length opened + 1) t.def)) (sym (nth_end (map (pair_of state) (server_disks c opened)) (pair_of state g.disks))) (g.unopened all).device;
             cause = subst (λ (p : Pair). IsOpenFault (resource_role s (length opened + 1) t.def) s.disk p missed) (sym (nth_end (map (pair_of state) (server_disks c opened)) (pair_of state g.disks)))
                 (g.unopened all).cause;
           }));

@@ -1,5 +1,5 @@
 -- What the disks that are given back show.
-use Rattle.std.proofs.Common.{inl, inr, ◌≡◌, ◌⊎◌, ◌+◌, ◌<◌, ◌≤◌, ℕ, zero, suc, nat_lt, Bool, true, false, List, [], ◌∷◌, ◌++◌, length, length-append, map, slice_get, Option, Some, None, option_map, refl, ap, sym, subst, ◌∙◌, arith, add-one}
+use Rattle.std.proofs.Common.{◌≡◌, ◌+◌, ◌<◌, ◌≤◌, ℕ, zero, suc, nat_lt, Bool, true, false, List, [], ◌∷◌, ◌++◌, length, length-append, map, slice_get, Option, Some, None, option_map, refl, ap, sym, subst, ◌∙◌, arith, add-one}
 use Rattle.std.proofs.lemmas.Bool.Decides.{nat_tests}
 use Rattle.std.proofs.lemmas.List.{length-map}
 use Rattle.std.proofs.lemmas.Option.{same_Some, slice_get-map}
@@ -7,19 +7,15 @@ use Rattle.disk_model.specs.Disk.{DiskState}
 use Rattle.journal_checkpoint.specs.Images.{Pair}
 use Rattle.seata_types.specs.declared.ids.Place.{Place}
 use Rattle.seata_types.specs.declared.ids.Place.TheVariants as place
-use Rattle.durable_records.specs.declared.coordinators.SessionRecord.{SessionRecord}
-use Rattle.durable_records.specs.declared.resources.ResourceRecord.{ResourceRecord}
 use Rattle.scenario_reader.specs.declared.scenarios.ResourceDef.{ResourceDef}
 use Rattle.scenario_reader.specs.declared.scenarios.Scenario.{Scenario}
 use Rattle.history_rules.specs.Own.{Own}
-use Rattle.history_rules.specs.CoordinatorMemory.{sessions_left}
 use Rattle.history_rules.specs.Devices.{last_pick}
-use Rattle.history_rules.specs.ResourceMemory.{Setup, boot_over, memory, opening_tables}
 use Rattle.history_rules.specs.Nodes.{Role, counted_at, no_past, role_at}
 use Rattle.history_rules.specs.Nodes.{Coordinator as CoordinatorRole, Manager as ManagerRole, Resource as ResourceRole}
 use Rattle.history_rules.specs.Histories.{Moment, own}
-use Rattle.history_text.specs.Durable.{AreNodeDisks, StandsForLeft, StandsForRecords, keepable, of_coordinator, of_resource}
-use Rattle.history_text.specs.Worlds.{setup_of, world_of}
+use Rattle.history_text.specs.Durable.{AreNodeDisks}
+use Rattle.history_text.specs.Worlds.{world_of}
 use Rattle.coordinator_core.specs.declared.nodes.Coordinator.{Coordinator}
 use Rattle.coordinator_core.specs.Standing as coordinator
 use Rattle.coordinator_core.specs.NodeLaws.{device as coordinator_device}
@@ -31,11 +27,10 @@ use Rattle.manager_core.specs.declared.nodes.Manager.{Manager}
 use Rattle.manager_core.specs.Standing as manager
 use Rattle.node_seat.specs.Entering.{HaveLast}
 use Rattle.scenario_nodes.specs.Nodes.{HaveSize, IsNewCoordinator, coordinator_disks, coordinator_role, resource_disks, resource_role}
-use Rattle.scenario_nodes.specs.Opening.{HaveNoEntry}
 use Rattle.scenario_nodes.specs.Shelves.{AllTell, pair_of}
 use Rattle.replay_runner.specs.declared.members.Member.{Member}
 use Rattle.replay_runner.specs.declared.nodes.Nodes.{Nodes}
-use Rattle.replay_runner.specs.Leaving.{AreLeft, HaveSizes, ShowNoEntry, disks_in, nth_pair, server_at}
+use Rattle.replay_runner.specs.Leaving.{AreLeft, HaveSizes, ShowOpened, disks_in, nth_pair, server_at}
 use Rattle.replay_runner.specs.Opened.{AreFirst, IsNewResourceOf, member_pair, server_disks}
 use Rattle.replay_runner.specs.Standing.{AllStand, AreNodes, HasNode, StandsAt, disks_at, member_disks}
 use Rattle.replay_runner.proofs.Blamed.{Alike}
@@ -165,25 +160,6 @@ module _ {D K : Type 0} (state : D → DiskState) (s : Scenario) (n : Nodes D K)
 
 -- ---- disks of nodes that made no entry
 
-module _ {D : Type 0} (state : D → DiskState) where
-  none_kept : (R : Type 0) (A : Type 0) (r : R) → None ≡ Some r → A
-  none_kept R A r e = absurd (let no : None ≡ Some r = e in cc)
-
-  pub coordinator_none : (s : Scenario) (c : Coordinator D) → coordinator.StandsAs state c (coordinator_role s) [] → HaveNoEntry (coordinator_role s) (pair_of state (coordinator_disks c))
-  coordinator_none s c stands a b first second = by (let d = coordinator_device state c (coordinator_role s) [] stands in d.images a b first second)
-    where
-      by : StandsForLeft of_coordinator (sessions_left [] []) (keepable false [] (sessions_left [] [])) a b → StandsForRecords of_coordinator [] a b
-      by (inl e) = e
-      by (inr (r, is, e)) = none_kept SessionRecord (StandsForRecords of_coordinator [] a b) r is
-
-  pub resource_none : (setup : Setup) (r : Resource D) → resource.StandsAs state r (ResourceRole setup []) [] → HaveNoEntry (ResourceRole setup []) (pair_of state (resource_disks r))
-  resource_none setup r stands a b first second = by (let d = resource_device state r (ResourceRole setup []) [] stands in d.images a b first second)
-    where
-      by : StandsForLeft (of_resource (opening_tables setup)) (memory setup [] []).left (keepable true [] (memory setup [] []).left) a b
-          → StandsForRecords (of_resource (opening_tables setup)) [] a b ⊎ StandsForRecords (of_resource (opening_tables setup)) (boot_over [] ∷ []) a b
-      by (inl e) = inr e
-      by (inr (q, is, e)) = none_kept ResourceRecord _ q is
-
 -- the disks of the k-th node, among those of nodes in order
 in_order : (disks : List Pair) (k : ℕ) → disks_in disks (server_at k) ≡ nth_pair disks k
 in_order disks zero = refl
@@ -198,31 +174,14 @@ pub place_behind : (count k : ℕ) → k ≡ count + 1 → server_at k ≡ place
 place_behind count zero is = absurd (omega (arith, is))
 place_behind count (suc k) is = ap place.Res is
 
-pub none_show : (s : Scenario) → ShowNoEntry s []
-none_show s k role below e = absurd (omega (arith, below))
+-- none was opened
+pub none_show : (s : Scenario) (disks : List Pair) → ShowOpened s 0 disks
+none_show s disks k role below e = absurd (omega (arith, below))
 
--- of the coordinator alone
-pub one_shows : (s : Scenario) (p : Pair) → HaveNoEntry (coordinator_role s) p → ShowNoEntry s (p ∷ [])
-one_shows s p none zero role below e = subst (λ r. HaveNoEntry r p) (same_Some (coordinator_role s) role e) none
-one_shows s p none (suc k) role below e = absurd (omega (arith, below))
-
--- one node more
-pub show_more : (s : Scenario) (disks : List Pair) (p : Pair) (role : Role) → role_at (world_of s) no_past (server_at (length disks)) ≡ Some role → HaveNoEntry role p → ShowNoEntry s disks → ShowNoEntry s (disks ++ p ∷ [])
-show_more s disks p role at none show k other below e = by (nat_lt k (length disks)) refl
-  where
-    size : length (disks ++ p ∷ []) ≡ length disks + 1
-    size = let more = length-append disks (p ∷ []) in omega (arith, more)
-
-    by : (b : Bool) → nat_lt k (length disks) ≡ b → HaveNoEntry other (disks_in (disks ++ p ∷ []) (server_at k))
-    by true t =
-        let lower : k < length disks = grind (arith, nat_tests) in
-        subst (λ (d : Pair). HaveNoEntry other d) (in_order disks k ∙ sym (nth_below disks p k lower) ∙ sym (in_order (disks ++ p ∷ []) k)) (show k other lower e)
-    by false t =
-        let past : length disks ≤ k = grind (arith, nat_tests) in
-        let end : k ≡ length disks = omega (arith, past, below, size) in
-        let same : role ≡ other = same_Some role other (sym at ∙ ap (λ i. role_at (world_of s) no_past (server_at i)) (sym end) ∙ e) in
-        subst (λ (d : Pair). HaveNoEntry other d) (sym (in_order (disks ++ p ∷ []) k ∙ ap (λ i. nth_pair (disks ++ p ∷ []) i) end ∙ nth_end disks p))
-        (subst (λ r. HaveNoEntry r p) same none)
+-- with the disks of a node more, which wasn't opened
+pub show_before : (s : Scenario) (disks : List Pair) (p : Pair) → ShowOpened s (length disks) disks → ShowOpened s (length disks) (disks ++ p ∷ [])
+show_before s disks p show k role below e =
+    subst (λ (d : Pair). AreNodeDisks role [] d) (in_order disks k ∙ sym (nth_below disks p k below) ∙ sym (in_order (disks ++ p ∷ []) k)) (show k role below e)
 
 -- the sizes of their disks
 pub none_sized : (s : Scenario) → HaveSizes s []
@@ -247,23 +206,23 @@ sized_more s disks p sized all k below = by (nat_lt k (length disks)) refl
         let end : k ≡ length disks = omega (arith, past, below, size) in
         subst (λ (d : Pair). HaveSize s.disk d) (sym (ap (λ i. nth_pair (disks ++ p ∷ []) i) end ∙ nth_end disks p)) sized
 
--- the coordinator and the first resources show it
+-- the coordinator and the first resources show that they were opened
 module _ {D K : Type 0} (state : D → DiskState) (s : Scenario) (all : AllTell state) (managers resources : ℕ) (c : Coordinator D) (new : IsNewCoordinator state s managers resources c)
     (opened : List (Member (Resource D) K)) (first : AreFirst (IsNewResourceOf state s) s.resources opened) where
-  kth_shows : (k : ℕ) (role : Role) → k < length opened → role_at (world_of s) no_past (place.Res (suc k)) ≡ Some role → HaveNoEntry role (disks_in (all_disks state c opened) (place.Res (suc k)))
+  kth_shows : (k : ℕ) (role : Role) → k < length opened → role_at (world_of s) no_past (place.Res (suc k)) ≡ Some role → AreNodeDisks role [] (disks_in (all_disks state c opened) (place.Res (suc k)))
   kth_shows k role below e =
       let few = first.few in
       let (m, there) = member_at opened k below in
       let (def, here) = member_at s.resources k (omega (arith, below, few)) in
       let r = first.each k def m here there in
       let same : resource_role s (k + 1) def ≡ role = same_Some (resource_role s (k + 1) def) role (sym (role_of_resource s k def here) ∙ ap (λ i. role_at (world_of s) no_past (place.Res i)) (add-one k) ∙ e) in
-      subst (λ (d : Pair). HaveNoEntry role d) (sym (resource_in state c opened (suc k) m there))
-      (subst (λ x. HaveNoEntry x (pair_of state (resource_disks m.seat.node))) same (resource_none state (setup_of s (k + 1) def) m.seat.node (r.node.stands (r.node.told all))))
+      subst (λ (d : Pair). AreNodeDisks role [] d) (sym (resource_in state c opened (suc k) m there))
+      (subst (λ x. AreNodeDisks x [] (pair_of state (resource_disks m.seat.node))) same (resource_shows state m.seat.node (resource_role s (k + 1) def) [] (r.node.stands (r.node.told all))))
 
-  pub first_show : ShowNoEntry s (all_disks state c opened)
-  first_show zero role below e =
-      subst (λ r. HaveNoEntry r (pair_of state (coordinator_disks c))) (same_Some (coordinator_role s) role e) (coordinator_none state s c (new.stands (new.told all)))
-  first_show (suc k) role below e = let size = count_disks state c opened in kth_shows k role (omega (arith, below, size)) e
+  pub first_show : (count : ℕ) → count ≡ length opened + 1 → ShowOpened s count (all_disks state c opened)
+  first_show count size zero role below e =
+      subst (λ r. AreNodeDisks r [] (pair_of state (coordinator_disks c))) (same_Some (coordinator_role s) role e) (coordinator_shows state c (coordinator_role s) [] (new.stands (new.told all)))
+  first_show count size (suc k) role below e = kth_shows k role (omega (arith, below, size)) e
 
 -- and their disks have the scenario's size
 module _ {D K : Type 0} (state : D → DiskState) (s : Scenario) (managers resources : ℕ) (c : Coordinator D) (new : IsNewCoordinator state s managers resources c)

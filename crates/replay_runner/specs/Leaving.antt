@@ -76,19 +76,20 @@ pub record Broken (s : Scenario) (disks : List Pair) (missed : RunFault) : Type 
   pub sized : HaveSizes s disks
   pub cause : IsCause s history (disks_in disks) missed
 
--- of the first nodes, whose disks these are, none made an entry
-abbrev pub ShowNoEntry : Scenario → List Pair → Type 0
-ShowNoEntry s disks = (k : ℕ) (role : Role) → k < length disks → role_at (world_of s) no_past (server_at k) ≡ Some role → HaveNoEntry role (disks_in disks (server_at k))
+-- so many of the first nodes were opened, and made no entry: their disks show it, those of a resource with its first boot
+abbrev pub ShowOpened : Scenario → (opened : ℕ) → List Pair → Type 0
+ShowOpened s opened disks = (k : ℕ) (role : Role) → k < opened → role_at (world_of s) no_past (server_at k) ≡ Some role → AreNodeDisks role [] (disks_in disks (server_at k))
 
 -- So many nodes were opened, and the next one, whose disks are the last, wasn't: no entry was made, which all disks, of the scenario's size,
--- show.
+-- show; whether its first boot is on the last is left open.
 pub record Unopened (s : Scenario) (disks : List Pair) (missed : RunFault) : Type 0 where
   pub opened : ℕ
   pub count : length disks ≡ opened + 1
-  pub device : ShowNoEntry s disks
+  pub device : ShowOpened s opened disks
   pub sized : HaveSizes s disks
   pub role : Role
   pub there : role_at (world_of s) no_past (server_at opened) ≡ Some role
+  pub last : HaveNoEntry role (nth_pair disks opened)
   pub cause : IsOpenFault role s.disk (nth_pair disks opened) missed
 
 -- a replay that ended since the disks of a node failed: these have counted a fault, whatever they tell
@@ -129,13 +130,14 @@ pub record GivesBack {D : Type 0} (state : D → DiskState) (had has : List ℕ 
   pub counted : CountsFailure (map (pair_of state) disks) result
   pub leaves : AllTell state → Leaves s (map (pair_of state) disks) result
 
--- A disk wasn't had for the node behind those whose disks were taken and given back: the shelf failed, or memory was refused. No entry was
--- made, which these disks, of the scenario's size, show.
+-- A disk wasn't had for the next node of the scenario, behind those whose disks were taken and given back: the shelf failed, or memory was
+-- refused. These were opened, and no entry was made, which their disks, of the scenario's size, show.
 pub record IsNotTaken {D : Type 0} (state : D → DiskState) (had has : List ℕ → Type 0) (tells : Bool) (given_back : List ℕ → D → Type 0) (rose : Type 0) (s : Scenario) (missed : RunFault) : Type 0 where
   pub disks : List (D × D)
   pub taken : AreTaken had has s (length disks)
   pub back : FirstGivenBack tells given_back s disks
-  pub device : AllTell state → ShowNoEntry s (map (pair_of state) disks)
+  pub next : length disks < length s.resources + 1
+  pub device : AllTell state → ShowOpened s (length disks) (map (pair_of state) disks)
   pub sized : HaveSizes s (map (pair_of state) disks)
   pub cause : IsShelfFault (server_at (length disks)) rose missed
 
