@@ -1,6 +1,5 @@
 //! What the disks of a coordinator and of a resource keep: the records, one for each durable act, as plain types. What a
-//! list of them says (transactions, branches, locks, rows, undo records, fences) is in `specs/`, and nothing else is
-//! asked of a disk there.
+//! list of them says (transactions, branches, locks, rows, undo records, fences) is in `specs/`.
 #![tactic(auto)]
 
 pub mod coordinators;

@@ -11,7 +11,8 @@ ghost use Rattle.history_law.specs.Safety.{SafetyLaw, SafetyOfChains};
 ghost use Rattle.history_law.specs.ValueSafety.{ValuesLaw, ValuesOfChains, DirtyLaw, DirtyOfChains};
 ghost use Rattle.history_law.specs.CallSafety.{CallsLaw, CallsOfChains, UnfencedLaw, UnfencedOfChains};
 
-/// At each point of a legal history the coordinator's records are in order: each transaction is decided at most once,
+/// At each point of a legal history, over records each of which may come after those before it, the coordinator's records
+/// are in order: each transaction is decided at most once,
 /// its branches are granted before that and ended after it, it is finished once all of them are; its status changes along
 /// the table; no row has two holders; and a row's holder changes by a grant, an end and a commit alone.
 pub fn sessions_and_holders_are_safe()
@@ -29,7 +30,8 @@ pub fn sessions_of_chains_are_safe()
     ensures { SessionsOfChains }
 {}
 
-/// At each point of a legal history each local commit that isn't undone is covered: its transaction is decided commit, or
+/// At each point of a legal history, over records that are covered, as those of disks without records are, and where each
+/// resource stands at its number, each local commit that isn't undone is covered: its transaction is decided commit, or
 /// holds each row that it touched. Its branch was granted before; open tickets have different rows; a marked branch has no
 /// undo record; and a branch that is ended without a commit has none.
 pub fn local_commits_are_covered()

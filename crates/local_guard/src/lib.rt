@@ -1,5 +1,6 @@
-//! Local transactions outside of any global one. A guarded one waits until the coordinator says that no transaction holds its
-//! rows, as with Seata's `@GlobalLock`; an outside write doesn't ask. Each call is a line of a resource's rules.
+//! Local transactions outside of any global one. A guarded one asks the coordinator for its rows first, as
+//! with Seata's `@GlobalLock`: it commits at the answer that no transaction holds one, and is dropped at the answer that
+//! one does; an outside write doesn't ask. Each call is a line of a resource's rules.
 #![tactic(auto)]
 
 pub mod answers;

@@ -1,4 +1,5 @@
-//! The scenarios of `examples/` with their outputs, and two more; inputs that are refused, with their line.
+//! The scenarios of `examples/` that have no resources, and eight more, with their outputs, and a transfer without its
+//! schedule; frames with their lines; and inputs that are refused, with their line.
 
 pub const REPEATED_MESSAGES: [&str; 2] = [
     r#"{
