@@ -69,7 +69,7 @@ fn items<T: Item>(
     let mut items: Vec<T> = Vec::new(alloc);
     for _ in 0..count {
         let item = next(alloc, keys, &items, fields)?;
-        items.push(item).map_err(|_| FieldError::NoMemory)?;
+        items.push(item)?;
     }
     Ok(List::of(items))
 }

@@ -40,7 +40,7 @@ pub(crate) fn items<T: Listed>(
     let mut items: Vec<T> = Vec::new(alloc);
     for _ in 0..count {
         let (item, rest) = T::next(alloc, layout, &items, after)?;
-        items.push(item).map_err(|_| FieldError::NoMemory)?;
+        items.push(item)?;
         after = rest;
     }
     Ok((List::of(items), after))

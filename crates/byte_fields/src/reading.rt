@@ -99,7 +99,7 @@ pub(crate) fn text(alloc: Global, from: Cursor) -> Result<(Text, Cursor), FieldE
     let Some(text) = plain_text(bytes) else {
         return Err(FieldError::BadText { at: from.at });
     };
-    let text = String::from_str(alloc, text).map_err(|_| FieldError::NoMemory)?;
+    let text = String::from_str(alloc, text)?;
     Ok((Text::of(text), after))
 }
 

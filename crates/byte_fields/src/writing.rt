@@ -13,7 +13,8 @@ pub(crate) fn bytes(out: &mut Vec<u8>, bytes: &[u8]) -> Result<(), NoMemory>
     ensures err { OnErr result (out.new.items ≡ out.old.items) }
     ensures kept { Keeps out.old.items out.new.items }
 {
-    out.extend_from_slice(bytes).map_err(|_| NoMemory)
+    out.extend_from_slice(bytes)?;
+    Ok(())
 }
 
 pub(crate) fn text(out: &mut Vec<u8>, value: &str) -> Result<(), NoMemory>

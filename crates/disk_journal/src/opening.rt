@@ -32,7 +32,9 @@ pub fn read_records<D: Disk>(
     let mut gate = from;
     while let Some(body) = read_record(alloc, disk, gate)? {
         gate += body.as_slice().len() as u64 + RECORD_HEAD_BYTES;
-        records.push(body).map_err(|_| JournalError::NoMemory)?;
+        let Ok(()) = records.push(body) else {
+            return Err(JournalError::NoMemory);
+        };
     }
     Ok((records, gate))
 }

@@ -8,7 +8,8 @@ use std::alloc::Global;
 pub fn zeros(alloc: Global, count: usize) -> Result<Vec<u8>, NoMemory>
     ensures { IfOk result (λ made. made.items ≡ replicate count 0) }
 {
-    vec![in alloc; 0; count].map_err(|_| NoMemory)
+    let bytes = vec![in alloc; 0; count]?;
+    Ok(bytes)
 }
 
 /// Appends bytes for which there is room. It takes no memory.

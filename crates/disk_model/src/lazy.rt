@@ -31,7 +31,7 @@ impl<T: Copy> LazyRow<T> {
         ensures { IfOk result (λ row. row ≡ replicate size blank) }
     {
         Ok(LazyRow {
-            there: Vec::with_capacity(alloc, size).map_err(|_| NoMemory)?,
+            there: Vec::with_capacity(alloc, size)?,
             size,
             blank,
         })

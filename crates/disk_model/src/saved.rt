@@ -33,7 +33,7 @@ impl SavedBytes {
     {
         Ok(SavedBytes {
             present: LazyRow::new(alloc, size, 0)?,
-            saved: Vec::with_capacity(alloc, size).map_err(|_| NoMemory)?,
+            saved: Vec::with_capacity(alloc, size)?,
             from: 0,
         })
     }

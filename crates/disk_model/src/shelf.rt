@@ -80,7 +80,7 @@ impl MemShelf {
         if self.places.contains_key(name) {
             return Ok(());
         }
-        let name = String::from_str(alloc, name).map_err(|_| NoMemory)?;
+        let name = String::from_str(alloc, name)?;
         match self.places.insert(name, None) {
             Ok(_) => Ok(()),
             Err(_) => Err(NoMemory),

@@ -198,5 +198,6 @@ fn with_room<T: Drop>(alloc: Global, count: usize) -> Result<Vec<T>, NoMemory>
     ensures empty { IfOk result (λ made. made.items ≡ []) }
     ensures room { IfOk result (λ made. count ≤ vec_capacity made) }
 {
-    Vec::with_capacity(alloc, count).map_err(|_| NoMemory)
+    let list = Vec::with_capacity(alloc, count)?;
+    Ok(list)
 }

@@ -13,13 +13,15 @@ use seata_types::Message;
 use seata_types::limits::BODY_BYTES;
 use std::alloc::Global;
 
-fn in_frame(fault: FieldError) -> FrameError
-    ensures { result ≡ in_frame fault }
-{
-    match fault {
-        FieldError::Short { at } | FieldError::BadText { at } | FieldError::BadTag { at } =>
-            FrameError::Body { at },
-        FieldError::NoMemory => FrameError::NoMemory,
+impl From<FieldError> for FrameError {
+    ghost from_gives = { λ fault error. error ≡ in_frame fault };
+
+    fn from(fault: FieldError) -> FrameError {
+        match fault {
+            FieldError::Short { at } | FieldError::BadText { at } | FieldError::BadTag { at } =>
+                FrameError::Body { at },
+            FieldError::NoMemory => FrameError::NoMemory,
+        }
     }
 }
 
@@ -57,7 +59,7 @@ fn checked_head(bytes: &[u8]) -> Result<Head, FrameError>
     if bytes.len() < HEAD_BYTES {
         return Err(FrameError::Short { need: HEAD_BYTES });
     }
-    let head = head(&mut Fields::new(bytes)).map_err(in_frame)?;
+    let head = head(&mut Fields::new(bytes))?;
     if head.magic != MAGIC {
         return Err(FrameError::Magic);
     }
@@ -86,7 +88,7 @@ fn message_behind(alloc: Global, head: Head, bytes: &[u8]) -> Result<Message, Fr
 {
     let body = &bytes[HEAD_BYTES..head.full as usize];
     let mut fields = Fields::starting_at(HEAD_BYTES, body);
-    let code = fields.take_u16().map_err(in_frame)?;
+    let code = fields.take_u16()?;
     if !bodies::is_known(code) {
         return Err(FrameError::UnknownType(code));
     }
@@ -96,7 +98,7 @@ fn message_behind(alloc: Global, head: Head, bytes: &[u8]) -> Result<Message, Fr
     if head.codec != CODEC {
         return Err(FrameError::Body { at: CODEC_PLACE });
     }
-    let message = bodies::message(alloc, code, &mut fields).map_err(in_frame)?;
+    let message = bodies::message(alloc, code, &mut fields)?;
     if fields.at() != head.full as usize {
         drop(message);
         return Err(FrameError::Body { at: fields.at() });

@@ -308,7 +308,7 @@ pub(crate) fn frame(alloc: Global, message: &Message, stamp: u32) -> Result<Vec<
     requires { HasFrame message.now stamp }
     ensures { IfOk result (λ bytes. bytes.items ≡ frame_bytes message.now stamp) }
 {
-    let mut body = Vec::with_capacity(alloc, SHORT_BODY).map_err(|_| NoMemory)?;
+    let mut body = Vec::with_capacity(alloc, SHORT_BODY)?;
     put_body(alloc, &mut body, message)?;
     let head = Head {
         magic: MAGIC,
@@ -320,8 +320,8 @@ pub(crate) fn frame(alloc: Global, message: &Message, stamp: u32) -> Result<Vec<
         compressor: 0,
         stamp,
     };
-    let mut bytes = Vec::with_capacity(alloc, HEAD_BYTES + body.len()).map_err(|_| NoMemory)?;
+    let mut bytes = Vec::with_capacity(alloc, HEAD_BYTES + body.len())?;
     put_head(&mut bytes, head)?;
-    bytes.extend_from_slice(&body).map_err(|_| NoMemory)?;
+    bytes.extend_from_slice(&body)?;
     Ok(bytes)
 }

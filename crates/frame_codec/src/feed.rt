@@ -68,7 +68,7 @@ fn cut(alloc: Global, rest: &mut Vec<u8>, used: usize) -> Result<(), NoMemory>
     if used == 0 {
         return Ok(());
     }
-    let tail = Vec::from_slice(alloc, &rest[used..]).map_err(|_| NoMemory)?;
+    let tail = Vec::from_slice(alloc, &rest[used..])?;
     *rest = tail;
     Ok(())
 }
@@ -103,7 +103,7 @@ fn scan_joined(
     ensures err { IfErr result (λ e. rest.new.items ≡ rest.old.items) }
 {
     let kept = rest.len();
-    rest.extend_from_slice(piece).map_err(|_| NoMemory)?;
+    rest.extend_from_slice(piece)?;
     match scan_left(alloc, at, rest) {
         Ok(found) => Ok(found),
         Err(NoMemory) => {

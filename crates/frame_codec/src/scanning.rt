@@ -21,9 +21,8 @@ pub(crate) struct FrontFrames {
 fn push(frames: &mut Vec<Framed>, at: u64, message: Message, stamp: u32) -> Result<(), NoMemory>
     ensures { IfOk result (λ _. frames.new.items ≡ frames.old.items ++ record { at = at; message = message; stamp = stamp } ∷ []) }
 {
-    frames
-        .push(Framed { at, message, stamp })
-        .map_err(|_| NoMemory)
+    frames.push(Framed { at, message, stamp })?;
+    Ok(())
 }
 
 // Keeps the frame that bytes begin with and gives its size, or gives the fault.

@@ -73,7 +73,7 @@ fn so_many(alloc: Global, count: u16, fields: &mut Fields) -> Result<List<Stmt>,
     let mut found: Vec<Stmt> = Vec::new(alloc);
     for _ in 0..count {
         let stmt = statement(alloc, fields)?;
-        found.push(stmt).map_err(|_| FieldError::NoMemory)?;
+        found.push(stmt)?;
     }
     Ok(List::of(found))
 }

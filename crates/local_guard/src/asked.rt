@@ -30,7 +30,7 @@ fn touched(alloc: Global, images: &[Image]) -> Result<Vec<RowKey>, NoMemory>
 {
     let mut keys = Vec::new(alloc);
     for image in images {
-        keys.push(image.key.copy(alloc)?).map_err(|_| NoMemory)?;
+        keys.push(image.key.copy(alloc)?)?;
     }
     Ok(keys)
 }
@@ -48,12 +48,12 @@ fn put(alloc: Global, keys: &mut Vec<RowKey>, key: &RowKey) -> Result<(), NoMemo
 {
     let Some(at) = place(keys.as_slice(), key) else {
         let key = key.copy(alloc)?;
-        keys.push(key).map_err(|_| NoMemory)?;
+        keys.push(key)?;
         return Ok(());
     };
     if key.cmp(&keys[at]).is_lt() {
         let key = key.copy(alloc)?;
-        keys.insert(at, key).map_err(|_| NoMemory)?;
+        keys.insert(at, key)?;
     }
     Ok(())
 }

@@ -101,7 +101,7 @@ fn put_several(
     ensures done { OnOk result (rows.new.entries ≡ put_all rows.old.entries (filter puts (map (side way) images.now))) }
     ensures failed { OnErr result (rows.new.entries ≡ rows.old.entries) }
 {
-    let mut kept = Vec::with_capacity(alloc, images.len()).map_err(|_| NoMemory)?;
+    let mut kept = Vec::with_capacity(alloc, images.len())?;
     for image in images {
         if let Err(error) = put_row(alloc, rows, image, way, &mut kept) {
             put_all_back(rows, kept);
@@ -177,7 +177,7 @@ fn exchange(
         Ok(old) => Ok(Some(old)),
         Err(row) => {
             let key = key.copy(alloc)?;
-            let old = rows.insert(key, row).map_err(|_| NoMemory)?;
+            let old = rows.insert(key, row)?;
             Ok(old)
         }
     }

@@ -106,7 +106,7 @@ fn images(
     let mut images = Vec::new(alloc);
     for (key, after) in changes.into_entries() {
         let image = image_of(alloc, rows, key, after)?;
-        images.push(image).map_err(|_| NoMemory)?;
+        images.push(image)?;
     }
     Ok(List::of(images))
 }
@@ -117,7 +117,7 @@ fn reads_of(alloc: Global, rows: RowMap<Row>) -> Result<List<ReadRow>, NoMemory>
 {
     let mut reads = Vec::new(alloc);
     for (key, row) in rows.into_entries() {
-        reads.push(ReadRow { key, row }).map_err(|_| NoMemory)?;
+        reads.push(ReadRow { key, row })?;
     }
     Ok(List::of(reads))
 }

@@ -44,7 +44,7 @@ pub fn insert<V: Drop>(map: &mut BTreeMap<RowKey, V>, key: RowKey, value: V) -> 
     ensures err { OnErr result (map.new.entries ≡ map.old.entries) }
     ensures in_order { IsRising map.new.entries }
 {
-    map.insert(key, value).map_err(|_| NoMemory)?;
+    map.insert(key, value)?;
     Ok(())
 }
 

@@ -43,8 +43,8 @@ fn is_before(resource: u16, def: &TableDef, key: &RowKey) -> bool
 fn key_above(alloc: Global, resource: u16, def: &TableDef) -> Result<RowKey, NoMemory>
     ensures { IfOk result (λ key. key ≡ key_above resource def.now) }
 {
-    let mut name = String::from_str(alloc, def.name.as_str()).map_err(|_| NoMemory)?;
-    name.push_str("\0").map_err(|_| NoMemory)?;
+    let mut name = String::from_str(alloc, def.name.as_str())?;
+    name.push_str("\0")?;
     Ok(RowKey {
         resource,
         table: Text::of(name),
@@ -163,7 +163,7 @@ fn key_literals(alloc: Global, def: &TableDef, cond: &Cond) -> Result<Option<Lis
         let Some(literal) = literal_at(def, cond, *place) else {
             return Ok(None);
         };
-        values.push(literal.copy(alloc)?).map_err(|_| NoMemory)?;
+        values.push(literal.copy(alloc)?)?;
     }
     Ok(Some(List::of(values)))
 }
@@ -188,7 +188,7 @@ fn listed(alloc: Global, rows: BTreeMap<RowKey, Row>) -> Result<Vec<(RowKey, Row
 {
     let mut list = Vec::new(alloc);
     for (key, row) in rows {
-        list.push((key, row)).map_err(|_| NoMemory)?;
+        list.push((key, row))?;
     }
     Ok(list)
 }
@@ -212,7 +212,7 @@ fn looked_up(
     if let Some(row) = present(rows, changes, &key)
         && is_matched(resource, def, cond, &key, row)
     {
-        found.push((key, row.copy(alloc)?)).map_err(|_| NoMemory)?;
+        found.push((key, row.copy(alloc)?))?;
     }
     Ok(found)
 }

@@ -107,7 +107,8 @@ fn insert_at<V: Drop>(
     ensures ok { OnOk result (entries.new.items ≡ insert entries.old.items place entry) }
     ensures err { OnErr result (entries.new.items ≡ entries.old.items) }
 {
-    entries.insert(place, entry).map_err(|_| NoMemory)
+    entries.insert(place, entry)?;
+    Ok(())
 }
 
 /// The place of a key, or else the place where it belongs.

@@ -59,7 +59,7 @@ impl CallState {
         let count = made.len().min(u32::MAX as usize) as u32;
         insert_made(&mut self.changes, made)?;
         insert_read(&mut self.reads, read)?;
-        self.touched.push(count).map_err(|_| NoMemory)?;
+        self.touched.push(count)?;
         Ok(())
     }
 

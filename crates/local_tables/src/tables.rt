@@ -87,8 +87,7 @@ impl Tables {
     {
         let mut all = Vec::new(alloc);
         for (key, row) in &self.rows {
-            all.push((key.copy(alloc)?, row.copy(alloc)?))
-                .map_err(|_| NoMemory)?;
+            all.push((key.copy(alloc)?, row.copy(alloc)?))?;
         }
         Ok(List::of(all))
     }

@@ -48,7 +48,7 @@ fn tuple_row(
     let mut cells = Vec::new(alloc);
     for column in def.columns.as_slice() {
         if let Some(value) = value_for(columns, tuple, column) {
-            cells.push(value.copy(alloc)?).map_err(|_| NoMemory)?;
+            cells.push(value.copy(alloc)?)?;
         }
     }
     Ok(Row(List::of(cells)))
@@ -70,7 +70,7 @@ pub fn key_values(alloc: Global, def: &TableDef, row: &Row) -> Result<Option<Lis
         let Some(value) = cell_at(row, *place) else {
             return Ok(None);
         };
-        values.push(value.copy(alloc)?).map_err(|_| NoMemory)?;
+        values.push(value.copy(alloc)?)?;
     }
     Ok(Some(List::of(values)))
 }
@@ -105,7 +105,7 @@ fn insertions(
     for tuple in tuples {
         let row = tuple_row(alloc, def, columns, tuple.as_slice())?;
         if let Some((key, row)) = keyed(alloc, resource, def, row)? {
-            changes.push((key, Some(row))).map_err(|_| NoMemory)?;
+            changes.push((key, Some(row)))?;
         }
     }
     Ok(changes)
@@ -123,7 +123,7 @@ fn updates(
     let mut changes = Vec::new(alloc);
     for (key, row) in found {
         let new = updated(alloc, def, sets, &row)?;
-        changes.push((key, new)).map_err(|_| NoMemory)?;
+        changes.push((key, new))?;
     }
     Ok(changes)
 }
@@ -137,7 +137,7 @@ fn removals(
 {
     let mut changes = Vec::new(alloc);
     for (key, _row) in found {
-        changes.push((key, None)).map_err(|_| NoMemory)?;
+        changes.push((key, None))?;
     }
     Ok(changes)
 }

@@ -203,7 +203,7 @@ impl LocalTxns {
         ensures err { OnErr result (self.new ≡ self.old) }
     {
         let ticket = txn.ticket;
-        self.txns.reserve(1).map_err(|_| NoMemory)?;
+        self.txns.reserve(1)?;
         let images = txn.images.as_slice();
         rows::open(alloc, &mut self.rows, images, txn.reads.as_slice(), ticket)?;
         self.txns.push_front_reserved(txn);

@@ -35,7 +35,7 @@ fn copies(alloc: Global, stmts: &[Stmt]) -> Result<List<Stmt>, NoMemory>
 {
     let mut copied = Vec::new(alloc);
     for stmt in stmts {
-        copied.push(stmt.copy(alloc)?).map_err(|_| NoMemory)?;
+        copied.push(stmt.copy(alloc)?)?;
     }
     Ok(List::of(copied))
 }

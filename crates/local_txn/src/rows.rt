@@ -94,7 +94,7 @@ fn put_all<R: OfRow>(
 {
     for item in items {
         let key = item.key().copy(alloc)?;
-        rows.insert(key, ticket).map_err(|_| NoMemory)?;
+        rows.insert(key, ticket)?;
     }
     Ok(())
 }

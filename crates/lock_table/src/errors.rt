@@ -1,5 +1,5 @@
 //! Why rows could not be taken.
-use seata_types::{RowKey, Xid};
+use seata_types::{NoMemory, RowKey, Xid};
 
 #[derive(Drop)]
 pub enum HoldError {
@@ -7,4 +7,15 @@ pub enum HoldError {
     Held { key: RowKey, by: Xid },
     /// Memory was refused.
     NoMemory,
+}
+
+impl From<NoMemory> for HoldError {
+    ghost use Rattle.lock_table.specs.declared.errors.HoldError.TheVariants.{NoMemory as no_memory};
+    ghost use Rattle.std.specs.Prelude.{◌≡◌};
+
+    ghost from_gives = { λ _ error. error ≡ no_memory };
+
+    fn from(_: NoMemory) -> HoldError {
+        HoldError::NoMemory
+    }
 }

@@ -52,7 +52,7 @@ fn push_copies(alloc: Global, out: &mut Vec<RowKey>, keys: &[RowKey]) -> Result<
     ensures { OnOk result (out.new.items ≡ out.old.items ++ keys.now) }
 {
     for key in keys {
-        out.push(key.copy(alloc)?).map_err(|_| NoMemory)?;
+        out.push(key.copy(alloc)?)?;
     }
     Ok(())
 }
@@ -224,7 +224,7 @@ pub(crate) fn listed(alloc: Global, rows: &[(RowKey, Xid)]) -> Result<List<(RowK
 {
     let mut listed = Vec::new(alloc);
     for (key, xid) in rows {
-        listed.push((key.copy(alloc)?, *xid)).map_err(|_| NoMemory)?;
+        listed.push((key.copy(alloc)?, *xid))?;
     }
     Ok(List::of(listed))
 }

@@ -87,16 +87,14 @@ impl LockTable {
         ensures err { IfErr result (λ e. (e ≡ HoldError.NoMemory) × (self.new ≡ self.old)) }
         ensures cost { TakesAtMost (length hold.now) (length (locks self.old) + length hold.now) steps.old steps.new }
     {
-        let keys = holding::copies(alloc, hold).map_err(|_| HoldError::NoMemory)?;
-        let all = holding::with_rows(alloc, &self.holds, leg, hold).map_err(
-            |_| HoldError::NoMemory,
-        )?;
-        self.rows
-            .reserve(hold.len())
-            .map_err(|_| HoldError::NoMemory)?;
-        self.holds
-            .insert(leg, all)
-            .map_err(|_| HoldError::NoMemory)?;
+        let keys = holding::copies(alloc, hold)?;
+        let all = holding::with_rows(alloc, &self.holds, leg, hold)?;
+        let Ok(()) = self.rows.reserve(hold.len()) else {
+            return Err(HoldError::NoMemory);
+        };
+        let Ok(_) = self.holds.insert(leg, all) else {
+            return Err(HoldError::NoMemory);
+        };
         holding::put_all(&mut self.rows, keys, leg.xid, steps);
         Ok(())
     }

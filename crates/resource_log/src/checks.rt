@@ -33,7 +33,7 @@ fn row_keys(
         let Some(key) = row_key(alloc, resource, schema, &named.0, &named.1)? else {
             return Ok(None);
         };
-        keys.push(key).map_err(|_| NoMemory)?;
+        keys.push(key)?;
     }
     Ok(Some(List::of(keys)))
 }

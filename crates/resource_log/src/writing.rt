@@ -132,7 +132,7 @@ pub fn write_record(alloc: Global, item: &ResourceRecord) -> Result<Vec<u8>, NoM
     requires { FitsRecord item.now }
     ensures { IfOk result (λ bytes. bytes.items ≡ record_bytes item.now) }
 {
-    let mut out = Vec::with_capacity(alloc, SHORT_RECORD).map_err(|_| NoMemory)?;
+    let mut out = Vec::with_capacity(alloc, SHORT_RECORD)?;
     put_u8(&mut out, tag(item))?;
     put_fields(&mut out, item)?;
     Ok(out)

@@ -22,7 +22,10 @@ pub(crate) fn enter(log: &mut UndoLog, leg: Leg, entry: UndoEntry) -> Result<(),
     ensures ok { OnOk result (log.new ≡ with_entry log.old leg entry) }
     ensures err { OnErr result (log.new ≡ log.old) }
 {
-    log.put(leg, entry).map_err(|_| NoMemory)
+    let Ok(()) = log.put(leg, entry) else {
+        return Err(NoMemory);
+    };
+    Ok(())
 }
 
 /// A branch commits locally: its images are put, and it has this undo record. After an error all is as before.

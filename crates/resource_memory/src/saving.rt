@@ -18,7 +18,7 @@ pub(crate) fn named_rows(alloc: Global, tables: &Tables) -> Result<List<(Text, R
 {
     let mut rows = Vec::new(alloc);
     for (key, row) in tables.list(alloc)?.into_vec() {
-        rows.push((key.table, row)).map_err(|_| NoMemory)?;
+        rows.push((key.table, row))?;
     }
     Ok(List::of(rows))
 }
@@ -38,7 +38,7 @@ pub(crate) fn undo_items(alloc: Global, log: &UndoLog) -> Result<List<UndoItem>,
 {
     let mut items = Vec::new(alloc);
     for (leg, entry) in log.entries(alloc)?.into_vec() {
-        items.push(undo_item(leg, entry)).map_err(|_| NoMemory)?;
+        items.push(undo_item(leg, entry))?;
     }
     Ok(List::of(items))
 }
@@ -63,9 +63,7 @@ pub(crate) fn fence_items(
 {
     let mut items = Vec::new(alloc);
     for (leg, status) in fence.list(alloc)?.into_vec() {
-        items
-            .push(fence_item(calls, leg, status))
-            .map_err(|_| NoMemory)?;
+        items.push(fence_item(calls, leg, status))?;
     }
     Ok(List::of(items))
 }

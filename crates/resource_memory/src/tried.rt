@@ -43,7 +43,7 @@ impl TriedCalls {
         if call == 0 {
             return Ok(());
         }
-        self.entries.insert(leg, call).map_err(|_| NoMemory)?;
+        self.entries.insert(leg, call)?;
         Ok(())
     }
 

@@ -20,9 +20,8 @@ pub(crate) fn make_room(queue: &mut Queue, plans: usize) -> Result<(), NoMemory>
     ensures ok { OnOk result (plans + 1 ≤ heap_capacity queue.new) }
 {
     let room = (plans + 1).saturating_mul(2);
-    queue
-        .reserve(room.saturating_sub(queue.len()))
-        .map_err(|_| NoMemory)
+    queue.reserve(room.saturating_sub(queue.len()))?;
+    Ok(())
 }
 
 /// Puts a transaction that was planned into the queue of the other plans.

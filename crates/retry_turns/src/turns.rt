@@ -53,7 +53,7 @@ impl Turns {
         if !self.moments.contains_key(&xid.0) {
             queue::make_room(&mut self.queue, self.moments.len())?;
         }
-        self.moments.insert(xid.0, at).map_err(|_| NoMemory)?;
+        self.moments.insert(xid.0, at)?;
         queue::put(&mut self.queue, &self.moments, xid.0, at);
         Ok(())
     }

@@ -52,7 +52,7 @@ pub fn join(alloc: Global, first: &[Image], second: &[Image]) -> Result<List<Ima
     let (mut i, mut j) = (0, 0);
     while i < first.len() || j < second.len() {
         let (image, a, b) = least(alloc, &first[i..], &second[j..])?;
-        joined.push(image).map_err(|_| NoMemory)?;
+        joined.push(image)?;
         i += a;
         j += b;
     }

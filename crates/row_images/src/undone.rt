@@ -22,7 +22,7 @@ pub fn undo_of(alloc: Global, images: &[Image]) -> Result<List<Image>, NoMemory>
 {
     let mut undo = Vec::new(alloc);
     for image in images {
-        undo.push(exchange(alloc, image)?).map_err(|_| NoMemory)?;
+        undo.push(exchange(alloc, image)?)?;
     }
     Ok(List::of(undo))
 }

@@ -66,7 +66,7 @@ impl Cond {
         ensures { IfOk result (λ c. c ≡ tree.And left right) }
     {
         Ok(Cond {
-            node: CondNode::And(Box::new(alloc, (left, right)).map_err(|_| NoMemory)?),
+            node: CondNode::And(Box::new(alloc, (left, right))?),
         })
     }
 
@@ -75,7 +75,7 @@ impl Cond {
         ensures { IfOk result (λ c. c ≡ tree.Or left right) }
     {
         Ok(Cond {
-            node: CondNode::Or(Box::new(alloc, (left, right)).map_err(|_| NoMemory)?),
+            node: CondNode::Or(Box::new(alloc, (left, right))?),
         })
     }
 
@@ -84,7 +84,7 @@ impl Cond {
         ensures { IfOk result (λ c. c ≡ tree.Not inner) }
     {
         Ok(Cond {
-            node: CondNode::Not(Box::new(alloc, inner).map_err(|_| NoMemory)?),
+            node: CondNode::Not(Box::new(alloc, inner)?),
         })
     }
 }

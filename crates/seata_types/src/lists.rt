@@ -50,9 +50,9 @@ impl<T: Duplicate + Drop> Duplicate for List<T> {
     fn copy(&self, alloc: Global) -> Result<Self, NoMemory> {
         let source = self.as_slice();
         // Room for all at once, so that a copy takes no more memory than its items.
-        let mut items = Vec::with_capacity(alloc, source.len()).map_err(|_| NoMemory)?;
+        let mut items = Vec::with_capacity(alloc, source.len())?;
         for item in source {
-            items.push(item.copy(alloc)?).map_err(|_| NoMemory)?;
+            items.push(item.copy(alloc)?)?;
         }
         Ok(List::of(items))
     }

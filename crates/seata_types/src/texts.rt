@@ -50,7 +50,7 @@ impl Text {
 
 impl Duplicate for Text {
     fn copy(&self, alloc: Global) -> Result<Self, NoMemory> {
-        let text = String::from_str(alloc, self.as_str()).map_err(|_| NoMemory)?;
+        let text = String::from_str(alloc, self.as_str())?;
         Ok(Text::of(text))
     }
 }

@@ -164,7 +164,7 @@ fn all_differ<K: Ord + Copy>(alloc: Global, keys: &[K]) -> Result<bool, NoMemory
         if seen.contains(key) {
             return Ok(false);
         }
-        seen.insert(*key).map_err(|_| NoMemory)?;
+        seen.insert(*key)?;
     }
     Ok(true)
 }
@@ -214,7 +214,7 @@ fn push_xids<T: Began>(out: &mut Vec<u64>, items: &[T]) -> Result<(), NoMemory>
     ensures { OnOk result (out.new.items ≡ out.old.items ++ map T.xid items.now) }
 {
     for item in items {
-        out.push(item.xid()).map_err(|_| NoMemory)?;
+        out.push(item.xid())?;
     }
     Ok(())
 }
@@ -223,7 +223,7 @@ fn push_managers<T: Began>(out: &mut Vec<u16>, items: &[T]) -> Result<(), NoMemo
     ensures { OnOk result (out.new.items ≡ out.old.items ++ map T.manager items.now) }
 {
     for item in items {
-        out.push(item.manager()).map_err(|_| NoMemory)?;
+        out.push(item.manager())?;
     }
     Ok(())
 }
@@ -238,11 +238,10 @@ fn push_ticket(out: &mut Vec<TicketKey>, branch: &Branch) -> Result<(), NoMemory
         ..
     } = branch.place;
     match kind {
-        BranchKind::At => out
-            .push(TicketKey { resource, ticket })
-            .map_err(|_| NoMemory),
-        BranchKind::Tcc => Ok(()),
+        BranchKind::At => out.push(TicketKey { resource, ticket })?,
+        BranchKind::Tcc => {}
     }
+    Ok(())
 }
 
 fn push_entry_tickets(out: &mut Vec<TicketKey>, branches: &[Branch]) -> Result<(), NoMemory>
@@ -273,15 +272,14 @@ fn push_call(out: &mut Vec<CallKey>, xid: Xid, branch: &Branch) -> Result<(), No
         ..
     } = branch.place;
     match kind {
-        BranchKind::At => Ok(()),
-        BranchKind::Tcc => out
-            .push(CallKey {
-                xid,
-                resource,
-                call,
-            })
-            .map_err(|_| NoMemory),
+        BranchKind::At => {}
+        BranchKind::Tcc => out.push(CallKey {
+            xid,
+            resource,
+            call,
+        })?,
     }
+    Ok(())
 }
 
 fn push_entry_calls(out: &mut Vec<CallKey>, xid: Xid, branches: &[Branch]) -> Result<(), NoMemory>

@@ -144,7 +144,7 @@ pub(crate) fn xids(alloc: Global, sessions: &[SessionEntry]) -> Result<List<Xid>
 {
     let mut xids = Vec::new(alloc);
     for entry in sessions {
-        xids.push(entry.xid).map_err(|_| NoMemory)?;
+        xids.push(entry.xid)?;
     }
     Ok(List::of(xids))
 }

@@ -76,7 +76,7 @@ impl TicketOwners {
         ensures ok { OnOk result (self.new ≡ insert_entry ticket_order self.old key xid) }
         ensures err { OnErr result (self.new ≡ self.old) }
     {
-        self.owners.insert(key, xid).map_err(|_| NoMemory)?;
+        self.owners.insert(key, xid)?;
         Ok(())
     }
 

@@ -98,8 +98,8 @@ fn put_forgotten(forgotten: &mut Vec<Forgotten>, entry: Forgotten) -> Result<(),
     ensures err { OnErr result (forgotten.new.items ≡ forgotten.old.items) }
 {
     match later_place(forgotten, entry.xid) {
-        Some(at) => forgotten.insert(at, entry).map_err(|_| NoMemory)?,
-        None => forgotten.push(entry).map_err(|_| NoMemory)?,
+        Some(at) => forgotten.insert(at, entry)?,
+        None => forgotten.push(entry)?,
     }
     Ok(())
 }
@@ -138,9 +138,10 @@ pub(crate) fn push_branch(
     ensures err { OnErr result (session.new ≡ session.old) }
 {
     let mut branches = take_items(alloc, &mut session.branches);
-    let result = branches.push(branch).map_err(|_| NoMemory);
+    let pushed = branches.push(branch);
     session.branches = List::of(branches);
-    result
+    pushed?;
+    Ok(())
 }
 
 /// Adds a branch to a transaction, where it is known. After an error all is as before.
@@ -166,7 +167,7 @@ pub(crate) fn copies(alloc: Global, rows: &[RowKey]) -> Result<List<RowKey>, NoM
 {
     let mut copied = Vec::new(alloc);
     for row in rows {
-        copied.push(row.copy(alloc)?).map_err(|_| NoMemory)?;
+        copied.push(row.copy(alloc)?)?;
     }
     Ok(List::of(copied))
 }

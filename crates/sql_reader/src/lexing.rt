@@ -278,7 +278,7 @@ pub fn places(alloc: Global, text: &str) -> Result<Vec<usize>, NoMemory>
             at += 1;
         } else {
             let (_, len) = token_at(text, at);
-            places.push(at).map_err(|_| NoMemory)?;
+            places.push(at)?;
             at += len;
         }
     }

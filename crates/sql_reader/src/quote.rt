@@ -63,7 +63,7 @@ fn value_bytes(alloc: Global, z: &[u8]) -> Result<Option<(Vec<u8>, usize)>, NoMe
                 return Ok(Some((value, at)));
             }
         }
-        value.push(z[at]).map_err(|_| NoMemory)?;
+        value.push(z[at])?;
         at += 1;
     }
     Ok(None)

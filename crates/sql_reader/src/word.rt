@@ -30,7 +30,7 @@ impl<'a> Word<'a> {
     pub fn to_text(&self, alloc: Global) -> Result<Text, NoMemory>
         ensures { IfOk result (λ name. name ≡ self.now) }
     {
-        let name = String::from_str(alloc, self.text).map_err(|_| NoMemory)?;
+        let name = String::from_str(alloc, self.text)?;
         Ok(Text::of(name))
     }
 }

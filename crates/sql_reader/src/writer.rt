@@ -33,7 +33,7 @@ impl Writer {
     pub fn new(alloc: Global) -> Result<Writer, NoMemory>
         ensures { IfOk result (λ w. w ≡ record { text = []; is_tight = true }) }
     {
-        let text = String::with_capacity(alloc, ROOM).map_err(|_| NoMemory)?;
+        let text = String::with_capacity(alloc, ROOM)?;
         Ok(Writer {
             text,
             is_tight: true,
@@ -52,7 +52,8 @@ impl Writer {
         ensures text { OnOk result (self.new.text ≡ self.old.text ++ text.now) }
         ensures same { self.new.is_tight ≡ self.old.is_tight }
     {
-        self.text.push_str(text).map_err(|_| NoMemory)
+        self.text.push_str(text)?;
+        Ok(())
     }
 
     /// A keyword or a mark.
@@ -95,7 +96,7 @@ impl Writer {
         ensures { OnOk result (self.new ≡ spec.put self.old (spec.Number number)) }
     {
         self.space()?;
-        write!(self.text, "{number}").map_err(|_| NoMemory)?;
+        write!(self.text, "{number}")?;
         Ok(())
     }
 
@@ -118,9 +119,9 @@ fn push_doubled(text: &mut String, value: &str) -> Result<(), NoMemory>
 {
     for c in value.chars() {
         if c == '\'' {
-            text.push(c).map_err(|_| NoMemory)?;
+            text.push(c)?;
         }
-        text.push(c).map_err(|_| NoMemory)?;
+        text.push(c)?;
     }
     Ok(())
 }

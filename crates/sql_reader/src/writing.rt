@@ -89,7 +89,8 @@ fn comparison(writer: &mut Writer, column: &Text, op: Op, compared: &Value) -> R
 fn later<'a>(tasks: &mut Vec<Task<'a>>, task: Task<'a>) -> Result<(), NoMemory>
     ensures { OnOk result (tasks.new.items ≡ tasks.old.items ++ task.entry ∷ []) }
 {
-    tasks.push(task).map_err(|_| NoMemory)
+    tasks.push(task)?;
+    Ok(())
 }
 
 /// Puts a part of a condition on the stack, in parentheses where it has to be.

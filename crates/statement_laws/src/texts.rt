@@ -72,7 +72,8 @@ fn tell_sets(sets: &[(Text, Expr)])
 fn later<'a>(parts: &mut Vec<Part<'a>>, cond: &'a Cond) -> Result<(), NoMemory>
     ensures { OnOk result (parts.new.items ≡ parts.old.items ++ cond.now ∷ []) }
 {
-    parts.push(Part::of(cond)).map_err(|_| NoMemory)
+    parts.push(Part::of(cond))?;
+    Ok(())
 }
 
 /// Tells of a comparison; of any other condition puts the parts on the stack.

@@ -54,7 +54,7 @@ impl Fence {
         ensures failed { OnErr result (self.new ≡ self.old) }
         ensures needless { OnErr result (fence_at self.old leg ≡ None) }
     {
-        self.entries.insert(leg, status).map_err(|_| NoMemory)?;
+        self.entries.insert(leg, status)?;
         Ok(())
     }
 
@@ -78,7 +78,7 @@ impl Fence {
     {
         let mut all = Vec::new(alloc);
         for (leg, status) in &self.entries {
-            all.push((*leg, *status)).map_err(|_| NoMemory)?;
+            all.push((*leg, *status))?;
         }
         Ok(List::of(all))
     }

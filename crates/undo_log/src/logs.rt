@@ -49,10 +49,10 @@ impl UndoLog {
         if self.entries.contains_key(&leg) {
             return Err(UndoError::Taken);
         }
-        self.entries
-            .insert(leg, entry)
-            .map_err(|_| UndoError::NoMemory)?;
-        Ok(())
+        match self.entries.insert(leg, entry) {
+            Ok(_) => Ok(()),
+            Err(_) => Err(UndoError::NoMemory),
+        }
     }
 
     /// The entry of a branch; takes no memory.
@@ -99,7 +99,7 @@ impl UndoLog {
     {
         let mut all = Vec::new(alloc);
         for (leg, entry) in &self.entries {
-            all.push((*leg, entry.copy(alloc)?)).map_err(|_| NoMemory)?;
+            all.push((*leg, entry.copy(alloc)?))?;
         }
         Ok(List::of(all))
     }
@@ -152,7 +152,7 @@ fn add_record(alloc: Global, all: &mut Vec<UndoRecord>, entry: &UndoEntry) -> Re
     ensures { OnOk result ((rest : Items Record) → all.new.items ++ rest ≡ all.old.items ++ with_record entry.now rest) }
 {
     if let UndoEntry::Normal(record) = entry {
-        all.push(record.copy(alloc)?).map_err(|_| NoMemory)?;
+        all.push(record.copy(alloc)?)?;
     }
     Ok(())
 }

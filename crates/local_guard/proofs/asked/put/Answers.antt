@@ -18,8 +18,8 @@ returns-in_default c =
     is ∙ put_last c.args.key.now c.args.keys.now.items (no_place (is_from c.args.key.now) c.args.keys.now.items here)
 
 -- it is below the first key that isn't below it
-pub returns-in_ok-map_err-2 : goal.returns-in_ok-map_err-2
-returns-in_ok-map_err-2 c =
+pub returns-in_ok-insert : goal.returns-in_ok-insert
+returns-in_ok-insert c =
     let is : c.insert.new.self.items ≡ take c.in-Some.at c.args.keys.now.items ++ c.args.key.now ∷ drop c.in-Some.at c.args.keys.now.items = grind (arith, common_steps) in
     let value : c.as_slice.result.now ≡ c.args.keys.now.items = c.as_slice.ensures.value in
     let here : first_from c.args.key.now c.args.keys.now.items ≡ Some c.in-Some.at = ap (first_from c.args.key.now) (sym value) ∙ sym c.place.ensures ∙ c.in-Some.is in

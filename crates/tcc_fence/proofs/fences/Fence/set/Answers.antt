@@ -16,8 +16,8 @@ on_err : {T E P : Type 0} (r : Result T E) → P → OnErr r P
 on_err (Ok x) p = tt
 on_err (Err e) p = p
 
-pub returns-in_err-map_err-clause-needless : goal.returns-in_err-map_err-clause-needless
-returns-in_err-map_err-clause-needless c =
+pub returns-in_err-insert-clause-needless : goal.returns-in_err-insert-clause-needless
+returns-in_err-insert-clause-needless c =
     let none : lookup (is_at (order c.args.leg)) c.self.inside.entries.entries ≡ None = search rules in
     on_err c.from_residual.result
     (ap (λ fences. fence_at fences c.args.leg) (sym c.self.view_is) ∙ sym (fences_found c.self.inside.entries.entries c.args.leg) ∙ ap (option_map status_of) none)
