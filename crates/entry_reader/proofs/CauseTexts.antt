@@ -12,7 +12,7 @@ use Rattle.entry_reader.specs.Causes.{cause_of, delivery_of, calls_of}
 use Rattle.entry_reader.specs.Parts.{number_16, number_32, place_of}
 use Rattle.entry_reader.specs.Types.{IsCause}
 use Rattle.entry_reader.specs.Words.{is_empty}
-use Rattle.scenario_reader.specs.Names.{is_node_name}
+use Rattle.scenario_form.specs.Names.{is_node_name}
 use Rattle.entry_reader.specs.Writable.{AreNodeNames, is_place, is_cause}
 use Rattle.entry_reader.proofs.Spells.{one, word, joined, beside, after_word, decimal_piece}
 use Rattle.entry_reader.proofs.Identities.{number-decimal, piece_16, number_16-decimal, piece_32, number_32-decimal}

@@ -11,7 +11,7 @@ use Rattle.history_text.specs.declared.entries.Names.{Names}
 use Rattle.entry_reader.specs.declared.pieces.Separator.TheVariants as at
 use Rattle.entry_reader.specs.Parts.{word_in, numbered_from, number_in, place_by, place_of}
 use Rattle.entry_reader.specs.Types.{Is16, IsPlace}
-use Rattle.scenario_reader.specs.Names.{is_letter, is_word_byte, is_word, is_node_name}
+use Rattle.scenario_form.specs.Names.{is_letter, is_word_byte, is_word, is_node_name}
 use Rattle.entry_reader.specs.Writable.{are_different, AreNodeNames, is_named, is_place}
 use Rattle.entry_reader.proofs.Ascii.{both_left, both_right}
 use Rattle.entry_reader.proofs.Closed.{goes}

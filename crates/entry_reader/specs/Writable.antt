@@ -19,7 +19,7 @@ use Rattle.seata_types.specs.declared.messages.CallAnswer.TheVariants as reply
 use Rattle.seata_types.specs.declared.messages.Registered.{Registered}
 use Rattle.seata_types.specs.declared.messages.Registered.TheVariants as registered
 use Rattle.seata_types.specs.declared.rows.RowKey.{RowKey}
-use Rattle.scenario_reader.specs.Names.{is_node_name}
+use Rattle.scenario_form.specs.Names.{is_node_name}
 use Rattle.history_text.specs.declared.entries.Cause.{Cause}
 use Rattle.history_text.specs.declared.entries.Cause.TheVariants as cause
 use Rattle.history_text.specs.declared.entries.Entry.{Entry}

@@ -54,13 +54,13 @@ pub fn pieces(alloc: Global, text: &[u8], at: Separator) -> Result<Vec<List<u8>>
     for byte in text {
         if ends(at, inside, *byte) {
             let whole = std::mem::replace(&mut piece, Vec::new(alloc));
-            found.push(List::of(whole)).map_err(|_| NoMemory)?;
+            found.push(List::of(whole))?;
         } else {
-            piece.push(*byte).map_err(|_| NoMemory)?;
+            piece.push(*byte)?;
         }
         inside = after(inside, *byte);
     }
-    found.push(List::of(piece)).map_err(|_| NoMemory)?;
+    found.push(List::of(piece))?;
     Ok(found)
 }
 

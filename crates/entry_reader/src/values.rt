@@ -14,7 +14,7 @@ use std::alloc::Global;
 fn copied(alloc: Global, text: &str) -> Result<Text, NoMemory>
     ensures { IfOk result (λ copied. copied ≡ text.now) }
 {
-    let text = String::from_str(alloc, text).map_err(|_| NoMemory)?;
+    let text = String::from_str(alloc, text)?;
     Ok(Text::of(text))
 }
 
@@ -41,7 +41,7 @@ fn unquoted(alloc: Global, text: &[u8]) -> Result<Vec<u8>, NoMemory>
             return Ok(found);
         }
         if is_second || !is_quote {
-            found.push(*byte).map_err(|_| NoMemory)?;
+            found.push(*byte)?;
         }
         is_second = is_quote && !is_second;
     }
@@ -96,7 +96,7 @@ fn literals(alloc: Global, pieces: &[List<u8>]) -> Result<List<Value>, NoMemory>
     let mut found = Vec::new(alloc);
     for piece in pieces {
         let value = literal(alloc, piece.as_slice())?;
-        found.push(value).map_err(|_| NoMemory)?;
+        found.push(value)?;
     }
     Ok(List::of(found))
 }
@@ -157,7 +157,7 @@ fn listed_locks(alloc: Global, resource: u16, pieces: &[List<u8>]) -> Result<Lis
     for piece in pieces {
         let key = lock(alloc, resource, &table, piece.as_slice())?;
         table = key.table.copy(alloc)?;
-        found.push(key).map_err(|_| NoMemory)?;
+        found.push(key)?;
     }
     Ok(List::of(found))
 }
@@ -181,7 +181,7 @@ fn cells(alloc: Global, pieces: &[List<u8>]) -> Result<List<Value>, NoMemory>
     let mut found = Vec::new(alloc);
     for piece in pieces {
         let value = cell(alloc, piece.as_slice())?;
-        found.push(value).map_err(|_| NoMemory)?;
+        found.push(value)?;
     }
     Ok(List::of(found))
 }

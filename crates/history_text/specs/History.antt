@@ -1,6 +1,6 @@
 -- The histories of a scenario, and the entries that are printed of one.
 use Rattle.std.specs.Prelude.{List, [], ◌∷◌, ◌++◌, option_map}
-use Rattle.scenario_reader.specs.declared.scenarios.Scenario.{Scenario}
+use Rattle.scenario_form.specs.declared.scenarios.Scenario.{Scenario}
 use Rattle.history_rules.specs.Nodes.{no_past}
 use Rattle.history_rules.specs.Histories.{Moment, Turn, Deliver, Missing, Wait, Stop, Crash, Restart, Local, Outside}
 use Rattle.history_rules.specs.Histories.{Cause as Reason}

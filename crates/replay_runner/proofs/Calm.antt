@@ -6,8 +6,8 @@ use Rattle.disk_model.specs.Disk.{DiskState}
 use Rattle.journal_checkpoint.specs.Images.{Pair}
 use Rattle.seata_types.specs.declared.ids.Place.{Place}
 use Rattle.seata_types.specs.declared.ids.Place.TheVariants as place
-use Rattle.scenario_reader.specs.declared.scenarios.Scenario.{Scenario}
-use Rattle.scenario_reader.specs.Runnable.{resource_name}
+use Rattle.scenario_form.specs.declared.scenarios.Scenario.{Scenario}
+use Rattle.scenario_form.specs.Runnable.{resource_name}
 use Rattle.history_text.specs.declared.entries.Entry.{Entry}
 use Rattle.history_text.specs.Durable.{own_faults}
 use Rattle.history_text.specs.Promises.{no_disks}

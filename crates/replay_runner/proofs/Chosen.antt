@@ -5,7 +5,7 @@ use Rattle.disk_model.specs.Disk.{DiskState}
 use Rattle.seata_types.specs.declared.ids.Place.{Place}
 use Rattle.seata_types.specs.declared.ids.Place.TheVariants as place
 use Rattle.seata_types.specs.declared.limits.TheConstants.{STEPS}
-use Rattle.scenario_reader.specs.declared.scenarios.Scenario.{Scenario}
+use Rattle.scenario_form.specs.declared.scenarios.Scenario.{Scenario}
 use Rattle.history_rules.specs.Histories.{Moment, Turn}
 use Rattle.history_rules.specs.Schedules.{Item, Auto, DeliverOf, TurnOf, delivery, earliest, is_taken, named, or_turn, places, singles}
 use Rattle.history_text.specs.Worlds.{items_of, world_of}

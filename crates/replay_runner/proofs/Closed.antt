@@ -1,14 +1,14 @@
 -- Disks that are given back, one node after the other.
-use Rattle.std.proofs.Common.{◌≡◌, ◌≢◌, ◌+◌, ◌<◌, ◌≤◌, ℕ, zero, suc, nat_lt, Bool, true, false, List, [], ◌∷◌, ◌++◌, drop, length, length-append, slice_get, Some, None, option_map, refl, ap, sym, subst, ◌∙◌, arith}
+use Rattle.std.proofs.Common.{◌≡◌, ◌+◌, ◌<◌, ◌≤◌, ℕ, zero, suc, nat_lt, Bool, true, false, List, [], ◌∷◌, ◌++◌, drop, length, length-append, slice_get, Some, None, option_map, refl, ap, sym, subst, ◌∙◌, arith}
 use Rattle.std.proofs.lemmas.Bool.Decides.{nat_tests}
 use Rattle.std.proofs.lemmas.List.{length-map}
 use Rattle.std.proofs.lemmas.Option.{same_Some, slice_get-map, slice_get_within}
 use Rattle.std.specs.Prelude.{Vec}
 use Rattle.std.specs.declared.alloc.Global.{Global}
 use Rattle.disk_model.specs.Shelf.{SameUnder}
-use Rattle.scenario_reader.specs.declared.scenarios.ResourceDef.{ResourceDef}
-use Rattle.scenario_reader.specs.declared.scenarios.Scenario.{Scenario}
-use Rattle.scenario_reader.specs.Runnable.{IsRunnable, resource_name}
+use Rattle.scenario_form.specs.declared.scenarios.ResourceDef.{ResourceDef}
+use Rattle.scenario_form.specs.declared.scenarios.Scenario.{Scenario}
+use Rattle.scenario_form.specs.Runnable.{IsRunnable, resource_name}
 use Rattle.history_text.specs.declared.entries.Entry.{Entry}
 use Rattle.coordinator_core.specs.declared.nodes.Coordinator.{Coordinator}
 use Rattle.resource_core.specs.declared.nodes.Resource.{Resource}
@@ -18,7 +18,8 @@ use Rattle.scenario_nodes.proofs.Returned.{all_after, all_same, places_here, pla
 use Rattle.replay_runner.specs.declared.members.Member.{Member}
 use Rattle.replay_runner.specs.Collecting.{AreTracesOf}
 use Rattle.replay_runner.specs.Leaving.{FirstGivenBack, server_names}
-use Rattle.replay_runner.specs.Opened.{AreDefsApart, AreReturned, HaveBoth, IsOfNone, member_pair, server_disks}
+use Rattle.replay_runner.specs.OnShelves.{GivesBackOnly}
+use Rattle.replay_runner.specs.Opened.{AreDefsApart, AreReturned, HaveBoth, IsOfNoServer, IsOfNone, member_pair, server_disks}
 use Rattle.replay_runner.proofs.Gathered.{AreTaken, all_taken, none_taken, one_taken}
 use Rattle.replay_runner.proofs.Lists.{drop_all, drop_below, drop_first, drop_next, snoc_below, snoc_end}
 use Rattle.replay_runner.proofs.Names.{coordinator_of_none}
@@ -71,20 +72,18 @@ taken_more before after defs count size def stay have here both grown k other be
 pub record FirstClosed {D K : Type 0} (old new : Showing D) (defs : List ResourceDef) (resources : List (Member (Resource D) K)) (count : ℕ) : Type 0 where
   pub back : (k : ℕ) (def : ResourceDef) (m : Member (Resource D) K) → k < count → slice_get defs k ≡ Some def → slice_get resources k ≡ Some m
       → AreGivenBack old.tells new.given_back def.name (resource_disks m.seat.node)
-  pub others : (n : List ℕ) → IsOfNone defs count n → SameUnder n old.given_back new.given_back
-  pub places : SamePlaces old.has_place new.has_place
-  pub returned : ReturnsAll old.tells old.has_place new.has_place old.given_back new.given_back
-  pub faults : old.faults ≤ new.faults
-  pub tells : new.tells ≡ old.tells
+  pub only : GivesBackOnly (IsOfNone defs count) old new
 
 pub none_closed : {D K : Type 0} (old : Showing D) (defs : List ResourceDef) (resources : List (Member (Resource D) K)) → FirstClosed old old defs resources 0
 none_closed old defs resources = record {
   back = λ k def m below. absurd (omega (arith, below));
-  others = λ n none. same_here n old.given_back;
-  places = places_here old.has_place;
-  returned = all_same old;
-  faults = omega arith;
-  tells = refl;
+  only = record {
+    others = λ n none. same_here n old.given_back;
+    places = places_here old.has_place;
+    returned = all_same old;
+    faults = omega arith;
+    tells = refl;
+  };
 }
 
 module _ {D K : Type 0} (old now new : Showing D) (defs : List ResourceDef) (resources : List (Member (Resource D) K)) (count : ℕ) (def : ResourceDef) (m : Member (Resource D) K)
@@ -102,20 +101,22 @@ module _ {D K : Type 0} (old now new : Showing D) (defs : List ResourceDef) (res
       let number : k ≡ count = grind (arith, nat_tests) in
       let same_def : def ≡ other = same_Some def other (sym here ∙ ap (slice_get defs) (sym number) ∙ at) in
       let same_member : m ≡ n = same_Some m n (sym there ∙ ap (slice_get resources) (sym number) ∙ found) in
-      subst (λ (t : Bool). AreGivenBack t new.given_back other.name (resource_disks n.seat.node)) c.tells
+      subst (λ (t : Bool). AreGivenBack t new.given_back other.name (resource_disks n.seat.node)) c.only.tells
       (subst (λ (x : Member (Resource D) K). AreGivenBack now.tells new.given_back other.name (resource_disks x.seat.node)) same_member
       (subst (λ (d : ResourceDef). AreGivenBack now.tells new.given_back d.name (resource_disks m.seat.node)) same_def given))
 
   pub one_closed : FirstClosed old new defs resources (count + 1)
   one_closed = record {
     back = λ k other n below at found. stays k other n at found (nat_lt k count) refl below;
-    others = λ n none.
-        let this = none count def (omega arith) here in
-        same_then n old.given_back now.given_back new.given_back (c.others n (λ k other below at. none k other (omega (arith, below)) at)) (keeps.others n this.0 this.1);
-    places = places_then old.has_place now.has_place new.has_place c.places same;
-    returned = all_after old now new c.tells c.returned returned;
-    faults = let one = c.faults in let two = keeps.faults in omega (arith, one, two);
-    tells = keeps.tells ∙ c.tells;
+    only = record {
+      others = λ n none.
+          let this = none count def (omega arith) here in
+          same_then n old.given_back now.given_back new.given_back (c.only.others n (λ k other below at. none k other (omega (arith, below)) at)) (keeps.others n this.0 this.1);
+      places = places_then old.has_place now.has_place new.has_place c.only.places same;
+      returned = all_after old now new c.only.tells c.only.returned returned;
+      faults = let one = c.only.faults in let two = keeps.faults in omega (arith, one, two);
+      tells = keeps.tells ∙ c.only.tells;
+    };
   }
 
 -- ---- all nodes
@@ -182,17 +183,24 @@ none_back s tells given_back = record { few = omega arith; each = λ k name d na
 -- the coordinator's were given back, and then those of resources
 module _ {D K : Type 0} (s : Scenario) (runs : IsRunnable s) (c : Coordinator D) (resources : List (Member (Resource D) K)) (few : length resources ≤ length s.resources) (old now new : Showing D)
     (given : AreGivenBack old.tells now.given_back coordinator_name (coordinator_disks c)) (keeps : KeepsOthers coordinator_name old now)
-    (back : AreReturned now.tells new.given_back s.resources resources)
-    (others : (n : List ℕ) → IsOfNone s.resources (length resources) n → SameUnder n now.given_back new.given_back) where
+    (back : AreReturned now.tells new.given_back s.resources resources) (only : GivesBackOnly (IsOfNone s.resources (length resources)) now new) where
   pub all_back : FirstGivenBack old.tells new.given_back s (server_disks c resources)
   all_back =
       let none = coordinator_of_none s runs (length resources) in
       servers_back s c resources few old.tells new.given_back
-      (both_stay old.tells now.given_back new.given_back coordinator_name (coordinator_disks c) (others coordinator_name none.0) (others (second_name coordinator_name) none.1) given)
+      (both_stay old.tells now.given_back new.given_back coordinator_name (coordinator_disks c) (only.others coordinator_name none.0)
+      (only.others (second_name coordinator_name) none.1) given)
       (subst (λ (t : Bool). AreReturned t new.given_back s.resources resources) keeps.tells back)
 
-  pub all_others : (n : List ℕ) → n ≢ coordinator_name → n ≢ second_name coordinator_name → IsOfNone s.resources (length resources) n → SameUnder n old.given_back new.given_back
-  all_others n first second none = same_then n old.given_back now.given_back new.given_back (keeps.others n first second) (others n none)
+  pub all_only : SamePlaces old.has_place now.has_place → ReturnsAll old.tells old.has_place now.has_place old.given_back now.given_back
+      → GivesBackOnly (IsOfNoServer s.resources (length resources)) old new
+  all_only same returned = record {
+    others = λ n (first, second, none). same_then n old.given_back now.given_back new.given_back (keeps.others n first second) (only.others n none);
+    places = places_then old.has_place now.has_place new.has_place same only.places;
+    returned = all_after old now new keeps.tells returned only.returned;
+    faults = let one = keeps.faults in let two = only.faults in omega (arith, one, two);
+    tells = only.tells ∙ keeps.tells;
+  }
 
 -- ---- resources one by one, with their traces
 
@@ -226,7 +234,7 @@ module _ {D K : Type 0} (old now new : Showing D) (defs : List ResourceDef) (res
   -- the disks of the next one are there to be given back
   pub next_taken : {kept : Bool} {traces : List (Vec Entry Global)} → AreClosing old now defs resources left count kept traces → (def : ResourceDef) → slice_get defs count ≡ Some def
       → HaveBoth old.has_place defs (length resources) → HasBoth now.has_place def.name
-  next_taken c def here have = both_stay_taken old.has_place now.has_place def.name (λ n had. (c.closed.places n).1 had) (have count def (drop_below resources count m rest (whole c)) here)
+  next_taken c def here have = both_stay_taken old.has_place now.has_place def.name (λ n had. (c.closed.only.places n).1 had) (have count def (drop_below resources count m rest (whole c)) here)
 
   pub one_closing : (kept after : Bool) (traces traced : List (Vec Entry Global)) (def : ResourceDef) → AreClosing old now defs resources left count kept traces → slice_get defs count ≡ Some def
       → AreGivenBack now.tells new.given_back def.name (resource_disks m.seat.node) → KeepsOthers def.name now new → SamePlaces now.has_place new.has_place
@@ -251,8 +259,15 @@ module _ {D K : Type 0} (old new : Showing D) (defs : List ResourceDef) (resourc
       let below = slice_get_within resources k m there in
       c.closed.back k def m (omega (arith, most, below)) here there
 
-  pub others_same : (n : List ℕ) → IsOfNone defs (length resources) n → SameUnder n old.given_back new.given_back
-  others_same n away = c.closed.others n (λ k def below here. away k def (let within = c.within in omega (arith, below, within)) here)
+  pub only_returned : GivesBackOnly (IsOfNone defs (length resources)) old new
+  only_returned =
+      let g = c.closed.only in record {
+        others = λ n away. g.others n (λ k def below here. away k def (let within = c.within in omega (arith, below, within)) here);
+        places = g.places;
+        returned = g.returned;
+        faults = g.faults;
+        tells = g.tells;
+      }
 
   pub traces_taken : kept ≡ true → AreTracesOf resources traces
   traces_taken told = all_taken resources left traces (c.taken told) none

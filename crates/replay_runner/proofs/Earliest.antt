@@ -5,10 +5,10 @@ use Rattle.std.proofs.lemmas.Option.{same_Some, slice_get_within}
 use Rattle.disk_model.specs.Disk.{DiskState}
 use Rattle.seata_types.specs.declared.ids.Place.{Place}
 use Rattle.seata_types.specs.declared.ids.Place.TheVariants as place
-use Rattle.scenario_reader.specs.declared.scenarios.ManagerDef.{ManagerDef}
-use Rattle.scenario_reader.specs.declared.scenarios.ResourceDef.{ResourceDef}
-use Rattle.scenario_reader.specs.declared.scenarios.Scenario.{Scenario}
-use Rattle.scenario_reader.specs.Runnable.{IsPlaceAmong}
+use Rattle.scenario_form.specs.declared.scenarios.ManagerDef.{ManagerDef}
+use Rattle.scenario_form.specs.declared.scenarios.ResourceDef.{ResourceDef}
+use Rattle.scenario_form.specs.declared.scenarios.Scenario.{Scenario}
+use Rattle.scenario_form.specs.Runnable.{IsPlaceAmong}
 use Rattle.history_rules.specs.ManagerRules.{Settings}
 use Rattle.history_rules.specs.ResourceMemory.{Setup}
 use Rattle.history_rules.specs.Nodes.{Coordinator as CoordinatorRole, Manager as ManagerRole, Resource as ResourceRole}

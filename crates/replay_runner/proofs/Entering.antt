@@ -3,7 +3,7 @@ use Rattle.std.proofs.Common.{◌≡◌, ◌+◌, ◌-◌, ◌<◌, ◌≤◌, �
 use Rattle.seata_types.specs.declared.ids.Place.{Place}
 use Rattle.seata_types.specs.declared.ids.Place.TheVariants as place
 use Rattle.seata_types.specs.declared.messages.Input.{Input}
-use Rattle.scenario_reader.specs.Runnable.{IsPlaceAmong, IsServerAmong}
+use Rattle.scenario_form.specs.Runnable.{IsPlaceAmong, IsServerAmong}
 use Rattle.history_rules.specs.Own.{Event, Given, Stopped, Crashed, Restarted}
 use Rattle.history_rules.specs.Nodes.{counted_at}
 use Rattle.history_text.specs.declared.entries.Cause.{Cause}

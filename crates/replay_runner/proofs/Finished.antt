@@ -7,9 +7,9 @@ use Rattle.disk_model.specs.Shelf.{SameUnder}
 use Rattle.journal_checkpoint.specs.Images.{Pair}
 use Rattle.seata_types.specs.declared.ids.Place.{Place}
 use Rattle.seata_types.specs.declared.ids.Place.TheVariants as place
-use Rattle.scenario_reader.specs.declared.scenarios.ResourceDef.{ResourceDef}
-use Rattle.scenario_reader.specs.declared.scenarios.Scenario.{Scenario}
-use Rattle.scenario_reader.specs.Runnable.{IsRunnable}
+use Rattle.scenario_form.specs.declared.scenarios.ResourceDef.{ResourceDef}
+use Rattle.scenario_form.specs.declared.scenarios.Scenario.{Scenario}
+use Rattle.scenario_form.specs.Runnable.{IsRunnable}
 use Rattle.history_rules.specs.Nodes.{World, no_past}
 use Rattle.history_rules.specs.Histories.{Moment, own}
 use Rattle.history_rules.specs.Schedules.{Follows, IsStep, Item, singles}

@@ -7,8 +7,8 @@ use Rattle.seata_types.specs.declared.ids.Place.TheVariants as place
 use Rattle.seata_types.specs.declared.messages.Input.TheVariants as input
 use Rattle.seata_types.specs.declared.messages.Message.{Message}
 use Rattle.seata_types.specs.declared.messages.Message.TheVariants as message
-use Rattle.scenario_reader.specs.declared.scenarios.Scenario.{Scenario}
-use Rattle.scenario_reader.specs.Runnable.{IsPlaceAmong}
+use Rattle.scenario_form.specs.declared.scenarios.Scenario.{Scenario}
+use Rattle.scenario_form.specs.Runnable.{IsPlaceAmong}
 use Rattle.durable_records.specs.SessionOrder.{is_counted}
 use Rattle.frame_codec.specs.Limits.{IsFramable}
 use Rattle.history_rules.specs.Nodes.{World, no_past}

@@ -32,5 +32,6 @@ mod Failed
 mod Starting
 mod Returning
 mod Taken
+mod OpeningMore
 mod Finished
 pub mod Calm

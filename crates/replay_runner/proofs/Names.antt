@@ -9,11 +9,11 @@ use Rattle.std.proofs.lemmas.Map.Keys.{IsDistinct-head, IsDistinct-tail}
 use Rattle.std.proofs.lemmas.Option.{get_or_from_slice_get, same_Some, slice_get-map, slice_get_within}
 use Rattle.seata_types.specs.Orders.{same_text}
 use Rattle.local_tables.proofs.KeyLaws.{same_text_itself}
-use Rattle.scenario_reader.specs.declared.scenarios.ResourceDef.{ResourceDef}
-use Rattle.scenario_reader.specs.declared.scenarios.Scenario.{Scenario}
-use Rattle.scenario_reader.specs.Contents.{IsResource}
-use Rattle.scenario_reader.specs.Names.{is_letter, is_node_name, is_word, is_word_byte}
-use Rattle.scenario_reader.specs.Runnable.{IsRunnable, manager_name, node_names, resource_name}
+use Rattle.scenario_form.specs.declared.scenarios.ResourceDef.{ResourceDef}
+use Rattle.scenario_form.specs.declared.scenarios.Scenario.{Scenario}
+use Rattle.scenario_form.specs.Contents.{IsResource}
+use Rattle.scenario_form.specs.Names.{is_letter, is_node_name, is_word, is_word_byte}
+use Rattle.scenario_form.specs.Runnable.{IsRunnable, manager_name, node_names, resource_name}
 use Rattle.scenario_nodes.specs.Shelves.{coordinator_name, second_name}
 use Rattle.replay_runner.specs.Opened.{AreApart, AreDefsApart, IsOfNone}
 

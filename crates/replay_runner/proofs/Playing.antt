@@ -5,11 +5,11 @@ use Rattle.seata_types.specs.declared.ids.Place.{Place}
 use Rattle.seata_types.specs.declared.ids.Place.TheVariants as place
 use Rattle.seata_types.specs.declared.messages.Input.TheVariants as input
 use Rattle.seata_types.specs.declared.statements.Stmt.{Stmt}
-use Rattle.scenario_reader.specs.declared.scenarios.Scenario.{Scenario}
-use Rattle.scenario_reader.specs.declared.scenarios.ScheduleItem.{ScheduleItem}
-use Rattle.scenario_reader.specs.Contents.{IsBetween}
-use Rattle.scenario_reader.specs.Steps.{all_steps, steps_of}
-use Rattle.scenario_reader.specs.Runnable.{IsPlaceAmong, IsRunnable, IsServerAmong}
+use Rattle.scenario_form.specs.declared.scenarios.Scenario.{Scenario}
+use Rattle.scenario_form.specs.declared.scenarios.ScheduleItem.{ScheduleItem}
+use Rattle.scenario_form.specs.Contents.{IsBetween}
+use Rattle.scenario_form.specs.Runnable.{all_steps, steps_of}
+use Rattle.scenario_form.specs.Runnable.{IsPlaceAmong, IsRunnable, IsServerAmong}
 use Rattle.history_rules.specs.Own.{Event, Stopped, Crashed, Restarted}
 use Rattle.history_rules.specs.Nodes.{ComesTo, Role, no_past, role_at}
 use Rattle.history_rules.specs.Histories.{Moment}

@@ -2,9 +2,9 @@
 use Rattle.std.proofs.Common.{◌≡◌, ◌⊎◌, ◌+◌, ◌≤◌, ℕ, suc, Bool, List, length, slice_get, Some, IsTrue, inl, inr, refl, ap, ◌∙◌, arith}
 use Rattle.std.proofs.lemmas.Option.{slice_get-map}
 use Rattle.std.specs.Prelude.{option_map}
-use Rattle.scenario_reader.specs.declared.scenarios.ResourceDef.{ResourceDef}
-use Rattle.scenario_reader.specs.declared.scenarios.Scenario.{Scenario}
-use Rattle.scenario_reader.specs.Runnable.{resource_name}
+use Rattle.scenario_form.specs.declared.scenarios.ResourceDef.{ResourceDef}
+use Rattle.scenario_form.specs.declared.scenarios.Scenario.{Scenario}
+use Rattle.scenario_form.specs.Runnable.{resource_name}
 use Rattle.coordinator_core.specs.declared.nodes.Coordinator.{Coordinator}
 use Rattle.resource_core.specs.declared.nodes.Resource.{Resource}
 use Rattle.scenario_nodes.specs.Shelves.{HasDisk, IsDiskName, coordinator_name}

@@ -7,8 +7,8 @@ use Rattle.disk_model.specs.Disk.{DiskState}
 use Rattle.journal_checkpoint.specs.Images.{Pair}
 use Rattle.seata_types.specs.declared.ids.Place.{Place}
 use Rattle.seata_types.specs.declared.ids.Place.TheVariants as place
-use Rattle.scenario_reader.specs.declared.scenarios.ResourceDef.{ResourceDef}
-use Rattle.scenario_reader.specs.declared.scenarios.Scenario.{Scenario}
+use Rattle.scenario_form.specs.declared.scenarios.ResourceDef.{ResourceDef}
+use Rattle.scenario_form.specs.declared.scenarios.Scenario.{Scenario}
 use Rattle.history_rules.specs.Own.{Own}
 use Rattle.history_rules.specs.Devices.{last_pick}
 use Rattle.history_rules.specs.Nodes.{Role, counted_at, no_past, role_at}

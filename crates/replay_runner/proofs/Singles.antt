@@ -1,8 +1,8 @@
 -- How many single steps a schedule has.
 use Rattle.std.proofs.Common.{◌≡◌, ℕ, zero, suc, List, [], ◌∷◌, length, map, refl, arith, length-append}
-use Rattle.scenario_reader.specs.declared.scenarios.ScheduleItem.{ScheduleItem}
-use Rattle.scenario_reader.specs.declared.scenarios.ScheduleItem.TheVariants as step
-use Rattle.scenario_reader.specs.Steps.{all_steps, steps_of}
+use Rattle.scenario_form.specs.declared.scenarios.ScheduleItem.{ScheduleItem}
+use Rattle.scenario_form.specs.declared.scenarios.ScheduleItem.TheVariants as step
+use Rattle.scenario_form.specs.Runnable.{all_steps, steps_of}
 use Rattle.history_rules.specs.Schedules.{Auto, singles, singles_of, times}
 use Rattle.history_text.specs.Worlds.{item_of}
 

@@ -2,12 +2,12 @@
 use Rattle.std.proofs.Common.{◌≡◌, ℕ, zero, suc, List, All, length, slice_get, Some, None, ap, sym, subst, ◌∙◌, arith}
 use Rattle.std.proofs.lemmas.Option.{get_or_from_slice_get, slice_get_within}
 use Rattle.seata_types.specs.declared.statements.Stmt.{Stmt}
-use Rattle.scenario_reader.specs.declared.scenarios.ResourceDef.{ResourceDef}
-use Rattle.scenario_reader.specs.declared.scenarios.Scenario.{Scenario}
-use Rattle.scenario_reader.specs.declared.scenarios.ScheduleItem.{ScheduleItem}
-use Rattle.scenario_reader.specs.Contents.{IsBetween, IsLocal, resource_numbered}
-use Rattle.scenario_reader.specs.Runnable.{FitsNodes, IsRunnable}
-use Rattle.scenario_reader.specs.Steps.{all_steps}
+use Rattle.scenario_form.specs.declared.scenarios.ResourceDef.{ResourceDef}
+use Rattle.scenario_form.specs.declared.scenarios.Scenario.{Scenario}
+use Rattle.scenario_form.specs.declared.scenarios.ScheduleItem.{ScheduleItem}
+use Rattle.scenario_form.specs.Contents.{IsBetween, IsLocal, resource_numbered}
+use Rattle.scenario_form.specs.Runnable.{FitsNodes, IsRunnable}
+use Rattle.scenario_form.specs.Runnable.{all_steps}
 use Rattle.replay_runner.specs.declared.runs.Run.{Run}
 use Rattle.replay_runner.specs.Going.{AreLocals, CanGo, Goes}
 

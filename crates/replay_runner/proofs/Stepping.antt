@@ -6,7 +6,7 @@ use Rattle.seata_types.specs.declared.ids.Place.TheVariants as place
 use Rattle.seata_types.specs.declared.limits.TheConstants.{TICKS}
 use Rattle.seata_types.specs.declared.messages.Input.{Input}
 use Rattle.seata_types.specs.declared.messages.Input.TheVariants as input
-use Rattle.scenario_reader.specs.declared.scenarios.Scenario.{Scenario}
+use Rattle.scenario_form.specs.declared.scenarios.Scenario.{Scenario}
 use Rattle.history_rules.specs.Nodes.{Role, no_past, role_at}
 use Rattle.history_rules.specs.Histories.{Missing, Wait, same_place}
 use Rattle.history_rules.specs.Schedules.{DeliverOf, WaitFor, delivery}

@@ -11,8 +11,8 @@ use Rattle.seata_types.specs.declared.messages.Message.TheVariants as message
 use Rattle.seata_types.specs.declared.rows.RowKey.{RowKey}
 use Rattle.seata_types.specs.declared.statements.Stmt.{Stmt}
 use Rattle.seata_types.specs.declared.limits.TheConstants.{LATEST_MOMENT}
-use Rattle.scenario_reader.specs.Contents.{IsBetween}
-use Rattle.scenario_reader.specs.Runnable.{IsPlaceAmong, IsServerAmong}
+use Rattle.scenario_form.specs.Contents.{IsBetween}
+use Rattle.scenario_form.specs.Runnable.{IsPlaceAmong, IsServerAmong}
 use Rattle.durable_records.specs.SessionOrder.{has_resource, is_counted}
 use Rattle.history_text.specs.declared.entries.Cause.{Cause}
 use Rattle.history_text.specs.Framing.{ComesFramable}

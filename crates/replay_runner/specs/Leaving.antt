@@ -4,8 +4,8 @@ use Rattle.disk_model.specs.Disk.{DiskState, Rose}
 use Rattle.journal_checkpoint.specs.Images.{Pair}
 use Rattle.seata_types.specs.declared.ids.Place.{Place}
 use Rattle.seata_types.specs.declared.ids.Place.TheVariants as place
-use Rattle.scenario_reader.specs.declared.scenarios.Scenario.{Scenario}
-use Rattle.scenario_reader.specs.Runnable.{resource_name}
+use Rattle.scenario_form.specs.declared.scenarios.Scenario.{Scenario}
+use Rattle.scenario_form.specs.Runnable.{resource_name}
 use Rattle.history_rules.specs.Own.{Own}
 use Rattle.history_rules.specs.Nodes.{Role, Coordinator, Resource, Manager, no_past, role_at}
 use Rattle.history_rules.specs.Histories.{Moment, own, Legal}

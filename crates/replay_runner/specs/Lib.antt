@@ -9,4 +9,5 @@ pub mod Plays
 pub mod Ends
 pub mod Opened
 pub mod Leaving
+pub mod OnShelves
 pub mod Collecting

@@ -3,9 +3,9 @@ use Rattle.std.specs.Prelude.{◌≡◌, ◌≢◌, ◌⊎◌, ◌+◌, ◌<◌,
 use Rattle.std.specs.declared.alloc.Global.{Global}
 use Rattle.disk_model.specs.Disk.{DiskState}
 use Rattle.seata_types.specs.declared.ids.Place.TheVariants as place
-use Rattle.scenario_reader.specs.declared.scenarios.ManagerDef.{ManagerDef}
-use Rattle.scenario_reader.specs.declared.scenarios.ResourceDef.{ResourceDef}
-use Rattle.scenario_reader.specs.declared.scenarios.Scenario.{Scenario}
+use Rattle.scenario_form.specs.declared.scenarios.ManagerDef.{ManagerDef}
+use Rattle.scenario_form.specs.declared.scenarios.ResourceDef.{ResourceDef}
+use Rattle.scenario_form.specs.declared.scenarios.Scenario.{Scenario}
 use Rattle.coordinator_core.specs.declared.nodes.Coordinator.{Coordinator}
 use Rattle.resource_core.specs.declared.nodes.Resource.{Resource}
 use Rattle.manager_core.specs.declared.nodes.Manager.{Manager}
@@ -48,6 +48,10 @@ AreDefsApart defs = (j k : ℕ) (a b : ResourceDef) → j ≢ k → slice_get de
 -- a name of no disk of the first of these resources
 abbrev pub IsOfNone : List ResourceDef → (count : ℕ) → List ℕ → Type 0
 IsOfNone defs count name = (k : ℕ) (def : ResourceDef) → k < count → slice_get defs k ≡ Some def → (name ≢ def.name) × (name ≢ second_name def.name)
+
+-- nor of the coordinator
+abbrev pub IsOfNoServer : List ResourceDef → (count : ℕ) → List ℕ → Type 0
+IsOfNoServer defs count name = (name ≢ coordinator_name) × (name ≢ second_name coordinator_name) × IsOfNone defs count name
 
 -- a name of a disk of one of them
 pub record IsOfOne (defs : List ResourceDef) (count : ℕ) (name : List ℕ) : Type 0 where

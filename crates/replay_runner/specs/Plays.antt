@@ -8,8 +8,8 @@ use Rattle.seata_types.specs.declared.limits.TheConstants.{STEPS, TICKS}
 use Rattle.seata_types.specs.declared.messages.Input.{Input}
 use Rattle.seata_types.specs.declared.messages.Step.{Step}
 use Rattle.seata_types.specs.declared.statements.Stmt.{Stmt}
-use Rattle.scenario_reader.specs.declared.scenarios.Scenario.{Scenario}
-use Rattle.scenario_reader.specs.Runnable.{IsRunnable}
+use Rattle.scenario_form.specs.declared.scenarios.Scenario.{Scenario}
+use Rattle.scenario_form.specs.Runnable.{IsRunnable}
 use Rattle.history_rules.specs.Own.{Event, still}
 use Rattle.history_rules.specs.Nodes.{ComesTo, Role, no_past, role_at}
 use Rattle.history_rules.specs.Histories.{Moment, brings, Legal, ReceivesLater, Stands}

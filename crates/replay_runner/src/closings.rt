@@ -1,15 +1,16 @@
 //! The nodes of a replay that ended: their disks go back to the shelf, and their traces are gathered.
-ghost use Rattle.std.specs.Prelude.{◌≡◌, ◌≢◌, ◌≤◌, ◌++◌, ◌∷◌, [], ℕ, true, List as Items, Vec as TheVec, IfOk, length};
+ghost use Rattle.std.specs.Prelude.{◌≡◌, ◌≤◌, ◌++◌, ◌∷◌, [], true, List as Items, Vec as TheVec, IfOk, length};
 ghost use Rattle.std.specs.declared.alloc.Global.{Global as TheGlobal};
-ghost use Rattle.disk_model.specs.Shelf.{SameUnder};
-ghost use Rattle.scenario_reader.specs.Runnable.{IsRunnable};
+ghost use Rattle.scenario_form.specs.Runnable.{IsRunnable};
 ghost use Rattle.history_rules.specs.Histories.{Moment};
 ghost use Rattle.history_text.specs.declared.entries.Entry.{Entry as TheEntry};
 ghost use Rattle.history_text.specs.History.{entries};
-ghost use Rattle.scenario_nodes.specs.Shelves.{ReturnsAll, SamePlaces, coordinator_name, second_name};
+ghost use Rattle.scenario_nodes.specs.Nodes.{resource_disks};
+ghost use Rattle.scenario_nodes.specs.Shelves.{HasBoth, second_name, showing};
 ghost use Rattle.replay_runner.specs.Collecting.{AreTraces, AreTracesOf, trace_of};
 ghost use Rattle.replay_runner.specs.Leaving.{FirstGivenBack};
-ghost use Rattle.replay_runner.specs.Opened.{AreAll, AreDefsApart, AreReturned, HaveBoth, HaveTaken, IsOfNone, IsSecondName, server_disks};
+ghost use Rattle.replay_runner.specs.OnShelves.{ClosesNode, GivesBackOnly};
+ghost use Rattle.replay_runner.specs.Opened.{AreAll, AreDefsApart, AreReturned, HaveBoth, HaveTaken, IsOfNoServer, IsOfNone, IsSecondName, server_disks};
 ghost use Rattle.replay_runner.specs.Traces.{places_of};
 
 use crate::collecting::{Traces, collected, put};
@@ -21,8 +22,8 @@ use history_text::Entry;
 use manager_core::Manager;
 use node_seat::RunName;
 use resource_core::Resource;
+use scenario_form::{ResourceDef, Scenario};
 use scenario_nodes::{close_coordinator, close_resource};
-use scenario_reader::{ResourceDef, Scenario};
 use seata_types::{List, NoMemory};
 use std::alloc::Global;
 
@@ -31,6 +32,24 @@ fn keep(traces: &mut Vec<Vec<Entry>>, trace: List<Entry>) -> bool
     ensures { result ≡ true → (kept : TheVec TheEntry TheGlobal) × (kept.items ≡ trace) × (traces.new.items ≡ traces.old.items ++ kept ∷ []) }
 {
     put(traces, trace.into_vec()).is_ok()
+}
+
+/// Gives back the disks of a resource, whose second name this is, and adds its trace, if there is memory.
+fn close_member<H: Shelf, K: RunName>(
+    shelf: &mut H,
+    def: &ResourceDef,
+    second: &str,
+    member: Member<Resource<H::D>, K>,
+    traces: &mut Vec<Vec<Entry>>,
+) -> bool
+    requires second { second.now ≡ second_name def.now.name }
+    requires both { HasBoth (H.has_place shelf.old) def.now.name }
+    ensures closed { ClosesNode def.now.name (resource_disks member.seat.node) (showing H.has_place H.given_back H.faults H.tells shelf.old) (showing H.has_place H.given_back H.faults H.tells shelf.new) }
+    ensures kept { result ≡ true → (kept : TheVec TheEntry TheGlobal) × (kept.items ≡ member.seat.trace) × (traces.new.items ≡ traces.old.items ++ kept ∷ []) }
+{
+    let (resource, trace) = member.seat.finish();
+    close_resource(shelf, def.name.as_str(), second, resource);
+    keep(traces, trace)
 }
 
 /// Gives back the disks of each resource, whose second names these are, and gathers the traces.
@@ -46,19 +65,13 @@ fn close_resources<H: Shelf, K: RunName>(
     requires apart { AreDefsApart defs.now }
     requires taken { HaveBoth (H.has_place shelf.old) defs.now (length resources.items) }
     ensures back { AreReturned (H.tells shelf.old) (H.given_back shelf.new) defs.now resources.items }
-    ensures others { (n : Items ℕ) → IsOfNone defs.now (length resources.items) n → SameUnder n (H.given_back shelf.old) (H.given_back shelf.new) }
-    ensures places { SamePlaces (H.has_place shelf.old) (H.has_place shelf.new) }
-    ensures returned { ReturnsAll (H.tells shelf.old) (H.has_place shelf.old) (H.has_place shelf.new) (H.given_back shelf.old) (H.given_back shelf.new) }
-    ensures faults { H.faults shelf.old ≤ H.faults shelf.new }
-    ensures tells { H.tells shelf.new ≡ H.tells shelf.old }
+    ensures only { GivesBackOnly (IsOfNone defs.now (length resources.items)) (showing H.has_place H.given_back H.faults H.tells shelf.old) (showing H.has_place H.given_back H.faults H.tells shelf.new) }
     ensures traces { IfOk result (λ traces. AreTracesOf resources.items traces.items) }
 {
     let mut traces = Vec::new(alloc);
     let mut kept = true;
     for (k, member) in resources.into_iter().enumerate() {
-        let (resource, trace) = member.seat.finish();
-        close_resource(shelf, defs[k].name.as_str(), seconds[k].as_str(), resource);
-        kept &= keep(&mut traces, trace);
+        kept &= close_member(shelf, &defs[k], seconds[k].as_str(), member, &mut traces);
     }
     if kept { Ok(traces) } else { Err(NoMemory) }
 }
@@ -78,12 +91,7 @@ pub fn close_servers<H: Shelf, K: RunName>(
     requires seconds { AreAll IsSecondName scenario.now.resources seconds.now }
     requires taken { HaveTaken (H.has_place shelf.old) scenario.now.resources (length resources.items) }
     ensures back { FirstGivenBack (H.tells shelf.old) (H.given_back shelf.new) scenario.now (server_disks coordinator resources.items) }
-    ensures others { (n : Items ℕ) → n ≢ coordinator_name → n ≢ second_name coordinator_name → IsOfNone scenario.now.resources (length resources.items) n
-        → SameUnder n (H.given_back shelf.old) (H.given_back shelf.new) }
-    ensures places { SamePlaces (H.has_place shelf.old) (H.has_place shelf.new) }
-    ensures returned { ReturnsAll (H.tells shelf.old) (H.has_place shelf.old) (H.has_place shelf.new) (H.given_back shelf.old) (H.given_back shelf.new) }
-    ensures faults { H.faults shelf.old ≤ H.faults shelf.new }
-    ensures tells { H.tells shelf.new ≡ H.tells shelf.old }
+    ensures only { GivesBackOnly (IsOfNoServer scenario.now.resources (length resources.items)) (showing H.has_place H.given_back H.faults H.tells shelf.old) (showing H.has_place H.given_back H.faults H.tells shelf.new) }
     ensures traces { IfOk result (λ traces. AreTracesOf resources.items traces.items) }
 {
     close_coordinator(shelf, coordinator);
@@ -119,8 +127,7 @@ pub fn close<H: Shelf, K: RunName>(
     requires seconds { AreAll IsSecondName scenario.now.resources seconds.now }
     requires taken { HaveTaken (H.has_place shelf.old) scenario.now.resources (length run.nodes.resources.items) }
     ensures back { FirstGivenBack (H.tells shelf.old) (H.given_back shelf.new) scenario.now (server_disks run.nodes.coordinator.seat.node run.nodes.resources.items) }
-    ensures places { SamePlaces (H.has_place shelf.old) (H.has_place shelf.new) }
-    ensures returned { ReturnsAll (H.tells shelf.old) (H.has_place shelf.old) (H.has_place shelf.new) (H.given_back shelf.old) (H.given_back shelf.new) }
+    ensures only { GivesBackOnly (IsOfNoServer scenario.now.resources (length run.nodes.resources.items)) (showing H.has_place H.given_back H.faults H.tells shelf.old) (showing H.has_place H.given_back H.faults H.tells shelf.new) }
     ensures history { IfOk result (λ history. (ms : Items Moment) → run.places.items ≡ places_of ms → AreTraces (trace_of run.network.items run.nodes) ms → history ≡ entries ms) }
 {
     let Run {

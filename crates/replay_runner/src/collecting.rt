@@ -24,7 +24,7 @@ pub struct Traces {
 pub fn put<T: Drop>(list: &mut Vec<T>, item: T) -> Result<(), NoMemory>
     ensures { OnOk result (list.new.items ≡ list.old.items ++ item ∷ []) }
 {
-    list.push(item).map_err(|_| NoMemory)?;
+    list.push(item)?;
     Ok(())
 }
 
@@ -85,7 +85,7 @@ pub fn collected(alloc: Global, places: &[Place], traces: Traces) -> Result<List
     ensures { IfOk result (λ history. (ms : Items Moment) → places.now ≡ places_of ms → AreTraces (trace_at traces) ms → history ≡ entries ms) }
 {
     let mut traces = traces;
-    let mut history = Vec::with_capacity(alloc, places.len()).map_err(|_| NoMemory)?;
+    let mut history = Vec::with_capacity(alloc, places.len())?;
     for k in 0..places.len() {
         // The newest entry first.
         traces.move_newest(from_end(places, k), &mut history)?;

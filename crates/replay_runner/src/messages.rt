@@ -94,8 +94,8 @@ impl Messages {
         ensures taken { OnOk result (self.new.taken.items ≡ self.old.taken.items ++ false ∷ []) }
         ensures waiting { self.new.waiting ≡ self.old.waiting }
     {
-        self.taken.push(false).map_err(|_| NoMemory)?;
-        self.letters.push(letter).map_err(|_| NoMemory)?;
+        self.taken.push(false)?;
+        self.letters.push(letter)?;
         Ok(())
     }
 

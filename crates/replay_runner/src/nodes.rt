@@ -23,7 +23,7 @@ pub struct Nodes<D: Disk, K: RunName> {
 
 impl<D: Disk, K: RunName> Nodes<D, K> {
     ghost use Rattle.std.specs.Prelude.{◌≡◌, ◌+◌, ℕ, length, IfErr, OnOk};
-    ghost use Rattle.scenario_reader.specs.Runnable.{IsPlaceAmong};
+    ghost use Rattle.scenario_form.specs.Runnable.{IsPlaceAmong};
     ghost use Rattle.replay_runner.specs.Going.{CanEnter, NodesGo};
     ghost use Rattle.replay_runner.specs.Ends.{HaveCountedAt};
     ghost use Rattle.replay_runner.specs.Entering.{Comes, Entered, IsEarliest};

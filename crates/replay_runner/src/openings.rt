@@ -1,11 +1,10 @@
 //! The nodes of a scenario on the disks of a shelf.
-ghost use Rattle.std.specs.Prelude.{◌≡◌, ◌⊎◌, ◌<◌, ◌≤◌, ◌+◌, [], ℕ, List as Items, IfOk, IfErr, OnOk, OnErr, length};
-ghost use Rattle.disk_model.specs.Disk.{Rose};
-ghost use Rattle.scenario_reader.specs.Runnable.{IsRunnable};
-ghost use Rattle.history_rules.specs.Nodes.{no_past};
+ghost use Rattle.std.specs.Prelude.{◌≡◌, ◌<◌, ◌+◌, [], IfOk, IfErr, OnOk, OnErr, length};
+ghost use Rattle.scenario_form.specs.Runnable.{IsRunnable};
 ghost use Rattle.history_text.specs.Worlds.{world_of};
-ghost use Rattle.scenario_nodes.specs.Shelves.{ReturnsBut};
-ghost use Rattle.replay_runner.specs.Opened.{AreAll, AreFirst, HaveBoth, IsNewManagerOf, IsNewResourceOf, IsOfOne, IsSecondName, StopsOpening};
+ghost use Rattle.scenario_nodes.specs.Shelves.{showing};
+ghost use Rattle.replay_runner.specs.OnShelves.{CanOpen, OpensFirst, StopsBetween};
+ghost use Rattle.replay_runner.specs.Opened.{AreAll, AreFirst, HaveBoth, IsNewManagerOf, IsNewResourceOf, IsSecondName};
 
 use crate::collecting::put;
 use crate::members::Member;
@@ -13,8 +12,8 @@ use disk_model::Shelf;
 use manager_core::Manager;
 use node_seat::{RunFault, RunName};
 use resource_core::Resource;
+use scenario_form::{ResourceDef, Scenario};
 use scenario_nodes::{new_manager, open_resource, second_name};
-use scenario_reader::{ResourceDef, Scenario};
 use seata_types::NoMemory;
 use std::alloc::Global;
 
@@ -55,24 +54,15 @@ fn open_next<H: Shelf, K: RunName>(
     k: usize,
     opened: &mut Vec<Member<Resource<H::D>, K>>,
 ) -> Result<(), RunFault>
-    requires runnable { IsRunnable scenario.now }
-    requires world { K.world ≡ world_of scenario.now }
-    requires past { K.past ≡ no_past }
-    requires seconds { AreAll IsSecondName scenario.now.resources seconds.now }
+    requires can { CanOpen K.world K.past scenario.now seconds.now }
     requires there { k < length scenario.now.resources }
     requires next { length opened.old.items ≡ k }
     requires opened { AreFirst (IsNewResourceOf H.D.state scenario.now) scenario.now.resources opened.old.items }
     requires taken { HaveBoth (H.has_place shelf.old) scenario.now.resources k }
-    ensures opened { AreFirst (IsNewResourceOf H.D.state scenario.now) scenario.now.resources opened.new.items }
+    ensures opens { OpensFirst H.D.state scenario.now (showing H.has_place H.given_back H.faults H.tells shelf.old) (showing H.has_place H.given_back H.faults H.tells shelf.new) opened.new.items (k + 1) }
     ensures more { OnOk result (length opened.new.items ≡ k + 1) }
     ensures same { OnErr result (opened.new.items ≡ opened.old.items) }
-    ensures taken { HaveBoth (H.has_place shelf.new) scenario.now.resources (length opened.new.items) }
-    ensures refused { IfErr result (StopsOpening H.D.state (H.has_place shelf.old) (H.has_place shelf.new) (H.tells shelf.old) (H.given_back shelf.new) (Rose (H.faults shelf.old) (H.faults shelf.new)) scenario.now k) }
-    ensures places { (n : Items ℕ) → H.has_place shelf.old n → H.has_place shelf.new n }
-    ensures made { (n : Items ℕ) → H.has_place shelf.new n → H.has_place shelf.old n ⊎ IsOfOne scenario.now.resources (k + 1) n }
-    ensures out { ReturnsBut (IsOfOne scenario.now.resources (length opened.new.items)) (H.tells shelf.old) (H.has_place shelf.old) (H.has_place shelf.new) (H.given_back shelf.old) (H.given_back shelf.new) }
-    ensures faults { H.faults shelf.old ≤ H.faults shelf.new }
-    ensures tells { H.tells shelf.new ≡ H.tells shelf.old }
+    ensures refused { IfErr result (StopsBetween H.D.state (showing H.has_place H.given_back H.faults H.tells shelf.old) (showing H.has_place H.given_back H.faults H.tells shelf.new) scenario.now k) }
 {
     if opened.reserve(1).is_err() {
         return Err(RunFault::NoMemory);
@@ -96,20 +86,11 @@ pub fn open_resources<H: Shelf, K: RunName>(
     seconds: &[String],
     opened: &mut Vec<Member<Resource<H::D>, K>>,
 ) -> Result<(), RunFault>
-    requires runnable { IsRunnable scenario.now }
-    requires world { K.world ≡ world_of scenario.now }
-    requires past { K.past ≡ no_past }
-    requires seconds { AreAll IsSecondName scenario.now.resources seconds.now }
+    requires can { CanOpen K.world K.past scenario.now seconds.now }
     requires none { opened.old.items ≡ [] }
-    ensures opened { AreFirst (IsNewResourceOf H.D.state scenario.now) scenario.now.resources opened.new.items }
+    ensures opens { OpensFirst H.D.state scenario.now (showing H.has_place H.given_back H.faults H.tells shelf.old) (showing H.has_place H.given_back H.faults H.tells shelf.new) opened.new.items (length opened.new.items + 1) }
     ensures whole { OnOk result (length opened.new.items ≡ length scenario.now.resources) }
-    ensures taken { HaveBoth (H.has_place shelf.new) scenario.now.resources (length opened.new.items) }
-    ensures refused { IfErr result (StopsOpening H.D.state (H.has_place shelf.old) (H.has_place shelf.new) (H.tells shelf.old) (H.given_back shelf.new) (Rose (H.faults shelf.old) (H.faults shelf.new)) scenario.now (length opened.new.items)) }
-    ensures places { (n : Items ℕ) → H.has_place shelf.old n → H.has_place shelf.new n }
-    ensures made { (n : Items ℕ) → H.has_place shelf.new n → H.has_place shelf.old n ⊎ IsOfOne scenario.now.resources (length opened.new.items + 1) n }
-    ensures out { ReturnsBut (IsOfOne scenario.now.resources (length opened.new.items)) (H.tells shelf.old) (H.has_place shelf.old) (H.has_place shelf.new) (H.given_back shelf.old) (H.given_back shelf.new) }
-    ensures faults { H.faults shelf.old ≤ H.faults shelf.new }
-    ensures tells { H.tells shelf.new ≡ H.tells shelf.old }
+    ensures refused { IfErr result (StopsBetween H.D.state (showing H.has_place H.given_back H.faults H.tells shelf.old) (showing H.has_place H.given_back H.faults H.tells shelf.new) scenario.now (length opened.new.items)) }
 {
     for k in 0..seconds.len() {
         if let Err(fault) = open_next(alloc, scenario, shelf, seconds, k, opened) {

@@ -1,10 +1,11 @@
 //! Replays on the disks of a shelf.
-ghost use Rattle.std.specs.Prelude.{◌≡◌, Err, IfErr, IfOk, IsTrue, List as Items, OnErr, OnOk, length, ℕ};
-ghost use Rattle.scenario_reader.specs.Runnable.{IsRunnable};
+ghost use Rattle.std.specs.Prelude.{◌≡◌, IsTrue, List as Items, length, ℕ};
+ghost use Rattle.scenario_form.specs.Runnable.{IsRunnable};
 ghost use Rattle.history_rules.specs.Nodes.{no_past};
 ghost use Rattle.history_text.specs.Worlds.{world_of};
-ghost use Rattle.scenario_nodes.specs.Shelves.{HasDisk, ReturnsAll, ReturnsBut, showing};
+ghost use Rattle.scenario_nodes.specs.Shelves.{HasDisk, ReturnsAll, showing};
 ghost use Rattle.replay_runner.specs.Leaving.{GivesBack, IsCalmEnd, IsCalmShelf, Replays};
+ghost use Rattle.replay_runner.specs.OnShelves.{CanOpen, OpensNodes};
 ghost use Rattle.replay_runner.specs.Opened.{AreAll, AreNewNodes, HaveTaken, IsNewManagerOf, IsOfServer, IsSecondName};
 
 use crate::closings::{close, close_servers};
@@ -16,8 +17,8 @@ use disk_model::Shelf;
 use history_text::Entry;
 use manager_core::Manager;
 use node_seat::{RunFault, RunName};
+use scenario_form::Scenario;
 use scenario_nodes::open_coordinator;
-use scenario_reader::Scenario;
 use seata_types::{List, NoMemory};
 use std::alloc::Global;
 use std::marker::Brand;
@@ -30,17 +31,9 @@ fn open_nodes<H: Shelf, K: RunName>(
     seconds: &[String],
     managers: Vec<Member<Manager, K>>,
 ) -> Result<Nodes<H::D, K>, RunFault>
-    requires runnable { IsRunnable scenario.now }
-    requires world { K.world ≡ world_of scenario.now }
-    requires past { K.past ≡ no_past }
-    requires seconds { AreAll IsSecondName scenario.now.resources seconds.now }
+    requires can { CanOpen K.world K.past scenario.now seconds.now }
     requires managers { AreAll (IsNewManagerOf scenario.now) scenario.now.managers managers.items }
-    ensures new { IfOk result (AreNewNodes H.D.state scenario.now) }
-    ensures taken { OnOk result (HaveTaken (H.has_place shelf.new) scenario.now.resources (length scenario.now.resources)) }
-    ensures refused { IfErr result (λ missed. Replays H.D.state (showing H.has_place H.given_back H.faults H.tells shelf.old) (showing H.has_place H.given_back H.faults H.tells shelf.new) scenario.now (Err missed)) }
-    ensures out { OnOk result (ReturnsBut (IsOfServer scenario.now.resources (length scenario.now.resources)) (H.tells shelf.old) (H.has_place shelf.old) (H.has_place shelf.new) (H.given_back shelf.old) (H.given_back shelf.new)) }
-    ensures returned { OnErr result (ReturnsAll (H.tells shelf.old) (H.has_place shelf.old) (H.has_place shelf.new) (H.given_back shelf.old) (H.given_back shelf.new)) }
-    ensures tells { H.tells shelf.new ≡ H.tells shelf.old }
+    ensures opens { OpensNodes H.D.state scenario.now (showing H.has_place H.given_back H.faults H.tells shelf.old) (showing H.has_place H.given_back H.faults H.tells shelf.new) result }
 {
     let coordinator = match open_coordinator(alloc, scenario, shelf) {
         Ok(coordinator) => coordinator,

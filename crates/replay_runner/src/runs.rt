@@ -2,7 +2,7 @@
 ghost use Rattle.std.specs.Prelude.{◌≡◌, ◌-◌, ℕ, Some, List as Items, length, slice_get};
 ghost use Rattle.seata_types.specs.declared.ids.Place.TheVariants as places;
 ghost use Rattle.seata_types.specs.declared.statements.Stmt.{Stmt as TheStmt};
-ghost use Rattle.scenario_reader.specs.Contents.{IsBetween};
+ghost use Rattle.scenario_form.specs.Contents.{IsBetween};
 
 use crate::messages::{Delivery, Letter, Messages};
 use crate::nodes::Nodes;
@@ -10,7 +10,7 @@ use crate::receivers::fits;
 use disk_model::Disk;
 use history_text::{Cause, Entry};
 use node_seat::{RunFault, RunName};
-use scenario_reader::ScheduleItem;
+use scenario_form::ScheduleItem;
 use seata_types::{Act, Input, List, NoMemory, Place, Stmt};
 use std::alloc::Global;
 
@@ -37,9 +37,9 @@ fn place_of(locals: &[(u16, List<Stmt>)], number: u16) -> Place
 impl<D: Disk, K: RunName> Run<D, K> {
     ghost use Rattle.std.specs.Prelude.{◌≡◌, ◌<◌, ◌+◌, ◌++◌, ◌∷◌, [], false, length, All, IfErr, OnOk, Some, option_map};
     ghost use Rattle.seata_types.specs.declared.limits.TheConstants.{STEPS};
-    ghost use Rattle.scenario_reader.specs.declared.scenarios.Scenario.{Scenario as TheScenario};
-    ghost use Rattle.scenario_reader.specs.Runnable.{FitsNodes, IsPlaceAmong, IsRunnable};
-    ghost use Rattle.scenario_reader.specs.Steps.{all_steps, steps_of};
+    ghost use Rattle.scenario_form.specs.declared.scenarios.Scenario.{Scenario as TheScenario};
+    ghost use Rattle.scenario_form.specs.Runnable.{FitsNodes, IsPlaceAmong, IsRunnable};
+    ghost use Rattle.scenario_form.specs.Runnable.{all_steps, steps_of};
     ghost use Rattle.frame_codec.specs.Limits.{IsFramable};
     ghost use Rattle.history_rules.specs.Schedules.{Auto, DeliverOf, TurnOf, singles_of, times};
     ghost use Rattle.history_text.specs.Worlds.{item_of};
@@ -84,7 +84,7 @@ impl<D: Disk, K: RunName> Run<D, K> {
         ensures clock { self.new.clock ≡ self.old.clock }
     {
         self.messages.add(letter)?;
-        self.places.push(place).map_err(|_| NoMemory)?;
+        self.places.push(place)?;
         Ok(())
     }
 

@@ -11,10 +11,10 @@ use Rattle.seata_types.specs.declared.statements.Stmt.{Stmt}
 use Rattle.seata_types.specs.declared.statements.Work.{Work}
 use Rattle.seata_types.specs.declared.statements.Work.TheVariants as work
 use Rattle.local_tables.specs.declared.schemas.Schema.{Schema}
-use Rattle.scenario_reader.specs.declared.scenarios.ResourceDef.{ResourceDef}
-use Rattle.scenario_reader.specs.declared.scenarios.Scenario.{Scenario}
-use Rattle.scenario_reader.specs.Contents.{AreStatements, IsCall, IsLocal}
-use Rattle.scenario_reader.specs.Runnable.{IsManager, IsRunnable}
+use Rattle.scenario_form.specs.declared.scenarios.ResourceDef.{ResourceDef}
+use Rattle.scenario_form.specs.declared.scenarios.Scenario.{Scenario}
+use Rattle.scenario_form.specs.Contents.{AreStatements, IsCall, IsLocal}
+use Rattle.scenario_form.specs.Runnable.{IsManager, IsRunnable}
 use Rattle.history_rules.specs.Nodes.{counted_at}
 use Rattle.report_text.specs.Numbered.{AreFew, call_in, call_at, statements_in, statements_at, tries_in, tries_at, action_in, action_at, confirms_in, confirms_at, cancels_in, cancels_at, local_in, local_at}
 use Rattle.report_text.specs.Opens.{Works, HasFew, HaveFew}

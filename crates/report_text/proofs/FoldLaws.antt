@@ -5,7 +5,7 @@ use Rattle.seata_types.specs.declared.ids.Place.TheVariants as place
 use Rattle.seata_types.specs.declared.messages.Step.{Step}
 use Rattle.seata_types.specs.declared.statements.Stmt.{Stmt}
 use Rattle.durable_records.specs.RowsKept.{tables}
-use Rattle.scenario_reader.specs.declared.scenarios.Scenario.{Scenario}
+use Rattle.scenario_form.specs.declared.scenarios.Scenario.{Scenario}
 use Rattle.history_rules.specs.Own.{Event, added}
 use Rattle.history_rules.specs.CoordinatorMemory.{session_record}
 use Rattle.history_rules.specs.Histories.{Moment, Cause, own, own_if, brings, HappensAt, IsDone, Stands, coordinator_left, memory_at}

@@ -7,7 +7,7 @@ use Rattle.seata_types.specs.declared.ids.Place.{Place}
 use Rattle.seata_types.specs.declared.ids.Place.TheVariants as place
 use Rattle.local_tables.specs.Rows.{Database}
 use Rattle.durable_records.specs.declared.resources.ResourceRecord.{ResourceRecord}
-use Rattle.scenario_reader.specs.declared.scenarios.Scenario.{Scenario}
+use Rattle.scenario_form.specs.declared.scenarios.Scenario.{Scenario}
 use Rattle.history_rules.specs.CoordinatorMemory.{sessions_left, session_asked}
 use Rattle.history_rules.specs.Chains.{IsBlankPast}
 use Rattle.history_rules.specs.Own.{Event, Own, Left, added, kept_part, leaves}

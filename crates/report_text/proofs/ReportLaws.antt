@@ -1,8 +1,8 @@
 -- What is kept of the entries of a legal history, from the first to the last, and the report that is printed of it.
 use Rattle.std.proofs.Common.{◌≡◌, ◌+◌, ◌<◌, ◌^◌, ℕ, zero, suc, List, [], ◌∷◌, ◌++◌, length, slice_get, Some, option_map, refl, sym, ap, ◌∙◌, subst, arith}
 use Rattle.local_tables.specs.Rows.{Database, opened}
-use Rattle.scenario_reader.specs.declared.scenarios.ResourceDef.{ResourceDef}
-use Rattle.scenario_reader.specs.declared.scenarios.Scenario.{Scenario}
+use Rattle.scenario_form.specs.declared.scenarios.ResourceDef.{ResourceDef}
+use Rattle.scenario_form.specs.declared.scenarios.Scenario.{Scenario}
 use Rattle.resource_memory.specs.Known.{known_of}
 use Rattle.history_law.proofs.CoverChains.{covers_first}
 use Rattle.history_rules.specs.Histories.{Moment, Legal, memory_at}

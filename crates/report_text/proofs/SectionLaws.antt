@@ -13,7 +13,7 @@ use Rattle.durable_records.specs.Transactions.{Session as Began, sessions, is_fo
 use Rattle.local_tables.specs.Rows.{Database, Rows}
 use Rattle.local_tables.specs.declared.schemas.TableDef.{TableDef}
 use Rattle.lock_table.specs.Locks.{locks as rows_held}
-use Rattle.scenario_reader.specs.declared.scenarios.Scenario.{Scenario}
+use Rattle.scenario_form.specs.declared.scenarios.Scenario.{Scenario}
 use Rattle.session_log.specs.SnapshotOf.{in_order, entry_now, failure_of, is_kept_session, snapshot_of}
 use Rattle.session_log.specs.declared.sessions.Snapshot.{Snapshot}
 use Rattle.session_memory.specs.Holding.{held_in}

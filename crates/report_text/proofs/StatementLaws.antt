@@ -16,7 +16,7 @@ use Rattle.local_tables.specs.Rows.{Database}
 use Rattle.durable_records.specs.RowsKept.{tables}
 use Rattle.durable_records.specs.SessionOrder.{Allowed}
 use Rattle.durable_records.specs.declared.coordinators.SessionRecord.{SessionRecord}
-use Rattle.scenario_reader.specs.declared.scenarios.Scenario.{Scenario}
+use Rattle.scenario_form.specs.declared.scenarios.Scenario.{Scenario}
 use Rattle.history_law.specs.Cover.{memory_of}
 use Rattle.history_law.specs.Network.{EachSent}
 use Rattle.history_law.proofs.CallHistory.{calls, calls_first}

@@ -3,8 +3,8 @@ use Rattle.std.specs.Prelude.{ℕ, zero, suc, List, [], ◌∷◌, ◌++◌, len
 use Rattle.seata_types.specs.declared.ids.Place.{Place}
 use Rattle.seata_types.specs.declared.ids.Place.TheVariants as place
 use Rattle.seata_types.specs.declared.statements.Stmt.{Stmt}
-use Rattle.scenario_reader.specs.declared.scenarios.ResourceDef.{ResourceDef}
-use Rattle.scenario_reader.specs.declared.scenarios.Scenario.{Scenario}
+use Rattle.scenario_form.specs.declared.scenarios.ResourceDef.{ResourceDef}
+use Rattle.scenario_form.specs.declared.scenarios.Scenario.{Scenario}
 use Rattle.history_text.specs.declared.entries.Entry.{Entry}
 use Rattle.history_text.specs.declared.entries.Names.{Names}
 use Rattle.report_text.specs.Keeping.{CoordinatorKept, ResourceKept, none_kept, number_at, session_taken, first_kept, resource_taken, standing}

@@ -6,7 +6,7 @@ use Rattle.durable_records.specs.declared.coordinators.SessionRecord.{SessionRec
 use Rattle.durable_records.specs.Transactions.{Session, sessions}
 use Rattle.durable_records.specs.Branches.{Grant, grants}
 use Rattle.local_tables.specs.Rows.{Database}
-use Rattle.scenario_reader.specs.declared.scenarios.Scenario.{Scenario}
+use Rattle.scenario_form.specs.declared.scenarios.Scenario.{Scenario}
 use Rattle.session_log.specs.SnapshotOf.{in_order, snapshot_of}
 use Rattle.resource_memory.specs.Known.{known_of}
 use Rattle.history_rules.specs.Own.{Left}

@@ -15,7 +15,7 @@ use Rattle.durable_records.specs.declared.coordinators.SessionRecord.{SessionRec
 use Rattle.durable_records.specs.declared.coordinators.SessionRecord.TheVariants as session
 use Rattle.durable_records.specs.declared.resources.ResourceRecord.{ResourceRecord}
 use Rattle.durable_records.specs.declared.resources.ResourceRecord.TheVariants as resource
-use Rattle.scenario_reader.specs.declared.scenarios.Scenario.{Scenario}
+use Rattle.scenario_form.specs.declared.scenarios.Scenario.{Scenario}
 use Rattle.history_rules.specs.ResourceMemory.{effect_on, or_empty}
 use Rattle.history_text.specs.declared.entries.Cause.{Cause}
 use Rattle.history_text.specs.declared.entries.Cause.TheVariants as cause

@@ -128,11 +128,11 @@ impl CoordinatorLeft {
     {
         match item {
             SessionRecord::Begun { manager, .. } => {
-                self.managers.push(*manager).map_err(|_| NoMemory)?;
+                self.managers.push(*manager)?;
                 Ok(())
             }
             SessionRecord::Granted { call, .. } => {
-                self.calls.push(*call).map_err(|_| NoMemory)?;
+                self.calls.push(*call)?;
                 Ok(())
             }
             _ => Ok(()),

@@ -1,8 +1,8 @@
 //! The entries of a history, one after the other.
 ghost use Rattle.std.specs.Prelude.{◌≡◌, ◌<◌, ◌^◌, length, All, IfOk};
 ghost use Rattle.std.specs.Option.{option_copied};
-ghost use Rattle.scenario_reader.specs.Contents.{IsResource};
-ghost use Rattle.scenario_reader.specs.Runnable.{IsRunnable};
+ghost use Rattle.scenario_form.specs.Contents.{IsResource};
+ghost use Rattle.scenario_form.specs.Runnable.{IsRunnable};
 ghost use Rattle.report_text.specs.Folds.{first_from};
 ghost use Rattle.report_text.specs.Keeping.{number_at};
 ghost use Rattle.report_text.specs.Made.{sending_manager, run_by, run_for, tries_for};
@@ -12,13 +12,13 @@ use crate::left::{CoordinatorLeft, Folded, ResourceLeft};
 use crate::scenarios;
 use crate::sent::SentIndex;
 use history_text::{Cause, Entry, Names};
-use scenario_reader::{ResourceDef, Scenario};
+use scenario_form::{ResourceDef, Scenario};
 use seata_types::{Act, Durable, List, NoMemory, Place, Stmt};
 use std::alloc::Global;
 
 impl Folded {
     ghost use Rattle.std.specs.Prelude.{◌≡◌, IfOk, OnOk};
-    ghost use Rattle.scenario_reader.specs.Runnable.{IsRunnable};
+    ghost use Rattle.scenario_form.specs.Runnable.{IsRunnable};
     ghost use Rattle.history_text.specs.Report.{names_of};
     ghost use Rattle.report_text.specs.Folds.{first_folded, session_step, resource_step, entry_step};
     ghost use Rattle.report_text.specs.Following.{FollowsAll};
@@ -120,7 +120,7 @@ fn new_resources(alloc: Global, defs: &[ResourceDef]) -> Result<Vec<ResourceLeft
     let mut made = Vec::new(alloc);
     for (k, def) in defs.iter().enumerate() {
         let resource = ResourceLeft::new(alloc, k as u16 + 1, def)?;
-        made.push(resource).map_err(|_| NoMemory)?;
+        made.push(resource)?;
     }
     Ok(made)
 }

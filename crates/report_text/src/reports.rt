@@ -1,6 +1,6 @@
 //! The report of a history.
 ghost use Rattle.std.specs.Prelude.{◌≡◌, ◌++◌, codes, map, IfOk, OnOk, string_bytes};
-ghost use Rattle.scenario_reader.specs.Runnable.{IsRunnable};
+ghost use Rattle.scenario_form.specs.Runnable.{IsRunnable};
 ghost use Rattle.history_text.specs.Lines.{entry_text};
 ghost use Rattle.history_text.specs.Report as report;
 ghost use Rattle.report_text.specs.Following.{Reports};
@@ -9,7 +9,7 @@ ghost use Rattle.report_text.specs.Sections.{line_in, locks_in, rows_in, rows_ke
 use crate::left::{CoordinatorLeft, Folded, ResourceLeft};
 use crate::sections;
 use history_text::{Entry, Names};
-use scenario_reader::{ManagerDef, ResourceDef, Scenario};
+use scenario_form::{ManagerDef, ResourceDef, Scenario};
 use seata_types::{Duplicate, List, NoMemory, Text};
 use std::alloc::{AllocError, Global};
 
@@ -19,9 +19,7 @@ fn resource_names(alloc: Global, resources: &[ResourceDef]) -> Result<List<Text>
 {
     let mut names = Vec::new(alloc);
     for resource in resources {
-        names
-            .push(resource.name.copy(alloc)?)
-            .map_err(|_| NoMemory)?;
+        names.push(resource.name.copy(alloc)?)?;
     }
     Ok(List::of(names))
 }
@@ -32,7 +30,7 @@ fn manager_names(alloc: Global, managers: &[ManagerDef]) -> Result<List<Text>, N
 {
     let mut names = Vec::new(alloc);
     for manager in managers {
-        names.push(manager.name.copy(alloc)?).map_err(|_| NoMemory)?;
+        names.push(manager.name.copy(alloc)?)?;
     }
     Ok(List::of(names))
 }

@@ -13,7 +13,7 @@ use durable_records::ResourceRecord;
 use history_text::{Entry, Names};
 use local_tables::Effect;
 use resource_memory::Memory;
-use scenario_reader::ResourceDef;
+use scenario_form::ResourceDef;
 use seata_types::{Act, Duplicate, Durable, List, NoMemory, Stmt, Ticket};
 use std::alloc::{AllocError, Global};
 use std::mem;

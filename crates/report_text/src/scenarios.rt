@@ -2,11 +2,11 @@
 //! at most 16.
 ghost use Rattle.std.specs.Prelude.{◌≡◌, OnSome};
 ghost use Rattle.std.specs.Option.{option_copied};
-ghost use Rattle.scenario_reader.specs.Runnable.{IsRunnable};
+ghost use Rattle.scenario_form.specs.Runnable.{IsRunnable};
 ghost use Rattle.history_rules.specs.Nodes.{counted_at};
 ghost use Rattle.report_text.specs.Numbered.{AreFound, call_at, statements_at, tries_at, action_at, confirms_at, cancels_at, local_at};
 
-use scenario_reader::Scenario;
+use scenario_form::Scenario;
 use seata_types::{Action, List, Stmt, Work};
 
 /// The one of this number, counted from 1.

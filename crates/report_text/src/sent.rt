@@ -68,7 +68,7 @@ impl SentIndex {
     {
         if next.sent.is_some() {
             let origin = origin(next.stamp, next.place);
-            self.places.insert(origin, at).map_err(|_| NoMemory)?;
+            self.places.insert(origin, at)?;
         }
         Ok(())
     }

@@ -7,7 +7,7 @@ use Rattle.seata_types.specs.declared.errors.OpenError.TheVariants as why
 use Rattle.seata_types.specs.declared.ids.Place.TheVariants as place
 use Rattle.seata_types.specs.declared.limits.TheConstants.{DISK_LEAST}
 use Rattle.seata_types.specs.declared.messages.Input.TheVariants as input
-use Rattle.scenario_reader.specs.declared.scenarios.Scenario.{Scenario}
+use Rattle.scenario_form.specs.declared.scenarios.Scenario.{Scenario}
 use Rattle.session_store.specs.Keeping.{IsNoDamage}
 use Rattle.history_text.specs.Promises.{AreTold}
 use Rattle.history_text.specs.Worlds.{times_of}

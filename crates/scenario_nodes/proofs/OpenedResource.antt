@@ -9,8 +9,8 @@ use Rattle.seata_types.specs.declared.errors.OpenError.TheVariants as why
 use Rattle.seata_types.specs.declared.ids.Place.TheVariants as place
 use Rattle.seata_types.specs.declared.limits.TheConstants.{DISK_LEAST}
 use Rattle.durable_records.specs.declared.resources.ResourceRecord.{ResourceRecord}
-use Rattle.scenario_reader.specs.declared.scenarios.ResourceDef.{ResourceDef}
-use Rattle.scenario_reader.specs.declared.scenarios.Scenario.{Scenario}
+use Rattle.scenario_form.specs.declared.scenarios.ResourceDef.{ResourceDef}
+use Rattle.scenario_form.specs.declared.scenarios.Scenario.{Scenario}
 use Rattle.history_rules.specs.ResourceMemory.{boot_over, opening_tables}
 use Rattle.history_rules.specs.ResourceMemory.{Setup as RuleSetup}
 use Rattle.history_text.specs.Durable.{StandsForRecords, of_resource}

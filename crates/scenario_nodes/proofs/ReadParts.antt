@@ -7,11 +7,11 @@ use Rattle.seata_types.specs.declared.statements.Work.{Work}
 use Rattle.seata_types.specs.declared.statements.Work.TheVariants as work
 use Rattle.seata_types.specs.declared.statuses.BranchKind.{BranchKind}
 use Rattle.local_tables.specs.declared.schemas.Schema.{Schema}
-use Rattle.scenario_reader.specs.Contents.{AreStatements, IsBetween, IsCall, IsWork, resource_numbered}
-use Rattle.scenario_reader.specs.declared.scenarios.ManagerDef.{ManagerDef}
-use Rattle.scenario_reader.specs.declared.scenarios.ResourceDef.{ResourceDef}
-use Rattle.scenario_reader.specs.declared.scenarios.Scenario.{Scenario}
-use Rattle.scenario_reader.specs.Runnable.{IsManager, IsRunnable, IsTimed}
+use Rattle.scenario_form.specs.Contents.{AreStatements, IsBetween, IsCall, IsWork, resource_numbered}
+use Rattle.scenario_form.specs.declared.scenarios.ManagerDef.{ManagerDef}
+use Rattle.scenario_form.specs.declared.scenarios.ResourceDef.{ResourceDef}
+use Rattle.scenario_form.specs.declared.scenarios.Scenario.{Scenario}
+use Rattle.scenario_form.specs.Runnable.{IsManager, IsRunnable, IsTimed}
 use Rattle.history_text.specs.Worlds.{settings_of}
 use Rattle.manager_core.specs.Within.{IsCallWithin, IsWithin}
 use Rattle.scenario_nodes.specs.Calls.{AreRead, HasReadCalls, IsFramableCall, IsReadCall, IsReadLocal, IsReadWork}

@@ -5,10 +5,10 @@ use Rattle.seata_types.specs.declared.rows.Row.{Row}
 use Rattle.local_tables.specs.declared.schemas.Schema.{Schema}
 use Rattle.resource_store.specs.Meaning.{Opens, setting}
 use Rattle.record_places.specs.Within.{IsTableWithin}
-use Rattle.scenario_reader.specs.Contents.{IsBetween, IsResource}
-use Rattle.scenario_reader.specs.Runnable.{IsRunnable}
-use Rattle.scenario_reader.specs.declared.scenarios.ResourceDef.{ResourceDef}
-use Rattle.scenario_reader.specs.declared.scenarios.Scenario.{Scenario}
+use Rattle.scenario_form.specs.Contents.{IsBetween, IsResource}
+use Rattle.scenario_form.specs.Runnable.{IsRunnable}
+use Rattle.scenario_form.specs.declared.scenarios.ResourceDef.{ResourceDef}
+use Rattle.scenario_form.specs.declared.scenarios.Scenario.{Scenario}
 use Rattle.resource_core.specs.declared.setup.Setup.{Setup}
 use Rattle.resource_core.specs.NodeOpening.{IsSetupWithin}
 use Rattle.resource_core.specs.Ready.{HasActionWithin, HasStmtsWithin}

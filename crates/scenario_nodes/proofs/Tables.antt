@@ -21,10 +21,10 @@ use Rattle.local_tables.specs.declared.schemas.TableDef.{TableDef}
 use Rattle.local_tables.proofs.KeyLaws.{same_text_same}
 use Rattle.record_places.specs.Within.{IsTableWithin}
 use Rattle.resource_store.specs.Meaning.{Opens, setting}
-use Rattle.scenario_reader.specs.Contents.{FitsColumn, IsOpeningRow, IsResource, IsRow, IsTable}
-use Rattle.scenario_reader.specs.Names.{is_lower, is_lower_word, is_name_byte, is_table_name}
-use Rattle.scenario_reader.specs.Tables.{Column, is_printable}
-use Rattle.scenario_reader.specs.declared.scenarios.ResourceDef.{ResourceDef}
+use Rattle.scenario_form.specs.Contents.{FitsColumn, IsOpeningRow, IsResource, IsRow, IsTable}
+use Rattle.scenario_form.specs.Names.{is_lower, is_lower_word, is_name_byte, is_table_name}
+use Rattle.scenario_form.specs.Contents.{Column, is_printable}
+use Rattle.scenario_form.specs.declared.scenarios.ResourceDef.{ResourceDef}
 use Rattle.scenario_nodes.specs.Calls.{HasType, HasTypes}
 use Rattle.scenario_nodes.proofs.Passes.{placed}
 

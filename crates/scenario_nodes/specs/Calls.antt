@@ -12,7 +12,7 @@ use Rattle.seata_types.specs.declared.statements.Work.TheVariants as work
 use Rattle.sql_reader.specs.Answer.{reading}
 use Rattle.frame_codec.specs.Limits.{AreStmtsWithin, IsWorkWithin}
 use Rattle.frame_codec.specs.Works.{FitsStmts, FitsWork}
-use Rattle.scenario_reader.specs.declared.scenarios.ManagerDef.{ManagerDef}
+use Rattle.scenario_form.specs.declared.scenarios.ManagerDef.{ManagerDef}
 
 -- ---- what types say of values
 

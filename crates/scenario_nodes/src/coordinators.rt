@@ -1,6 +1,6 @@
 //! The coordinator of a scenario on two disks of a shelf.
 ghost use Rattle.std.specs.Prelude.{length, IfOk, IfErr, OnErr, OnOk};
-ghost use Rattle.scenario_reader.specs.Runnable.{IsRunnable};
+ghost use Rattle.scenario_form.specs.Runnable.{IsRunnable};
 ghost use Rattle.scenario_nodes.specs.Shelves.{AreGivenBack, HasBoth, IsDiskName, KeepsOthers, ReturnsAll, ReturnsBut, SamePlaces, coordinator_name, showing};
 ghost use Rattle.scenario_nodes.specs.Nodes.{IsNewCoordinator, coordinator_disks, coordinator_role};
 ghost use Rattle.scenario_nodes.specs.Opening.{IsNotOpened};
@@ -9,7 +9,7 @@ use crate::disks::{FIRST_DISK, SECOND_DISK, give_disks, take_disks};
 use coordinator_core::Coordinator;
 use disk_model::Shelf;
 use node_seat::{RunFault, open_fault};
-use scenario_reader::Scenario;
+use scenario_form::Scenario;
 use seata_types::Place;
 use std::alloc::Global;
 

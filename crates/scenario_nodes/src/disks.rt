@@ -20,8 +20,8 @@ pub(crate) const SECOND_DISK: &str = "tc.2";
 pub fn second_name(alloc: Global, name: &str) -> Result<String, NoMemory>
     ensures { IfOk result (λ second. string_bytes second ≡ name_of_second name.now) }
 {
-    let mut second = String::from_str(alloc, name).map_err(|_| NoMemory)?;
-    second.push_str(".2").map_err(|_| NoMemory)?;
+    let mut second = String::from_str(alloc, name)?;
+    second.push_str(".2")?;
     Ok(second)
 }
 

@@ -1,12 +1,12 @@
 //! A manager of a scenario.
 ghost use Rattle.std.specs.Prelude.{◌≡◌, ◌-◌, Some, length, slice_get, IfOk};
-ghost use Rattle.scenario_reader.specs.Contents.{IsBetween};
-ghost use Rattle.scenario_reader.specs.Runnable.{IsRunnable};
+ghost use Rattle.scenario_form.specs.Contents.{IsBetween};
+ghost use Rattle.scenario_form.specs.Runnable.{IsRunnable};
 ghost use Rattle.scenario_nodes.specs.Nodes.{IsNewManager};
 
 use crate::types::tell_calls;
 use manager_core::Manager;
-use scenario_reader::{ManagerDef, Scenario};
+use scenario_form::{ManagerDef, Scenario};
 use seata_types::{Duplicate, NoMemory};
 use std::alloc::Global;
 

@@ -1,7 +1,7 @@
 //! A resource of a scenario on two disks of a shelf.
 ghost use Rattle.std.specs.Prelude.{◌≡◌, ◌-◌, Some, length, slice_get, IfOk, IfErr, OnErr, OnOk};
-ghost use Rattle.scenario_reader.specs.Contents.{IsBetween};
-ghost use Rattle.scenario_reader.specs.Runnable.{IsRunnable};
+ghost use Rattle.scenario_form.specs.Contents.{IsBetween};
+ghost use Rattle.scenario_form.specs.Runnable.{IsRunnable};
 ghost use Rattle.scenario_nodes.specs.Shelves.{AreGivenBack, HasBoth, IsDiskName, KeepsOthers, ReturnsAll, ReturnsBut, SamePlaces, second_name, showing};
 ghost use Rattle.scenario_nodes.specs.Nodes.{IsNewResource, resource_disks, resource_role};
 ghost use Rattle.scenario_nodes.specs.Opening.{IsNotOpened};
@@ -11,7 +11,7 @@ use crate::setups::setup_of;
 use disk_model::Shelf;
 use node_seat::{RunFault, open_fault};
 use resource_core::Resource;
-use scenario_reader::{ResourceDef, Scenario};
+use scenario_form::{ResourceDef, Scenario};
 use seata_types::{NoMemory, Place};
 use std::alloc::Global;
 

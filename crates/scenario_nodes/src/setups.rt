@@ -3,8 +3,8 @@ ghost use Rattle.std.specs.Prelude.{◌≡◌, ◌-◌, ◌≤◌, ◌++◌, ◌
 ghost use Rattle.std.specs.List.{AllByRecursion};
 ghost use Rattle.std.specs.Option.{option_copied};
 ghost use Rattle.seata_types.specs.declared.limits.TheConstants.{CALLS, LOCALS, MANAGERS};
-ghost use Rattle.scenario_reader.specs.Contents.{IsBetween};
-ghost use Rattle.scenario_reader.specs.Runnable.{IsRunnable};
+ghost use Rattle.scenario_form.specs.Contents.{IsBetween};
+ghost use Rattle.scenario_form.specs.Runnable.{IsRunnable};
 ghost use Rattle.history_text.specs.Worlds as worlds;
 ghost use Rattle.resource_core.specs.NodeOpening.{IsSetupWithin, setup_at};
 ghost use Rattle.resource_core.specs.Ready.{HasActionWithin, HasStmtsWithin};
@@ -14,7 +14,7 @@ ghost use Rattle.scenario_nodes.specs.Calls.{HasReadCalls, IsReadCall, IsReadLoc
 
 use crate::types::{tell_action, tell_rows, tell_stmts};
 use resource_core::Setup;
-use scenario_reader::{ManagerDef, ResourceDef, Scenario};
+use scenario_form::{ManagerDef, ResourceDef, Scenario};
 use seata_types::{Action, Duplicate, List, NoMemory, Stmt, Work};
 use std::alloc::Global;
 
@@ -22,7 +22,7 @@ use std::alloc::Global;
 fn put<T: Drop>(made: &mut Vec<T>, item: T) -> Result<(), NoMemory>
     ensures { OnOk result (made.new.items ≡ made.old.items ++ item ∷ []) }
 {
-    made.push(item).map_err(|_| NoMemory)?;
+    made.push(item)?;
     Ok(())
 }
 

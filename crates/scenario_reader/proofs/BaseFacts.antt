@@ -6,20 +6,17 @@ use Rattle.std.specs.Prelude.{codes}
 use Rattle.serde_json.proofs.Views.{get_member-put, get_member-put_other}
 use Rattle.serde_json.specs.Data.{Data, null, boolean, number, string, array, object, no_items, Members, no_members, member as entry, put}
 use Rattle.serde_json.specs.Find.{get, get_member}
-use Rattle.serde_json.specs.Read.{read}
 use Rattle.seata_types.specs.Orders.{same_text}
 use Rattle.scenario_reader.specs.declared.errors.ScenarioError.TheVariants as fault
-use Rattle.scenario_reader.specs.declared.scenarios.ManagerDef.{ManagerDef}
-use Rattle.scenario_reader.specs.declared.scenarios.ResourceDef.{ResourceDef}
-use Rattle.scenario_reader.specs.declared.scenarios.Scenario.{Scenario}
+use Rattle.scenario_form.specs.declared.scenarios.ManagerDef.{ManagerDef}
+use Rattle.scenario_form.specs.declared.scenarios.ResourceDef.{ResourceDef}
+use Rattle.scenario_form.specs.declared.scenarios.Scenario.{Scenario}
 use Rattle.scenario_reader.specs.Bases.{kept, without, IsTextOf}
 use Rattle.scenario_reader.specs.Calls.{locals}
-use Rattle.scenario_reader.specs.Faults.{Outcome, ◌>>=◌, is_known, are_known, an_object, only, only_by, list, member, to_member, within}
+use Rattle.scenario_reader.specs.Faults.{Outcome, is_known, are_known, an_object, only, only_by, list, member, to_member, within}
 use Rattle.scenario_reader.specs.Form as form
-use Rattle.scenario_reader.specs.Managers.{managers}
 use Rattle.scenario_reader.specs.Nodes.{stops}
 use Rattle.scenario_reader.specs.Reading.{IsJson, IsScenario, IsScenarioOf, input_bytes, with_base, without_events}
-use Rattle.scenario_reader.specs.Resources.{resources}
 use Rattle.scenario_reader.specs.Steps.{schedule}
 use Rattle.scenario_reader.proofs.Inverses.{bind_ok, same_ok}
 use Rattle.scenario_reader.proofs.Whole.{unlike, known_without}

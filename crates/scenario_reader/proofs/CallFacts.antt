@@ -18,9 +18,9 @@ use Rattle.sql_reader.specs.declared.errors.SqlError.TheVariants as sql
 use Rattle.local_tables.specs.Rows.{is_named, table_named}
 use Rattle.local_tables.specs.declared.schemas.Schema.{Schema}
 use Rattle.local_tables.specs.declared.schemas.TableDef.{TableDef}
-use Rattle.scenario_reader.specs.declared.scenarios.ResourceDef.{ResourceDef}
-use Rattle.scenario_reader.specs.Contents.{IsStatement, AreStatements, IsWork, resource_numbered, IsCall, IsLocal}
-use Rattle.scenario_reader.specs.Faults.{◌>>=◌, each, list, text, text_by, member, an_object, only, to_member}
+use Rattle.scenario_form.specs.declared.scenarios.ResourceDef.{ResourceDef}
+use Rattle.scenario_form.specs.Contents.{table_of, suits, IsStatement, AreStatements, IsWork, resource_numbered, IsCall, IsLocal}
+use Rattle.scenario_reader.specs.Faults.{list, text, text_by, member, an_object, only, to_member}
 use Rattle.scenario_reader.specs.Names.{is_resource_named}
 use Rattle.scenario_reader.specs.Tables.{is_table_named}
 use Rattle.scenario_reader.specs.Calls as form
@@ -47,7 +47,7 @@ unfolding form.parsed
 parsed_ok text s e = let short = if_ok _ _ _ _ e in (le_of _ _ short.0, read_by_ok (reading text) s short.1)
 
 standing_by_ok : (wanted : BranchKind) (found : Stmt) (at : Option TableDef) (s : Stmt) → form.standing_by wanted found at ≡ Ok s
-    → (def : TableDef) × (at ≡ Some def) × (form.suits wanted def.mode found ≡ true) × (found ≡ s)
+    → (def : TableDef) × (at ≡ Some def) × (suits wanted def.mode found ≡ true) × (found ≡ s)
 standing_by_ok wanted found (Some def) s e = let suits = if_ok _ _ _ _ e in (def, refl, suits.0, same_ok found s suits.1)
 standing_by_ok wanted found None s e = absurd cc
 
@@ -57,8 +57,8 @@ statement_ok schema wanted d s e =
     let written = bind_ok (text_by (as_str d)) _ _ e in
     let found = bind_ok (form.parsed written.0) _ _ written.2 in
     let text = parsed_ok written.0 found.0 found.1 in
-    let at = standing_by_ok wanted found.0 (find (is_table_named (form.table_of found.0)) schema.tables) s found.2 in
-    let there : table_named schema (form.table_of found.0) ≡ Some at.0 = find_named (form.table_of found.0) schema.tables ∙ at.1 in
+    let at = standing_by_ok wanted found.0 (find (is_table_named (table_of found.0)) schema.tables) s found.2 in
+    let there : table_named schema (table_of found.0) ≡ Some at.0 = find_named (table_of found.0) schema.tables ∙ at.1 in
     subst (IsStatement schema wanted) at.3 (record { read = (written.0, text.0, text.1); stands = (at.0, there, at.2) })
 
 statements_ok : (schema : Schema) (wanted : BranchKind) (d : Option Data) (stmts : List Stmt) → form.statements schema wanted d ≡ Ok stmts → AreStatements schema wanted stmts

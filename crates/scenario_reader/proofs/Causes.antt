@@ -5,7 +5,7 @@ use Rattle.seata_types.specs.declared.limits.TheConstants.{INPUT_BYTES}
 use Rattle.scenario_reader.specs.Form.{scenario_of}
 use Rattle.scenario_reader.specs.Reading.{IsScenario, IsScenarioOf, IsFault, IsJson, IsNoJson, IsTooLong, IsNotJson, IsOtherForm}
 use Rattle.scenario_reader.specs.declared.errors.ScenarioError.{ScenarioError}
-use Rattle.scenario_reader.specs.declared.scenarios.Scenario.{Scenario}
+use Rattle.scenario_form.specs.declared.scenarios.Scenario.{Scenario}
 
 -- a scenario is short enough to be read whole
 pub scenario_is_short : (bytes : List ℕ) (s : Scenario) → IsScenario bytes s → length bytes ≤ INPUT_BYTES

@@ -1,13 +1,14 @@
 -- The single steps of a schedule.
-use Rattle.std.proofs.Common.{◌≡◌, ◌+◌, ◌≤◌, ◌<◌, ◌-◌, ℕ, List, [], ◌∷◌, ◌++◌, Ok, true, false, nat_le, refl, arith}
+use Rattle.std.proofs.Common.{◌≡◌, ◌+◌, ◌≤◌, ◌<◌, ℕ, List, [], ◌∷◌, ◌++◌, Ok, true, false, nat_le, refl, arith}
 use Rattle.std.proofs.lemmas.Bool.Decides.{nat_tests}
 use Rattle.serde_json.specs.Data.{Data}
 use Rattle.seata_types.specs.declared.limits.TheConstants.{STEPS}
-use Rattle.scenario_reader.specs.declared.scenarios.ManagerDef.{ManagerDef}
-use Rattle.scenario_reader.specs.declared.scenarios.ResourceDef.{ResourceDef}
-use Rattle.scenario_reader.specs.declared.scenarios.ScheduleItem.{ScheduleItem}
+use Rattle.scenario_form.specs.declared.scenarios.ManagerDef.{ManagerDef}
+use Rattle.scenario_form.specs.declared.scenarios.ResourceDef.{ResourceDef}
+use Rattle.scenario_form.specs.declared.scenarios.ScheduleItem.{ScheduleItem}
 use Rattle.scenario_reader.specs.Faults.{beyond}
-use Rattle.scenario_reader.specs.Steps.{item_of, next_item, all_steps, steps_of}
+use Rattle.scenario_form.specs.Runnable.{all_steps, steps_of}
+use Rattle.scenario_reader.specs.Steps.{item_of, next_item}
 
 -- the steps with one more item
 pub all_steps_push : (items : List ScheduleItem) (x : ScheduleItem) → all_steps (items ++ x ∷ []) ≡ all_steps items + steps_of x

@@ -6,7 +6,7 @@ use Rattle.std.specs.Prelude.{if◌then◌else◌, ℤ, All}
 use Rattle.serde_json.specs.Data.{Data, Items, no_items, item}
 use Rattle.serde_json.specs.Find.{as_number, as_u64, as_i64, as_array}
 use Rattle.scenario_reader.specs.declared.errors.ScenarioError.{ScenarioError}
-use Rattle.scenario_reader.specs.Contents.{IsBetween}
+use Rattle.scenario_form.specs.Contents.{IsBetween}
 use Rattle.scenario_reader.specs.Faults.{Outcome, ◌>>=◌, within, to_item, each, items_length, list, list_by}
 use Rattle.scenario_reader.specs.Numbers.{in_range, number_by, number_in, number_or, plain_number, number_of_text}
 

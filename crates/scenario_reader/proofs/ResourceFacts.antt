@@ -26,12 +26,12 @@ use Rattle.local_tables.specs.declared.schemas.ColType.{ColType}
 use Rattle.local_tables.specs.declared.schemas.ColType.TheVariants as type
 use Rattle.local_tables.specs.declared.schemas.Schema.{Schema}
 use Rattle.local_tables.specs.declared.schemas.TableDef.{TableDef}
-use Rattle.scenario_reader.specs.declared.scenarios.ResourceDef.{ResourceDef}
-use Rattle.scenario_reader.specs.Contents.{AreDifferent, FitsColumn, IsTable, IsRow, IsOpeningRow, IsResource, table_name}
-use Rattle.scenario_reader.specs.Faults.{◌>>=◌, within, to_item, to_member, each, items_length, list, member, an_object, only}
+use Rattle.scenario_form.specs.declared.scenarios.ResourceDef.{ResourceDef}
+use Rattle.scenario_form.specs.Contents.{AreDifferent, FitsColumn, IsTable, IsRow, IsOpeningRow, IsResource, table_name}
+use Rattle.scenario_reader.specs.Faults.{within, to_item, to_member, items_length, list, member, an_object, only}
 use Rattle.scenario_reader.specs.Names.{new_node, is_node, is_resource_named}
 use Rattle.scenario_reader.specs.Resources as form
-use Rattle.scenario_reader.specs.Runnable.{resource_name}
+use Rattle.scenario_form.specs.Runnable.{resource_name}
 use Rattle.scenario_reader.specs.Tables.{is_table_named, table, key_of, key_behind, with_part}
 use Rattle.scenario_reader.specs.Tables as tables
 use Rattle.scenario_reader.proofs.Apart.{different_push, stands_within}

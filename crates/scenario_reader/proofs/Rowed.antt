@@ -13,7 +13,8 @@ use Rattle.seata_types.specs.declared.rows.Value.{Value}
 use Rattle.seata_types.specs.Orders.{value_cmp}
 use Rattle.seata_types.specs.ValueOrder.{value_cmp_total}
 use Rattle.scenario_reader.specs.Faults.{Outcome, wrong_name}
-use Rattle.scenario_reader.specs.Tables.{Column, row, new_row, with_part, key_behind, key_of, key_order, same_key, has_key, is_noted, Notes, HaveKeys, part_order, rises_by, rises, behind_last, is_behind, IsAbove, AreRising, IsNoted}
+use Rattle.scenario_form.specs.Contents.{Column}
+use Rattle.scenario_reader.specs.Tables.{row, new_row, with_part, key_behind, key_of, key_order, same_key, has_key, is_noted, Notes, HaveKeys, part_order, rises_by, rises, behind_last, is_behind, IsAbove, AreRising, IsNoted}
 
 swap : (x y h : Bool) → cond y true (cond x true h) ≡ cond x true (cond y true h)
 swap true true h = refl

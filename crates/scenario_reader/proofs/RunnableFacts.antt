@@ -5,21 +5,20 @@ use Rattle.std.specs.Prelude.{All, codes, length}
 use Rattle.serde_json.specs.Data.{Data}
 use Rattle.serde_json.specs.Find.{get}
 use Rattle.seata_types.specs.declared.limits.TheConstants.{LOCALS, SCHEDULE_MEMBERS}
-use Rattle.scenario_reader.specs.declared.scenarios.ManagerDef.{ManagerDef}
-use Rattle.scenario_reader.specs.declared.scenarios.ResourceDef.{ResourceDef}
-use Rattle.scenario_reader.specs.declared.scenarios.Scenario.{Scenario}
+use Rattle.scenario_form.specs.declared.scenarios.ManagerDef.{ManagerDef}
+use Rattle.scenario_form.specs.declared.scenarios.ResourceDef.{ResourceDef}
+use Rattle.scenario_form.specs.declared.scenarios.Scenario.{Scenario}
 use Rattle.scenario_reader.specs.declared.settings.Settings.{Settings}
 use Rattle.scenario_reader.specs.Calls.{locals}
-use Rattle.scenario_reader.specs.Contents.{AreDifferent, IsLocal}
+use Rattle.scenario_form.specs.Contents.{AreDifferent, IsLocal}
 use Rattle.scenario_reader.specs.Faults.{Outcome, member, to_member, within, an_object}
 use Rattle.scenario_reader.specs.Form as form
 use Rattle.scenario_reader.specs.Managers.{managers}
 use Rattle.scenario_reader.specs.Nodes.{stops}
 use Rattle.scenario_reader.specs.Reading.{IsScenario, IsScenarioOf, with_base}
 use Rattle.scenario_reader.specs.Resources.{resources}
-use Rattle.scenario_reader.specs.Runnable.{IsRunnable, IsStop, resource_name}
+use Rattle.scenario_form.specs.Runnable.{IsRunnable, IsStop, resource_name}
 use Rattle.scenario_reader.specs.Steps.{schedule}
-use Rattle.scenario_reader.proofs.BaseFacts.{base_reads}
 use Rattle.scenario_reader.proofs.CallFacts.{locals_ok}
 use Rattle.scenario_reader.proofs.Inverses.{bind_ok, within_ok, same_ok}
 use Rattle.scenario_reader.proofs.ResourceFacts.{AreResources, resources_ok}
@@ -102,8 +101,6 @@ given bytes s is =
     let whole : with_base s.base (form.with_parts all.0 all.1) ≡ s = ap (with_base s.base) all.4 in
     subst IsRunnable whole
     (record {
-      given = (bytes, subst (IsScenario bytes) (sym whole) is);
-      again = base_reads bytes (with_base s.base (form.with_parts all.0 all.1)) (subst (IsScenario bytes) (sym whole) is);
       set = record {
         timeout = all.2.set.timeout;
         tries = all.2.set.tries;

@@ -10,16 +10,16 @@ use Rattle.seata_types.specs.Orders.{same_text}
 use Rattle.seata_types.specs.declared.ids.Place.{Place}
 use Rattle.seata_types.specs.declared.ids.Place.TheVariants as place
 use Rattle.seata_types.specs.declared.limits.TheConstants.{SCHEDULE_MEMBERS, STEPS, STOP_CALLS, TICKS}
-use Rattle.scenario_reader.specs.declared.scenarios.ManagerDef.{ManagerDef}
-use Rattle.scenario_reader.specs.declared.scenarios.ResourceDef.{ResourceDef}
-use Rattle.scenario_reader.specs.declared.scenarios.ScheduleItem.{ScheduleItem}
-use Rattle.scenario_reader.specs.declared.scenarios.ScheduleItem.TheVariants as step
-use Rattle.scenario_reader.specs.Contents.{IsBetween}
+use Rattle.scenario_form.specs.declared.scenarios.ManagerDef.{ManagerDef}
+use Rattle.scenario_form.specs.declared.scenarios.ResourceDef.{ResourceDef}
+use Rattle.scenario_form.specs.declared.scenarios.ScheduleItem.{ScheduleItem}
+use Rattle.scenario_form.specs.declared.scenarios.ScheduleItem.TheVariants as step
+use Rattle.scenario_form.specs.Contents.{IsBetween}
 use Rattle.scenario_reader.specs.Faults.{Outcome, ◌>>=◌, wrong_name, wrong_shape, within, to_item, list, any_list, triple, text_by}
 use Rattle.scenario_reader.specs.Names.{is_resource_named, is_manager_named}
 use Rattle.scenario_reader.specs.Nodes as form
 use Rattle.scenario_reader.specs.Numbers.{number_of_text, number_in, plain_number}
-use Rattle.scenario_reader.specs.Runnable.{IsServerAmong, IsPlaceAmong, IsStop, FitsNodes}
+use Rattle.scenario_form.specs.Runnable.{all_steps, steps_of, IsServerAmong, IsPlaceAmong, IsStop, FitsNodes}
 use Rattle.scenario_reader.specs.Steps as steps
 use Rattle.scenario_reader.proofs.Apart.{position_within}
 use Rattle.scenario_reader.proofs.Counted.{all_steps_push}
@@ -217,7 +217,7 @@ step_ok resources managers count word rest x e =
 -- the steps so far
 pub record AreSteps (servers users count : ℕ) (items : List ScheduleItem) : Type 0 where
   pub fits : All (FitsNodes servers users count) items
-  pub few : steps.all_steps items ≤ STEPS
+  pub few : all_steps items ≤ STEPS
 
 next_ok : (resources : List ResourceDef) (managers : List ManagerDef) (count : ℕ) (items : List ScheduleItem) (d : Data) (x : ScheduleItem)
     → AreSteps (length resources) (length managers) count items → steps.next_item resources managers count items d ≡ Ok x
@@ -229,7 +229,7 @@ next_ok resources managers count items d x before e =
     let text = bind_ok (text_by (as_str d)) _ _ found.1 in
     let same = same_ok found.0 x few.1 in
     let fits = step_ok resources managers count (steps.front text.0) (steps.behind text.0) found.0 text.2 in
-    let whole : steps.all_steps items + steps.steps_of x ≤ STEPS = subst (λ z. steps.all_steps items + steps.steps_of z ≤ STEPS) same (le_of _ _ few.0) in
+    let whole : all_steps items + steps_of x ≤ STEPS = subst (λ z. all_steps items + steps_of z ≤ STEPS) same (le_of _ _ few.0) in
     let more = all_steps_push items x in
     record {
       fits = All-push (FitsNodes (length resources) (length managers) count) items x before.fits (subst (FitsNodes (length resources) (length managers) count) same fits);

@@ -17,8 +17,8 @@ use Rattle.seata_types.specs.declared.statuses.BranchKind.{BranchKind}
 use Rattle.local_tables.specs.declared.schemas.ColType.{ColType}
 use Rattle.local_tables.specs.declared.schemas.ColType.TheVariants as type
 use Rattle.local_tables.specs.declared.schemas.TableDef.{TableDef}
-use Rattle.scenario_reader.specs.Contents.{IsBetween, IsTableName, AreDifferent, column_name, IsTable, FitsColumn, IsRow}
-use Rattle.scenario_reader.specs.Faults.{◌>>=◌, within, to_item, each, items_length, text, text_by, list, pair, member, an_object, only, to_member}
+use Rattle.scenario_form.specs.Contents.{Column, IsBetween, IsTableName, AreDifferent, column_name, IsTable, FitsColumn, IsRow}
+use Rattle.scenario_reader.specs.Faults.{within, to_item, each, items_length, text, text_by, list, pair, member, an_object, only, to_member}
 use Rattle.scenario_reader.specs.Names.{new_name}
 use Rattle.scenario_reader.specs.Tables as form
 use Rattle.scenario_reader.proofs.Apart.{distinct_push, different_push, map_push, position_within, get_push}
@@ -45,7 +45,7 @@ table_name_ok defs d n e =
 
 -- ---- columns
 
-column_ok : (before : List form.Column) (d : Data) (c : form.Column) → form.column before d ≡ Ok c → IsTableName c.0 × (list_any (form.is_column_named c.0) before ≡ false)
+column_ok : (before : List Column) (d : Data) (c : Column) → form.column before d ≡ Ok c → IsTableName c.0 × (list_any (form.is_column_named c.0) before ≡ false)
 unfolding form.column
 column_ok before d c e =
     let parts = bind_ok (pair d) _ _ e in
@@ -53,18 +53,18 @@ column_ok before d c e =
     let kind = bind_ok (within (to_item 1) (form.column_type parts.0.1)) _ _ name.2 in
     let read = bind_ok (text_by (as_str parts.0.0)) _ _ (within_ok (to_item 0) (form.column_name before (as_str parts.0.0)) name.0 name.1) in
     let new = new_name_ok (list_any (form.is_column_named read.0) before) read.0 name.0 read.2 in
-    let same : name.0 ≡ c.0 = ap (λ (z : form.Column). z.0) (same_ok (name.0, kind.0) c kind.2) in
+    let same : name.0 ≡ c.0 = ap (λ (z : Column). z.0) (same_ok (name.0, kind.0) c kind.2) in
     (subst IsTableName same new.0, ap (λ m. list_any (form.is_column_named m) before) (sym same ∙ sym new.2) ∙ new.1)
 
-some_columns_ok : (found cs : List form.Column) → form.some_columns found ≡ Ok cs → (found ≡ cs) × (1 ≤ length cs)
+some_columns_ok : (found cs : List Column) → form.some_columns found ≡ Ok cs → (found ≡ cs) × (1 ≤ length cs)
 some_columns_ok [] cs e = absurd cc
 some_columns_ok (c ∷ found) cs e =
     let same = same_ok _ _ e in
     let some : 1 ≤ length (c ∷ found) = omega arith in
-    (same, subst (λ (z : List form.Column). 1 ≤ length z) same some)
+    (same, subst (λ (z : List Column). 1 ≤ length z) same some)
 
 -- the columns of a table
-record AreColumns (cs : List form.Column) : Type 0 where
+record AreColumns (cs : List Column) : Type 0 where
   pub few : IsBetween 1 COLUMNS (length cs)
   pub named : All IsTableName (map column_name cs)
   pub different : AreDifferent (map column_name cs)
@@ -73,7 +73,7 @@ none_different : AreDifferent []
 unfolding IsDistinct
 none_different = tt
 
-columns_ok : (d : Option Data) (cs : List form.Column) → form.columns d ≡ Ok cs → AreColumns cs
+columns_ok : (d : Option Data) (cs : List Column) → form.columns d ≡ Ok cs → AreColumns cs
 unfolding form.columns
 columns_ok d cs e =
     let items = bind_ok (list COLUMNS d) _ _ e in
@@ -86,8 +86,8 @@ columns_ok d cs e =
     let whole : length found.0 ≡ length cs = ap length some.0 in
     record {
       few = (some.1, subst (λ n. n ≤ COLUMNS) whole few);
-      named = subst (λ (z : List form.Column). All IsTableName (map column_name z)) some.0 (All-map IsTableName column_name found.0 named);
-      different = subst (λ (z : List form.Column). AreDifferent (map column_name z)) some.0 apart;
+      named = subst (λ (z : List Column). All IsTableName (map column_name z)) some.0 (All-map IsTableName column_name found.0 named);
+      different = subst (λ (z : List Column). AreDifferent (map column_name z)) some.0 apart;
     }
 
 -- ---- keys
@@ -96,7 +96,7 @@ key_place_ok : (found : Option ℕ) (k : ℕ) → form.key_place found ≡ Ok k 
 key_place_ok (Some j) k e = ap (λ (n : ℕ). Some n) (same_ok j k e)
 key_place_ok None k e = absurd cc
 
-key_column_ok : (columns : List form.Column) (name : List ℕ) (k : ℕ) → form.key_column columns name ≡ Ok k → k < length columns
+key_column_ok : (columns : List Column) (name : List ℕ) (k : ℕ) → form.key_column columns name ≡ Ok k → k < length columns
 unfolding form.key_column
 key_column_ok columns name k e =
     let there = if_ok _ _ _ _ e in
@@ -107,7 +107,7 @@ any_flips k [] = refl
 any_flips k (p ∷ places) =
     ap (λ rest. (p == k) || rest) (any_flips k places) ∙ ap (λ b. b || list_any (nat_eq k) places) (nat_eq_equiv.symm p k)
 
-key_part_ok : (columns : List form.Column) (places : List ℕ) (d : Data) (k : ℕ) → form.key_part columns places d ≡ Ok k → (k < length columns) × (list_any (nat_eq k) places ≡ false)
+key_part_ok : (columns : List Column) (places : List ℕ) (d : Data) (k : ℕ) → form.key_part columns places d ≡ Ok k → (k < length columns) × (list_any (nat_eq k) places ≡ false)
 unfolding form.key_part
 key_part_ok columns places d k e =
     let name = bind_ok (text_by (as_str d)) _ _ e in
@@ -119,7 +119,7 @@ key_part_ok columns places d k e =
     )
 
 -- the key of a table with these columns
-record IsKey (columns : List form.Column) (places : List ℕ) : Type 0 where
+record IsKey (columns : List Column) (places : List ℕ) : Type 0 where
   pub few : IsBetween 1 KEY_PARTS (length places)
   pub parts : All (λ k. k < length columns) places
   pub distinct : IsDistinct nat_eq places
@@ -135,7 +135,7 @@ no_place : IsDistinct nat_eq []
 unfolding IsDistinct
 no_place = tt
 
-key_list_ok : (columns : List form.Column) (d : Option Data) (places : List ℕ) → form.key_list columns d ≡ Ok places → IsKey columns places
+key_list_ok : (columns : List Column) (d : Option Data) (places : List ℕ) → form.key_list columns d ≡ Ok places → IsKey columns places
 unfolding form.key_list
 key_list_ok columns d places e =
     let items = bind_ok (list KEY_PARTS d) _ _ e in
@@ -153,7 +153,7 @@ key_list_ok columns d places e =
       distinct = subst (IsDistinct nat_eq) some.0 apart;
     }
 
-one_place : (columns : List form.Column) (k : ℕ) → k < length columns → IsKey columns (k ∷ [])
+one_place : (columns : List Column) (k : ℕ) → k < length columns → IsKey columns (k ∷ [])
 unfolding IsDistinct
 one_place columns k within =
     record {
@@ -162,13 +162,13 @@ one_place columns k within =
       distinct = (tt, tt);
     }
 
-key_by_ok : (columns : List form.Column) (name : Option (List ℕ)) (d : Option Data) (places : List ℕ) → form.key_by columns name d ≡ Ok places → IsKey columns places
+key_by_ok : (columns : List Column) (name : Option (List ℕ)) (d : Option Data) (places : List ℕ) → form.key_by columns name d ≡ Ok places → IsKey columns places
 key_by_ok columns (Some name) d places e =
     let k = bind_ok (form.key_column columns name) _ _ e in
     subst (IsKey columns) (same_ok _ _ k.2) (one_place columns k.0 (key_column_ok columns name k.0 k.1))
 key_by_ok columns None d places e = key_list_ok columns d places e
 
-key_ok : (columns : List form.Column) (d : Option Data) (places : List ℕ) → form.key columns d ≡ Ok places → IsKey columns places
+key_ok : (columns : List Column) (d : Option Data) (places : List ℕ) → form.key columns d ≡ Ok places → IsKey columns places
 unfolding form.key
 key_ok columns d places e = key_by_ok columns (option_and_then as_str d) d places e
 
@@ -190,15 +190,15 @@ unfolding form.int_cell form.text_cell
 cell_of_ok type.Int d v e = int_by_ok (option_and_then as_i64 (as_number d)) (option_and_then as_u64 (as_number d)) v e
 cell_of_ok type.Text d v e = let found = bind_ok (text_by (as_str d)) _ _ e in cell_text_ok found.0 v found.2
 
-cell_in_ok : (found : Option form.Column) (d : Data) (v : Value) (column : form.Column) → found ≡ Some column → form.cell_in found d ≡ Ok v → FitsColumn column.1 v
-cell_in_ok (Some c) d v column is e = subst (λ (z : form.Column). FitsColumn z.1 v) (same_Some c column is) (cell_of_ok c.1 d v e)
+cell_in_ok : (found : Option Column) (d : Data) (v : Value) (column : Column) → found ≡ Some column → form.cell_in found d ≡ Ok v → FitsColumn column.1 v
+cell_in_ok (Some c) d v column is e = subst (λ (z : Column). FitsColumn z.1 v) (same_Some c column is) (cell_of_ok c.1 d v e)
 cell_in_ok None d v column is e = absurd cc
 
 -- the values so far fit their columns
-abbrev FitColumns : List form.Column → List Value → Type 0
-FitColumns columns values = (k : ℕ) (column : form.Column) (v : Value) → slice_get columns k ≡ Some column → slice_get values k ≡ Some v → FitsColumn column.1 v
+abbrev FitColumns : List Column → List Value → Type 0
+FitColumns columns values = (k : ℕ) (column : Column) (v : Value) → slice_get columns k ≡ Some column → slice_get values k ≡ Some v → FitsColumn column.1 v
 
-cell_ok : (columns : List form.Column) (values : List Value) (d : Data) (v : Value) → FitColumns columns values → form.cell columns values d ≡ Ok v → FitColumns columns (values ++ v ∷ [])
+cell_ok : (columns : List Column) (values : List Value) (d : Data) (v : Value) → FitColumns columns values → form.cell columns values d ≡ Ok v → FitColumns columns (values ++ v ∷ [])
 unfolding form.cell_at
 cell_ok columns values d v before e =
     λ k column w at there.
@@ -219,7 +219,7 @@ row_items_ok n (Some items) ds e =
     subst (λ (z : Items). items_length z ≡ n) (same_ok items ds whole.1) count
 row_items_ok n None ds e = absurd cc
 
-row_ok : (columns : List form.Column) (d : Data) (r : Row) → form.row columns d ≡ Ok r → IsRow columns r
+row_ok : (columns : List Column) (d : Data) (r : Row) → form.row columns d ≡ Ok r → IsRow columns r
 unfolding form.row
 row_ok columns d r e =
     let items = bind_ok (form.row_items (length columns) (as_array d)) _ _ e in
@@ -249,11 +249,11 @@ new_key places (r ∷ rows) key e =
     (new_key places rows key both.1)
 
 -- rows of a table, with different keys
-pub record AreRows (columns : List form.Column) (places : List ℕ) (rows : List Row) : Type 0 where
+pub record AreRows (columns : List Column) (places : List ℕ) (rows : List Row) : Type 0 where
   pub each : All (IsRow columns) rows
   pub apart : IsDistinct form.same_key (map (form.key_of places) rows)
 
-new_row_ok : (columns : List form.Column) (places : List ℕ) (before : List Row) (d : Data) (r : Row) → form.new_row columns places before d ≡ Ok r
+new_row_ok : (columns : List Column) (places : List ℕ) (before : List Row) (d : Data) (r : Row) → form.new_row columns places before d ≡ Ok r
     → IsRow columns r × (form.has_key places before (form.key_of places r) ≡ false)
 unfolding form.new_row
 new_row_ok columns places before d r e =
@@ -262,11 +262,11 @@ new_row_ok columns places before d r e =
     let same = same_ok found.0 r new.1 in
     (subst (IsRow columns) same (row_ok columns d found.0 found.1), ap (λ z. form.has_key places before (form.key_of places z)) (sym same) ∙ new.0)
 
-no_rows : (columns : List form.Column) (places : List ℕ) → AreRows columns places []
+no_rows : (columns : List Column) (places : List ℕ) → AreRows columns places []
 unfolding IsDistinct
 no_rows columns places = record { each = All-nil (IsRow columns); apart = tt }
 
-more_rows : (columns : List form.Column) (places : List ℕ) (before : List Row) (d : Data) (r : Row)
+more_rows : (columns : List Column) (places : List ℕ) (before : List Row) (d : Data) (r : Row)
     → AreRows columns places before → form.new_row columns places before d ≡ Ok r → AreRows columns places (before ++ r ∷ [])
 more_rows columns places before d r rows e =
     let one = new_row_ok columns places before d r e in
@@ -283,7 +283,7 @@ rows_by_ok used (Some items) ds e =
     subst (λ (z : Items). used + items_length z ≤ RESOURCE_ROWS) (same_ok items ds few.1) (le_of _ _ few.0)
 rows_by_ok used None ds e = absurd cc
 
-rows_ok : (used : ℕ) (columns : List form.Column) (places : List ℕ) (d : Option Data) (rows : List Row) → form.rows used columns places d ≡ Ok rows
+rows_ok : (used : ℕ) (columns : List Column) (places : List ℕ) (d : Option Data) (rows : List Row) → form.rows used columns places d ≡ Ok rows
     → AreRows columns places rows × (used + length rows ≤ RESOURCE_ROWS)
 unfolding form.rows
 rows_ok used columns places d rows e =
@@ -304,12 +304,12 @@ pub record IsRead (before : List TableDef) (used : ℕ) (def : TableDef) (rows :
   pub kept : AreRows def.columns def.key rows
   pub few : used + length rows ≤ RESOURCE_ROWS
 
-record IsHeading (before : List TableDef) (head : List ℕ × BranchKind × List form.Column) : Type 0 where
+record IsHeading (before : List TableDef) (head : List ℕ × BranchKind × List Column) : Type 0 where
   pub name : IsTableName head.0
   pub new : list_any (form.is_table_named head.0) before ≡ false
   pub columns : AreColumns head.2
 
-heading_ok : (before : List TableDef) (d : Data) (head : List ℕ × BranchKind × List form.Column) → form.heading before d ≡ Ok head → IsHeading before head
+heading_ok : (before : List TableDef) (d : Data) (head : List ℕ × BranchKind × List Column) → form.heading before d ≡ Ok head → IsHeading before head
 unfolding form.heading
 heading_ok before d head e =
     let shape = bind_ok (an_object d) _ _ e in
@@ -320,7 +320,7 @@ heading_ok before d head e =
     subst (IsHeading before) (same_ok _ _ columns.2)
     (record { name = new.0; new = new.1; columns = columns_ok (get (codes "columns") d) columns.0 (within_ok (to_member (codes "columns")) _ _ columns.1) })
 
-content_ok : (used : ℕ) (columns : List form.Column) (d : Data) (body : List ℕ × List Row) → form.content used columns d ≡ Ok body
+content_ok : (used : ℕ) (columns : List Column) (d : Data) (body : List ℕ × List Row) → form.content used columns d ≡ Ok body
     → IsKey columns body.0 × AreRows columns body.0 body.1 × (used + length body.1 ≤ RESOURCE_ROWS)
 unfolding form.content
 content_ok used columns d body e =

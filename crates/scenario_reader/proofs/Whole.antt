@@ -6,8 +6,8 @@ use Rattle.serde_json.specs.Data.{Data, null, boolean, number, string, array, ob
 use Rattle.serde_json.specs.Find.{get, get_member}
 use Rattle.seata_types.specs.Orders.{same_text}
 use Rattle.local_tables.proofs.KeyLaws.{same_text_itself}
-use Rattle.scenario_reader.specs.declared.scenarios.ManagerDef.{ManagerDef}
-use Rattle.scenario_reader.specs.declared.scenarios.ResourceDef.{ResourceDef}
+use Rattle.scenario_form.specs.declared.scenarios.ManagerDef.{ManagerDef}
+use Rattle.scenario_form.specs.declared.scenarios.ResourceDef.{ResourceDef}
 use Rattle.scenario_reader.specs.Bases.{without, without_stops}
 use Rattle.scenario_reader.specs.Faults.{Outcome, ◌>>=◌, is_known, are_known, only, only_by}
 use Rattle.scenario_reader.specs.Form as form

@@ -1,5 +1,5 @@
 -- What is known of a scenario once it is read.
-use Rattle.std.proofs.Common.{◌≡◌, ◌≤◌, ◌+◌, ℕ, Bool, true, false, ◌||◌, List, [], ◌∷◌, ◌++◌, length, map, Option, Some, None, Ok, refl, ap, sym, ◌∙◌, subst, append_assoc, arith}
+use Rattle.std.proofs.Common.{◌≡◌, ◌≤◌, ℕ, Bool, true, false, ◌||◌, List, [], ◌∷◌, ◌++◌, length, map, Option, Some, None, Ok, refl, ap, sym, ◌∙◌, subst, append_assoc, arith}
 use Rattle.std.proofs.lemmas.List.Folds.{list_any-append}
 use Rattle.std.specs.List.{list_any}
 use Rattle.std.specs.Prelude.{All, codes}
@@ -9,17 +9,17 @@ use Rattle.seata_types.specs.Orders.{same_text}
 use Rattle.seata_types.specs.declared.limits.TheConstants.{CALLS, DEFAULT_DISK, DEFAULT_LOCK_TRIES, DEFAULT_RETRY, DEFAULT_TIMEOUT, DISK_LEAST, DISK_MOST, LOCK_TRIES, MANAGERS, SILENT, TICKS}
 use Rattle.seata_types.specs.declared.statements.Work.{Work}
 use Rattle.seata_types.specs.declared.statuses.Ending.{Ending}
-use Rattle.scenario_reader.specs.declared.scenarios.ManagerDef.{ManagerDef}
-use Rattle.scenario_reader.specs.declared.scenarios.ResourceDef.{ResourceDef}
+use Rattle.scenario_form.specs.declared.scenarios.ManagerDef.{ManagerDef}
+use Rattle.scenario_form.specs.declared.scenarios.ResourceDef.{ResourceDef}
 use Rattle.scenario_reader.specs.declared.settings.Settings.{Settings}
-use Rattle.scenario_reader.specs.Contents.{IsBetween, IsNodeName, AreDifferent, IsCall}
-use Rattle.scenario_reader.specs.Faults.{◌>>=◌, each, list, text, member, an_object, only, to_member}
+use Rattle.scenario_form.specs.Contents.{IsBetween, IsNodeName, AreDifferent, IsCall}
+use Rattle.scenario_reader.specs.Faults.{list, text, member, an_object, only, to_member}
 use Rattle.scenario_reader.specs.Form as form
 use Rattle.scenario_reader.specs.Managers as users
 use Rattle.scenario_reader.specs.Calls.{calls}
 use Rattle.scenario_reader.specs.Numbers.{number_in, number_or}
 use Rattle.scenario_reader.specs.Names.{new_node, new_node_name, is_node, is_resource_named, is_manager_named}
-use Rattle.scenario_reader.specs.Runnable.{IsTimed, IsManager, IsAtMost, resource_name, manager_name}
+use Rattle.scenario_form.specs.Runnable.{IsTimed, IsManager, IsAtMost, resource_name, manager_name}
 use Rattle.scenario_reader.proofs.Apart.{distinct_push, same_text_flips, map_push, any_map}
 use Rattle.scenario_reader.proofs.CallFacts.{calls_ok}
 use Rattle.scenario_reader.proofs.Inverses.{bind_ok, within_ok, if_ok, unless_ok, same_ok, le_of, number_in_ok, number_or_ok, each_keeps, each_all, each_few}

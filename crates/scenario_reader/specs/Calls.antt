@@ -1,10 +1,9 @@
 -- Statements, calls of managers, and locals.
-use Rattle.std.specs.Prelude.{ℕ, ◌+◌, ◌&&◌, ◌||◌, not, nat_le, Bool, true, false, if◌then◌else◌, List, [], ◌∷◌, length, position, find, slice_get, Option, Some, None, Result, Ok, Err, codes}
+use Rattle.std.specs.Prelude.{ℕ, ◌+◌, ◌&&◌, ◌||◌, not, nat_le, Bool, if◌then◌else◌, List, [], ◌∷◌, length, position, find, slice_get, Option, Some, None, Result, Ok, Err, codes}
 use Rattle.serde_json.specs.Data.{Data}
 use Rattle.serde_json.specs.Find.{as_str}
 use Rattle.seata_types.specs.declared.limits.TheConstants.{CALLS, LOCALS, STATEMENTS, STATEMENT_BYTES}
 use Rattle.seata_types.specs.declared.statements.Stmt.{Stmt}
-use Rattle.seata_types.specs.declared.statements.Stmt.TheVariants as stmt
 use Rattle.seata_types.specs.declared.statements.Work.{Work}
 use Rattle.seata_types.specs.declared.statements.Work.TheVariants as work
 use Rattle.seata_types.specs.declared.statuses.BranchKind.{BranchKind}
@@ -15,9 +14,11 @@ use Rattle.sql_reader.specs.Answer.{reading}
 use Rattle.sql_reader.specs.declared.errors.SqlError.{SqlError}
 use Rattle.sql_reader.specs.declared.errors.SqlError.TheVariants as sql
 use Rattle.scenario_reader.specs.declared.errors.ScenarioError.TheVariants as fault
-use Rattle.scenario_reader.specs.declared.scenarios.ResourceDef.{ResourceDef}
+use Rattle.scenario_form.specs.declared.scenarios.ResourceDef.{ResourceDef}
 use Rattle.scenario_reader.specs.Faults.{Outcome, ◌>>=◌, wrong_shape, wrong_sql, wrong_mode, wrong_name, beyond, member, each, text, text_by, list, an_object, only, has}
-use Rattle.scenario_reader.specs.Names.{is_word, is_resource_named}
+use Rattle.scenario_form.specs.Contents.{suits, table_of}
+use Rattle.scenario_form.specs.Names.{is_word}
+use Rattle.scenario_reader.specs.Names.{is_resource_named}
 use Rattle.scenario_reader.specs.Tables.{is_table_named}
 
 -- ---- statements
@@ -31,20 +32,6 @@ read_by (Err sql.NoMemory) = Err fault.NoMemory
 -- a statement of the grammar
 unfoldable pub parsed : List ℕ → Outcome Stmt
 parsed found = if nat_le (length found) STATEMENT_BYTES then read_by (reading found) else beyond STATEMENT_BYTES
-
--- the table that a statement names
-abbrev pub table_of : Stmt → List ℕ
-table_of (stmt.Insert table columns tuples) = table
-table_of (stmt.Update table sets asked) = table
-table_of (stmt.Delete table asked) = table
-table_of (stmt.Select table asked) = table
-
--- whether a statement may stand in a call of this kind, by the kind of its table
-abbrev pub suits : BranchKind → BranchKind → Stmt → Bool
-suits kind.At kind.At found = true
-suits kind.Tcc kind.Tcc (stmt.Select table asked) = false
-suits kind.Tcc kind.Tcc _ = true
-suits _ _ _ = false
 
 -- the statement, by its table: where it doesn't suit the call the mode is wrong, where there is none the name
 abbrev pub standing_by : BranchKind → Stmt → Option TableDef → Outcome Stmt

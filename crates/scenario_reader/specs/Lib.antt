@@ -10,5 +10,3 @@ pub mod Steps
 pub mod Form
 pub mod Bases
 pub mod Reading
-pub mod Contents
-pub mod Runnable

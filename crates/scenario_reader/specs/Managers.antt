@@ -7,8 +7,8 @@ use Rattle.seata_types.specs.declared.limits.TheConstants.{MANAGERS, SILENT, TIC
 use Rattle.seata_types.specs.declared.statements.Work.{Work}
 use Rattle.seata_types.specs.declared.statuses.Ending.{Ending}
 use Rattle.seata_types.specs.declared.statuses.Ending.TheVariants as how
-use Rattle.scenario_reader.specs.declared.scenarios.ManagerDef.{ManagerDef}
-use Rattle.scenario_reader.specs.declared.scenarios.ResourceDef.{ResourceDef}
+use Rattle.scenario_form.specs.declared.scenarios.ManagerDef.{ManagerDef}
+use Rattle.scenario_form.specs.declared.scenarios.ResourceDef.{ResourceDef}
 use Rattle.scenario_reader.specs.Faults.{Outcome, ◌>>=◌, wrong_shape, member, each, text, list, an_object, only}
 use Rattle.scenario_reader.specs.Numbers.{number_in, number_or}
 use Rattle.scenario_reader.specs.Names.{new_node}

@@ -7,11 +7,12 @@ use Rattle.seata_types.specs.Orders.{same_text}
 use Rattle.seata_types.specs.declared.ids.Place.{Place}
 use Rattle.seata_types.specs.declared.ids.Place.TheVariants as place
 use Rattle.seata_types.specs.declared.limits.TheConstants.{STOP_CALLS}
-use Rattle.scenario_reader.specs.declared.scenarios.ManagerDef.{ManagerDef}
-use Rattle.scenario_reader.specs.declared.scenarios.ResourceDef.{ResourceDef}
+use Rattle.scenario_form.specs.declared.scenarios.ManagerDef.{ManagerDef}
+use Rattle.scenario_form.specs.declared.scenarios.ResourceDef.{ResourceDef}
 use Rattle.scenario_reader.specs.Faults.{Outcome, ◌>>=◌, wrong_shape, wrong_name, within, to_item, each, text_by, any_list, triple}
 use Rattle.scenario_reader.specs.Numbers.{number_in}
-use Rattle.scenario_reader.specs.Names.{is_word, is_resource_named, is_manager_named}
+use Rattle.scenario_form.specs.Names.{is_word}
+use Rattle.scenario_reader.specs.Names.{is_resource_named, is_manager_named}
 
 -- the manager at a place, counted from 0, where the name was found
 abbrev pub manager_by : Option ℕ → Outcome Place

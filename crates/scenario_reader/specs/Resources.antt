@@ -4,7 +4,7 @@ use Rattle.serde_json.specs.Data.{Data, Items, no_items, item}
 use Rattle.seata_types.specs.declared.limits.TheConstants.{RESOURCES, TABLES}
 use Rattle.seata_types.specs.declared.rows.Row.{Row}
 use Rattle.local_tables.specs.declared.schemas.TableDef.{TableDef}
-use Rattle.scenario_reader.specs.declared.scenarios.ResourceDef.{ResourceDef}
+use Rattle.scenario_form.specs.declared.scenarios.ResourceDef.{ResourceDef}
 use Rattle.scenario_reader.specs.Faults.{Outcome, ◌>>=◌, member, within, to_item, each, list, an_object, only}
 use Rattle.scenario_reader.specs.Names.{new_node}
 use Rattle.scenario_reader.specs.Tables.{table}

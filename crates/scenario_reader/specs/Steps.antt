@@ -1,18 +1,19 @@
 -- The texts of the schedule.
-use Rattle.std.specs.Prelude.{ℕ, ◌+◌, ◌==◌, ◌&&◌, nat_le, Bool, if◌then◌else◌, List, [], ◌∷◌, Option, Some, None, Ok, codes}
+use Rattle.std.specs.Prelude.{ℕ, ◌+◌, ◌==◌, ◌&&◌, nat_le, Bool, if◌then◌else◌, List, [], Option, Some, None, Ok, codes}
 use Rattle.std.specs.List.{list_any, before_first, after_first}
 use Rattle.serde_json.specs.Data.{Data}
 use Rattle.serde_json.specs.Find.{as_str}
 use Rattle.disk_model.specs.declared.disk.TheConstants.{LAST_PICK}
 use Rattle.seata_types.specs.Orders.{same_text}
 use Rattle.seata_types.specs.declared.limits.TheConstants.{SCHEDULE_MEMBERS, STEPS, STOP_CALLS, TICKS}
-use Rattle.scenario_reader.specs.declared.scenarios.ManagerDef.{ManagerDef}
-use Rattle.scenario_reader.specs.declared.scenarios.ResourceDef.{ResourceDef}
-use Rattle.scenario_reader.specs.declared.scenarios.ScheduleItem.{ScheduleItem}
-use Rattle.scenario_reader.specs.declared.scenarios.ScheduleItem.TheVariants as step
+use Rattle.scenario_form.specs.declared.scenarios.ManagerDef.{ManagerDef}
+use Rattle.scenario_form.specs.declared.scenarios.ResourceDef.{ResourceDef}
+use Rattle.scenario_form.specs.declared.scenarios.ScheduleItem.{ScheduleItem}
+use Rattle.scenario_form.specs.declared.scenarios.ScheduleItem.TheVariants as step
 use Rattle.scenario_reader.specs.Faults.{Outcome, ◌>>=◌, wrong_shape, beyond, wrong_name, each, text_by, list}
 use Rattle.scenario_reader.specs.Numbers.{is_plain, number_of_text, plain_number}
-use Rattle.scenario_reader.specs.Names.{is_word}
+use Rattle.scenario_form.specs.Names.{is_word}
+use Rattle.scenario_form.specs.Runnable.{all_steps, steps_of}
 use Rattle.scenario_reader.specs.Nodes.{server, node}
 
 abbrev pub is_space : ℕ → Bool
@@ -113,16 +114,6 @@ item_of resources managers count d = do
   step_of resources managers count (front text) (behind text)
 
 -- ---- the schedule
-
--- the single steps that an item stands for
-abbrev pub steps_of : ScheduleItem → ℕ
-steps_of (step.Auto k) = k
-steps_of _ = 1
-
--- the single steps of all items
-abbrev pub all_steps : List ScheduleItem → ℕ
-all_steps [] = 0
-all_steps (x ∷ items) = steps_of x + all_steps items
 
 -- a step of the schedule, behind these
 unfoldable pub next_item : List ResourceDef → List ManagerDef → ℕ → List ScheduleItem → Data → Outcome ScheduleItem

@@ -1,5 +1,5 @@
 -- Tables: their columns, their keys and their rows.
-use Rattle.std.specs.Prelude.{◌≡◌, ℕ, ◌+◌, ◌^◌, ◌-◌, ◌==◌, ◌&&◌, cond, not, nat_le, Bool, true, false, if◌then◌else◌, ℤ, List, [], ◌∷◌, length, position, ◌++◌, slice_get, Option, Some, None, option_and_then, Ok, codes}
+use Rattle.std.specs.Prelude.{◌≡◌, ℕ, ◌+◌, ◌^◌, ◌-◌, ◌==◌, cond, nat_le, Bool, true, false, if◌then◌else◌, ℤ, List, [], ◌∷◌, length, position, ◌++◌, slice_get, Option, Some, None, option_and_then, Ok, codes}
 use Rattle.std.specs.List.{list_all, list_any}
 use Rattle.std.specs.Cmp.Lexicographic.{slice_cmp}
 use Rattle.std.specs.BTreeMap.{is_at}
@@ -20,14 +20,12 @@ use Rattle.local_tables.specs.declared.schemas.ColType.{ColType}
 use Rattle.local_tables.specs.declared.schemas.ColType.TheVariants as type
 use Rattle.local_tables.specs.declared.schemas.TableDef.{TableDef}
 use Rattle.scenario_reader.specs.Faults.{Outcome, ◌>>=◌, wrong_shape, beyond, wrong_name, member, within, to_item, each, text, text_by, list, items_length, pair, an_object, only}
-use Rattle.scenario_reader.specs.Names.{is_table_name, new_name}
+use Rattle.scenario_form.specs.Contents.{Column, is_printable}
+use Rattle.scenario_form.specs.Names.{is_table_name}
+use Rattle.scenario_reader.specs.Names.{new_name}
 
 abbrev pub row_of : List Value → Row
 row_of values = record { 0 = values }
-
--- a column: its name and its type
-abbrev pub Column : Type 0
-Column = List ℕ × ColType
 
 -- ---- name and mode
 
@@ -144,10 +142,6 @@ int_by None None = wrong_shape
 -- a whole number
 unfoldable pub int_cell : Data → Outcome Value
 int_cell d = int_by (option_and_then as_i64 (as_number d)) (option_and_then as_u64 (as_number d))
-
--- no control character: neither below a space nor 127
-abbrev pub is_printable : ℕ → Bool
-is_printable b = nat_le 32 b && not (b == 127)
 
 -- a text for a row: short enough, and without a control character
 abbrev pub cell_text : List ℕ → Outcome Value

@@ -44,7 +44,7 @@ fn without_steps(
     ensures { IfOk result (λ new. members_view new.entries ≡ put (codes "schedule") (array no_items) (members_view members.entries)) }
 {
     let schedule = Value::Array(Vec::new(alloc));
-    serde_json::put(&mut members, alloc, "schedule", schedule).map_err(|_| NoMemory)?;
+    serde_json::put(&mut members, alloc, "schedule", schedule)?;
     Ok(members)
 }
 
@@ -68,6 +68,6 @@ pub fn base_of(alloc: Global, value: Value) -> Result<Text, NoMemory>
     ensures { IfOk result (IsTextOf (without_steps (view value))) }
 {
     let value = kept_value(alloc, value)?;
-    let text = value.to_string(alloc).map_err(|_| NoMemory)?;
+    let text = value.to_string(alloc)?;
     Ok(Text::of(text))
 }

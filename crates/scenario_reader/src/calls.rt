@@ -6,11 +6,11 @@ ghost use Rattle.scenario_reader.specs.Calls as form;
 ghost use Rattle.scenario_reader.specs.Faults.{Answers, AnswersAs, each, member, vec_of};
 
 use crate::errors::ScenarioError;
-use crate::names::{is_word, resource_position};
-use crate::scenarios::ResourceDef;
+use crate::names::{is_word, position_of};
 use crate::shapes::{an_object, has, list, only, text};
 use crate::statements::statements;
 use local_tables::Schema;
+use scenario_form::ResourceDef;
 use seata_types::limits::{CALLS, LOCALS};
 use seata_types::{Action, BranchKind, List, Stmt, Work};
 use serde_json::Value;
@@ -28,10 +28,10 @@ fn is_action(value: &Value) -> bool
 fn at_work(alloc: Global, schema: &Schema, value: &Value) -> Result<Work, ScenarioError>
     ensures { Answers (form.at_work schema.now (view value.now)) result }
 {
-    let found = statements(alloc, schema, BranchKind::At, value.get("do")).map_err(
-        |fault| fault.in_member(alloc, "do"),
-    )?;
-    Ok(Work::At(found))
+    match statements(alloc, schema, BranchKind::At, value.get("do")) {
+        Ok(found) => Ok(Work::At(found)),
+        Err(fault) => Err(fault.in_member(alloc, "do")),
+    }
 }
 
 /// The actions of the TCC mode.
@@ -39,15 +39,18 @@ fn at_work(alloc: Global, schema: &Schema, value: &Value) -> Result<Work, Scenar
 fn tcc_work(alloc: Global, schema: &Schema, value: &Value) -> Result<Work, ScenarioError>
     ensures { Answers (form.tcc_work schema.now (view value.now)) result }
 {
-    let tries = statements(alloc, schema, BranchKind::Tcc, value.get("try")).map_err(
-        |fault| fault.in_member(alloc, "try"),
-    )?;
-    let confirms = statements(alloc, schema, BranchKind::Tcc, value.get("confirm")).map_err(
-        |fault| fault.in_member(alloc, "confirm"),
-    )?;
-    let cancels = statements(alloc, schema, BranchKind::Tcc, value.get("cancel")).map_err(
-        |fault| fault.in_member(alloc, "cancel"),
-    )?;
+    let tries = match statements(alloc, schema, BranchKind::Tcc, value.get("try")) {
+        Ok(tries) => tries,
+        Err(fault) => return Err(fault.in_member(alloc, "try")),
+    };
+    let confirms = match statements(alloc, schema, BranchKind::Tcc, value.get("confirm")) {
+        Ok(confirms) => confirms,
+        Err(fault) => return Err(fault.in_member(alloc, "confirm")),
+    };
+    let cancels = match statements(alloc, schema, BranchKind::Tcc, value.get("cancel")) {
+        Ok(cancels) => cancels,
+        Err(fault) => return Err(fault.in_member(alloc, "cancel")),
+    };
     Ok(Work::Tcc(Action {
         tries,
         confirms,
@@ -92,7 +95,7 @@ fn resource_place(
     if !is_word(name) {
         return Err(ScenarioError::shape(alloc));
     }
-    match resource_position(resources, name) {
+    match position_of(resources, name) {
         Some(place) => Ok(place),
         None => Err(ScenarioError::name(alloc)),
     }
@@ -116,7 +119,10 @@ fn place_of(alloc: Global, resources: &[ResourceDef], value: &Value) -> Result<u
     ensures exact { Answers (member (codes "at") (form.resource_at resources.now) (view value.now)) result }
     ensures within { IfOk result (λ k. k < length resources.now) }
 {
-    resource_at(alloc, resources, value.get("at")).map_err(|fault| fault.in_member(alloc, "at"))
+    match resource_at(alloc, resources, value.get("at")) {
+        Ok(place) => Ok(place),
+        Err(fault) => Err(fault.in_member(alloc, "at")),
+    }
 }
 
 /// A call: its resource's number, counted from 1, and its work.
@@ -146,10 +152,10 @@ fn each_call(
 {
     let mut calls = Vec::new(alloc);
     for value in values {
-        let found = call(alloc, resources, value).map_err(|fault| fault.in_item(
-            alloc,
-            calls.len(),
-        ))?;
+        let found = match call(alloc, resources, value) {
+            Ok(found) => found,
+            Err(fault) => return Err(fault.in_item(alloc, calls.len())),
+        };
         calls.push(found)?;
     }
     Ok(calls)
@@ -178,9 +184,10 @@ fn local_statements(
 ) -> Result<List<Stmt>, ScenarioError>
     ensures { Answers (form.local_statements schema.now (view value.now)) result }
 {
-    statements(alloc, schema, BranchKind::At, value.get("do")).map_err(|fault| fault.in_member(
-        alloc, "do",
-    ))
+    match statements(alloc, schema, BranchKind::At, value.get("do")) {
+        Ok(found) => Ok(found),
+        Err(fault) => Err(fault.in_member(alloc, "do")),
+    }
 }
 
 /// A local: its resource's number, counted from 1, and its statements.
@@ -211,10 +218,10 @@ fn each_local(
 {
     let mut locals = Vec::new(alloc);
     for value in values {
-        let found = local_item(alloc, resources, value).map_err(|fault| fault.in_item(
-            alloc,
-            locals.len(),
-        ))?;
+        let found = match local_item(alloc, resources, value) {
+            Ok(found) => found,
+            Err(fault) => return Err(fault.in_item(alloc, locals.len())),
+        };
         locals.push(found)?;
     }
     Ok(locals)

@@ -31,13 +31,14 @@ fn here(alloc: Global) -> Text
     Text::of(String::new(alloc))
 }
 
-/// This path in front of that one.
-fn joined(alloc: Global, front: &str, path: &Text) -> Result<Text, NoMemory>
-    ensures { IfOk result (λ whole. whole ≡ front.now ++ path.now) }
+/// Puts this path in front of that one.
+fn put_front(alloc: Global, front: &str, path: &mut Text) -> Result<(), NoMemory>
+    ensures { IfOk result (λ _. path.new ≡ front.now ++ path.old) }
 {
-    let mut whole = String::from_str(alloc, front).map_err(|_| NoMemory)?;
-    whole.push_str(path.as_str()).map_err(|_| NoMemory)?;
-    Ok(Text::of(whole))
+    let mut whole = String::from_str(alloc, front)?;
+    whole.push_str(path.as_str())?;
+    *path = Text::of(whole);
+    Ok(())
 }
 
 impl ScenarioError {
@@ -78,33 +79,30 @@ impl ScenarioError {
         ScenarioError::Sql { path, at }
     }
 
-    fn moved(self, alloc: Global, front: &str) -> Result<ScenarioError, NoMemory>
-        ensures ok { IfOk result (λ fault. fault ≡ moved front.now self) }
-        ensures told { IfOk result (λ fault. fault ≢ ScenarioError.NoMemory → self ≢ ScenarioError.NoMemory) }
+    /// Puts this path in front of the fault's own, where it has one.
+    fn move_by(&mut self, alloc: Global, front: &str) -> Result<(), NoMemory>
+        ensures { IfOk result (λ _. self.new ≡ moved front.now self.old) }
     {
         match self {
-            ScenarioError::Shape { path } => {
-                let path = joined(alloc, front, &path)?;
-                Ok(ScenarioError::Shape { path })
+            ScenarioError::Shape { path } => put_front(alloc, front, path),
+            ScenarioError::Limit { path, .. } => put_front(alloc, front, path),
+            ScenarioError::Sql { path, .. } => put_front(alloc, front, path),
+            ScenarioError::Mode { path } => put_front(alloc, front, path),
+            ScenarioError::Name { path } => put_front(alloc, front, path),
+            ScenarioError::NotJson | ScenarioError::NoMemory => Ok(()),
+        }
+    }
+
+    /// The fault with this path in front of its own.
+    fn moved(mut self, alloc: Global, front: &str) -> ScenarioError
+        ensures { IsMoved front.now self result }
+    {
+        match self.move_by(alloc, front) {
+            Ok(()) => self,
+            Err(NoMemory) => {
+                drop(self);
+                ScenarioError::NoMemory
             }
-            ScenarioError::Limit { path, limit } => {
-                let path = joined(alloc, front, &path)?;
-                Ok(ScenarioError::Limit { path, limit })
-            }
-            ScenarioError::Sql { path, at } => {
-                let path = joined(alloc, front, &path)?;
-                Ok(ScenarioError::Sql { path, at })
-            }
-            ScenarioError::Mode { path } => {
-                let path = joined(alloc, front, &path)?;
-                Ok(ScenarioError::Mode { path })
-            }
-            ScenarioError::Name { path } => {
-                let path = joined(alloc, front, &path)?;
-                Ok(ScenarioError::Name { path })
-            }
-            ScenarioError::NotJson => Ok(ScenarioError::NotJson),
-            ScenarioError::NoMemory => Ok(ScenarioError::NoMemory),
         }
     }
 
@@ -113,11 +111,11 @@ impl ScenarioError {
         ensures { IsMoved (to_member name.now) self result }
     {
         match format!(in alloc; "/{name}") {
-            Ok(front) => match self.moved(alloc, front.as_str()) {
-                Ok(fault) => fault,
-                Err(NoMemory) => ScenarioError::NoMemory,
-            },
-            Err(_) => ScenarioError::NoMemory,
+            Ok(front) => self.moved(alloc, front.as_str()),
+            Err(_) => {
+                drop(self);
+                ScenarioError::NoMemory
+            }
         }
     }
 
@@ -126,11 +124,11 @@ impl ScenarioError {
         ensures { IsMoved (to_item place) self result }
     {
         match format!(in alloc; "/{place}") {
-            Ok(front) => match self.moved(alloc, front.as_str()) {
-                Ok(fault) => fault,
-                Err(NoMemory) => ScenarioError::NoMemory,
-            },
-            Err(_) => ScenarioError::NoMemory,
+            Ok(front) => self.moved(alloc, front.as_str()),
+            Err(_) => {
+                drop(self);
+                ScenarioError::NoMemory
+            }
         }
     }
 }

@@ -1,6 +1,7 @@
 //! The scenario of a JSON value, or its first fault in the order of the members.
-ghost use Rattle.std.specs.Prelude.{◌≡◌, ◌≤◌, ◌≢◌, [], codes, length, option_map, IfOk, IfErr};
-ghost use Rattle.seata_types.specs.declared.limits.TheConstants.{RESOURCES};
+ghost use Rattle.std.specs.Prelude.{◌≡◌, ◌≤◌, [], codes, length, Option, option_map, IfOk};
+ghost use Rattle.seata_types.specs.declared.limits.TheConstants.{MANAGERS, RESOURCES};
+ghost use Rattle.serde_json.specs.Data.{Data};
 ghost use Rattle.serde_json.specs.View.{view};
 ghost use Rattle.scenario_reader.specs.Form as form;
 ghost use Rattle.scenario_reader.specs.Form.{IsTold};
@@ -12,13 +13,20 @@ use crate::errors::ScenarioError;
 use crate::managers::managers;
 use crate::nodes::stops;
 use crate::resources::resources;
-use crate::scenarios::{ResourceDef, Scenario};
 use crate::schedules::schedule;
 use crate::settings::{Settings, settings_of};
 use crate::shapes::{an_object, only};
-use seata_types::{List, Place, Text};
+use scenario_form::{ManagerDef, ResourceDef, Scenario, ScheduleItem};
+use seata_types::{List, NoMemory, Place, Stmt, Text};
 use serde_json::Value;
 use std::alloc::Global;
+
+/// The locals, the stops and the schedule of a scenario.
+type Events = (
+    List<(u16, List<Stmt>)>,
+    List<(Place, u32, u16)>,
+    List<ScheduleItem>,
+);
 
 const SCENARIO_MEMBERS: [&str; 10] = [
     "timeout",
@@ -49,11 +57,10 @@ fn servers(alloc: Global, value: &Value) -> Result<(Settings, List<ResourceDef>)
 {
     an_object(alloc, value)?;
     let set = settings_of(alloc, value)?;
-    let resources = resources(alloc, value.get("resources")).map_err(|fault| fault.in_member(
-        alloc,
-        "resources",
-    ))?;
-    Ok((set, resources))
+    match resources(alloc, value.get("resources")) {
+        Ok(resources) => Ok((set, resources)),
+        Err(fault) => Err(fault.in_member(alloc, "resources")),
+    }
 }
 
 /// The stops that were found, whose JSON is let go.
@@ -65,31 +72,61 @@ fn read_stops(
     requires { length resources.now ≤ RESOURCES }
     ensures { Answers (within (to_member (codes "stops")) (stops resources.now (option_map view found))) result }
 {
-    stops(alloc, resources, found.as_ref()).map_err(|fault| fault.in_member(alloc, "stops"))
+    match stops(alloc, resources, found.as_ref()) {
+        Ok(stops) => Ok(stops),
+        Err(fault) => Err(fault.in_member(alloc, "stops")),
+    }
+}
+
+/// The locals, the stops that were read, and the schedule of a scenario.
+#[tactic(auto, unfolding(crate::specs::Form::events))]
+fn events(
+    alloc: Global,
+    servers: &[ResourceDef],
+    users: &[ManagerDef],
+    halts: Result<List<(Place, u32, u16)>, ScenarioError>,
+    value: &Value,
+) -> Result<Events, ScenarioError>
+    requires resources { length servers.now ≤ RESOURCES }
+    requires managers { length users.now ≤ MANAGERS }
+    ensures { (found : Option Data) → Answers (within (to_member (codes "stops")) (stops servers.now found)) halts → Answers (form.events servers.now users.now found (view value.now)) result }
+{
+    let writers = match locals(alloc, servers, value.get("locals")) {
+        Ok(writers) => writers,
+        Err(fault) => {
+            drop(halts);
+            return Err(fault.in_member(alloc, "locals"));
+        }
+    };
+    let halts = match halts {
+        Ok(halts) => halts,
+        Err(fault) => return Err(fault),
+    };
+    let count = writers.as_slice().len();
+    match schedule(alloc, servers, users, count, value.get("schedule")) {
+        Ok(steps) => Ok((writers, halts, steps)),
+        Err(fault) => Err(fault.in_member(alloc, "schedule")),
+    }
 }
 
 /// The scenario but for its `base`, or the first fault with its path from the root. The stops, which are
 /// the largest as JSON, are read and let go before the statements take their memory.
-#[tactic(auto, unfolding(crate::specs::Form::parts, crate::specs::Form::nodes, crate::specs::Form::events))]
+#[tactic(auto, unfolding(crate::specs::Form::parts, crate::specs::Form::nodes))]
 fn parts(alloc: Global, found: Option<Value>, value: &Value) -> Result<Scenario, ScenarioError>
     ensures exact { Answers (form.parts (option_map view found) (view value.now)) result }
     ensures bare { IfOk result (λ s. s.base ≡ []) }
 {
     let (set, resources) = servers(alloc, value)?;
     let servers = resources.as_slice();
-    let stops = read_stops(alloc, servers, found);
-    let managers = managers(alloc, servers, set.timeout, value.get("managers")).map_err(
-        |fault| fault.in_member(alloc, "managers"),
-    )?;
-    let locals = locals(alloc, servers, value.get("locals")).map_err(|fault| fault.in_member(
-        alloc, "locals",
-    ))?;
-    let stops = stops?;
-    let users = managers.as_slice();
-    let count = locals.as_slice().len();
-    let schedule = schedule(alloc, servers, users, count, value.get("schedule")).map_err(
-        |fault| fault.in_member(alloc, "schedule"),
-    )?;
+    let halts = read_stops(alloc, servers, found);
+    let managers = match managers(alloc, servers, set.timeout, value.get("managers")) {
+        Ok(managers) => managers,
+        Err(fault) => {
+            drop(halts);
+            return Err(fault.in_member(alloc, "managers"));
+        }
+    };
+    let (locals, stops, schedule) = events(alloc, servers, managers.as_slice(), halts, value)?;
     only_members(alloc, value)?;
     Ok(Scenario {
         timeout: set.timeout,
@@ -106,56 +143,41 @@ fn parts(alloc: Global, found: Option<Value>, value: &Value) -> Result<Scenario,
     })
 }
 
-/// The path as it is told: that of the root is a point.
-fn told_path(alloc: Global, path: Text) -> Result<Text, ScenarioError>
-    ensures value { IfOk result (λ told. told ≡ form.told_path path) }
-    ensures refused { IfErr result (λ e. e ≡ ScenarioError.NoMemory) }
+/// Makes a path one as it is told: that of the root is a point.
+fn tell_path(alloc: Global, path: &mut Text) -> Result<(), NoMemory>
+    ensures { IfOk result (λ _. path.new ≡ form.told_path path.old) }
 {
-    if !path.as_str().is_empty() {
-        return Ok(path);
+    if path.as_str().is_empty() {
+        let root = String::from_str(alloc, ".")?;
+        *path = Text::of(root);
     }
-    let root = String::from_str(alloc, ".")?;
-    Ok(Text::of(root))
+    Ok(())
+}
+
+/// Makes the path of a fault one as it is told.
+fn tell(alloc: Global, fault: &mut ScenarioError) -> Result<(), NoMemory>
+    ensures { IfOk result (λ _. fault.new ≡ form.told fault.old) }
+{
+    match fault {
+        ScenarioError::Shape { path } => tell_path(alloc, path),
+        ScenarioError::Limit { path, .. } => tell_path(alloc, path),
+        ScenarioError::Sql { path, .. } => tell_path(alloc, path),
+        ScenarioError::Mode { path } => tell_path(alloc, path),
+        ScenarioError::Name { path } => tell_path(alloc, path),
+        ScenarioError::NotJson | ScenarioError::NoMemory => Ok(()),
+    }
 }
 
 /// The fault with its path as it is told.
-fn told_or_refused(alloc: Global, fault: ScenarioError) -> Result<ScenarioError, ScenarioError>
-    ensures value { IfOk result (λ told. told ≡ form.told fault) }
-    ensures whose { IfOk result (λ told. told ≢ ScenarioError.NoMemory → fault ≢ ScenarioError.NoMemory) }
-    ensures refused { IfErr result (λ e. e ≡ ScenarioError.NoMemory) }
-{
-    match fault {
-        ScenarioError::Shape { path } => {
-            let path = told_path(alloc, path)?;
-            Ok(ScenarioError::Shape { path })
-        }
-        ScenarioError::Limit { path, limit } => {
-            let path = told_path(alloc, path)?;
-            Ok(ScenarioError::Limit { path, limit })
-        }
-        ScenarioError::Sql { path, at } => {
-            let path = told_path(alloc, path)?;
-            Ok(ScenarioError::Sql { path, at })
-        }
-        ScenarioError::Mode { path } => {
-            let path = told_path(alloc, path)?;
-            Ok(ScenarioError::Mode { path })
-        }
-        ScenarioError::Name { path } => {
-            let path = told_path(alloc, path)?;
-            Ok(ScenarioError::Name { path })
-        }
-        ScenarioError::NotJson => Ok(ScenarioError::NotJson),
-        ScenarioError::NoMemory => Ok(ScenarioError::NoMemory),
-    }
-}
-
-fn told(alloc: Global, fault: ScenarioError) -> ScenarioError
+fn told(alloc: Global, mut fault: ScenarioError) -> ScenarioError
     ensures { IsTold fault result }
 {
-    match told_or_refused(alloc, fault) {
-        Ok(told) => told,
-        Err(_) => ScenarioError::NoMemory,
+    match tell(alloc, &mut fault) {
+        Ok(()) => fault,
+        Err(NoMemory) => {
+            drop(fault);
+            ScenarioError::NoMemory
+        }
     }
 }
 
@@ -168,5 +190,8 @@ pub fn scenario_of(
     ensures exact { Answers (form.told_of (form.parts (option_map view found) (view value.now))) result }
     ensures bare { IfOk result (λ s. s.base ≡ []) }
 {
-    parts(alloc, found, value).map_err(|fault| told(alloc, fault))
+    match parts(alloc, found, value) {
+        Ok(scenario) => Ok(scenario),
+        Err(fault) => Err(told(alloc, fault)),
+    }
 }

@@ -1,4 +1,4 @@
-//! Scenarios: what the program runs, and the JSON form that they are read from.
+//! The JSON form that scenarios are read from.
 //! `read` accepts exactly the form of docs/SCENARIO.md and names the first cause otherwise.
 #![tactic(auto)]
 
@@ -13,7 +13,6 @@ mod numbers;
 mod reading;
 mod resources;
 mod rows;
-pub mod scenarios;
 mod schedules;
 mod settings;
 mod shapes;
@@ -22,4 +21,4 @@ mod tables;
 
 pub use errors::ScenarioError;
 pub use reading::read;
-pub use scenarios::{ManagerDef, ResourceDef, Scenario, ScheduleItem};
+pub use scenario_form::{ManagerDef, ResourceDef, Scenario, ScheduleItem};

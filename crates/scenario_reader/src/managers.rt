@@ -9,8 +9,8 @@ use crate::calls::calls;
 use crate::errors::ScenarioError;
 use crate::names::new_node;
 use crate::numbers::{number_in, number_member};
-use crate::scenarios::{ManagerDef, ResourceDef};
 use crate::shapes::{an_object, list, only, text};
+use scenario_form::{ManagerDef, ResourceDef};
 use seata_types::limits::{MANAGERS, SILENT, TICKS};
 use seata_types::{Ending, List, Text, Work};
 use serde_json::Value;
@@ -74,14 +74,15 @@ fn heading(
     ensures exact { Answers (form.heading resources.now timeout defs.now (view value.now)) result }
 {
     an_object(alloc, value)?;
-    let name = new_node(alloc, resources, defs, value.get("name")).map_err(|fault| fault.in_member(
-        alloc, "name",
-    ))?;
+    let name = match new_node(alloc, resources, defs, value.get("name")) {
+        Ok(name) => name,
+        Err(fault) => return Err(fault.in_member(alloc, "name")),
+    };
     let ticks = number_member(alloc, "timeout", timeout, 1, TICKS, value)?;
-    let calls = calls(alloc, resources, value.get("calls")).map_err(|fault| fault.in_member(
-        alloc, "calls",
-    ))?;
-    Ok((name, ticks, calls))
+    match calls(alloc, resources, value.get("calls")) {
+        Ok(calls) => Ok((name, ticks, calls)),
+        Err(fault) => Err(fault.in_member(alloc, "calls")),
+    }
 }
 
 /// A manager's end, and how it falls silent and asks.
@@ -89,12 +90,18 @@ fn heading(
 fn closing(alloc: Global, value: &Value) -> Result<(Ending, Option<u32>, bool), ScenarioError>
     ensures exact { Answers (form.closing (view value.now)) result }
 {
-    let ending = ending(alloc, value.get("end")).map_err(|fault| fault.in_member(alloc, "end"))?;
-    let silent = silent(alloc, value.get("silent")).map_err(|fault| fault.in_member(
-        alloc, "silent",
-    ))?;
-    let poll = poll(alloc, value.get("poll")).map_err(|fault| fault.in_member(alloc, "poll"))?;
-    Ok((ending, silent, poll))
+    let ending = match ending(alloc, value.get("end")) {
+        Ok(ending) => ending,
+        Err(fault) => return Err(fault.in_member(alloc, "end")),
+    };
+    let silent = match silent(alloc, value.get("silent")) {
+        Ok(silent) => silent,
+        Err(fault) => return Err(fault.in_member(alloc, "silent")),
+    };
+    match poll(alloc, value.get("poll")) {
+        Ok(poll) => Ok((ending, silent, poll)),
+        Err(fault) => Err(fault.in_member(alloc, "poll")),
+    }
 }
 
 /// A manager, behind these, with this timeout where it has none of its own.
@@ -134,9 +141,10 @@ fn each_manager(
 {
     let mut managers = Vec::new(alloc);
     for value in values {
-        let found = manager(alloc, resources, timeout, managers.as_slice(), value).map_err(
-            |fault| fault.in_item(alloc, managers.len()),
-        )?;
+        let found = match manager(alloc, resources, timeout, managers.as_slice(), value) {
+            Ok(found) => found,
+            Err(fault) => return Err(fault.in_item(alloc, managers.len())),
+        };
         managers.push(found)?;
     }
     Ok(managers)

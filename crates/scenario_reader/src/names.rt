@@ -1,39 +1,42 @@
 //! Names of nodes, tables and columns, and where a name is looked up.
-ghost use Rattle.std.specs.Prelude.{◌≡◌, ◌<◌, ◌||◌, length, position, option_map, option_copied, IfSome, IfOk, IfErr};
+ghost use Rattle.std.specs.Prelude.{◌≡◌, ◌<◌, ℕ, List, length, position, option_map, option_copied, IfSome, IfOk, IfErr};
 ghost use Rattle.std.specs.List.{list_all, list_any};
+ghost use Rattle.seata_types.specs.Orders.{same_text};
 ghost use Rattle.serde_json.specs.View.{view};
+ghost use Rattle.scenario_form.specs.Names as words;
 ghost use Rattle.scenario_reader.specs.Names as form;
 ghost use Rattle.scenario_reader.specs.Faults.{Answers};
 
 use crate::errors::ScenarioError;
-use crate::scenarios::{ManagerDef, ResourceDef};
 use crate::shapes::text;
+use local_tables::{ColType, TableDef};
+use scenario_form::{ManagerDef, ResourceDef};
 use seata_types::Text;
 use seata_types::limits::{NAME_BYTES, NODE_NAME_BYTES};
 use serde_json::Value;
 use std::alloc::Global;
 
 fn is_letter(byte: u8) -> bool
-    ensures { result ≡ form.is_letter byte }
+    ensures { result ≡ words.is_letter byte }
 {
     matches!(byte, b'A'..=b'Z' | b'a'..=b'z')
 }
 
 fn is_word_byte(byte: u8) -> bool
-    ensures { result ≡ form.is_word_byte byte }
+    ensures { result ≡ words.is_word_byte byte }
 {
     matches!(byte, b'A'..=b'Z' | b'a'..=b'z' | b'0'..=b'9' | b'_')
 }
 
 fn all_word_bytes(text: &[u8]) -> bool
-    ensures { result ≡ list_all form.is_word_byte text.now }
+    ensures { result ≡ list_all words.is_word_byte text.now }
 {
     text.iter().all(|byte| is_word_byte(*byte))
 }
 
 /// Whether a text is a letter and then letters, digits and `_`.
 pub fn is_word(text: &str) -> bool
-    ensures { result ≡ form.is_word text.now }
+    ensures { result ≡ words.is_word text.now }
 {
     match text.as_bytes().split_first() {
         Some((first, rest)) => is_letter(*first) && all_word_bytes(rest),
@@ -42,45 +45,67 @@ pub fn is_word(text: &str) -> bool
 }
 
 /// Whether a text may be a node's name, however long.
-#[tactic(auto, unfolding(crate::specs::Names::is_node_name))]
+#[tactic(auto, unfolding(scenario_form::specs::Names::is_node_name))]
 fn is_node_name(name: &str) -> bool
-    ensures { result ≡ form.is_node_name name.now }
+    ensures { result ≡ words.is_node_name name.now }
 {
     is_word(name) && name != "tc" && name != "net"
 }
 
-/// Where among the resources this name stands, counted from 0.
-pub fn resource_position(resources: &[ResourceDef], name: &str) -> Option<usize>
-    ensures value { result ≡ position (form.is_resource_named name.now) resources.now }
-    ensures within { IfSome result (λ k. k < length resources.now) }
-{
-    resources
-        .iter()
-        .position(|resource| name == resource.name.as_str())
+/// What names are looked up among.
+pub trait Named {
+    ghost name_of: { Self → List ℕ };
+
+    fn name(&self) -> &str
+        ensures { result.now ≡ name_of self.now };
 }
 
-/// Where among the managers this name stands, counted from 0.
-pub fn manager_position(managers: &[ManagerDef], name: &str) -> Option<usize>
-    ensures value { result ≡ position (form.is_manager_named name.now) managers.now }
-    ensures within { IfSome result (λ k. k < length managers.now) }
-{
-    managers
-        .iter()
-        .position(|manager| name == manager.name.as_str())
+impl Named for ResourceDef {
+    ghost name_of = { λ def. def.name };
+
+    fn name(&self) -> &str {
+        self.name.as_str()
+    }
 }
 
-fn is_resource(resources: &[ResourceDef], name: &str) -> bool
-    ensures { result ≡ list_any (form.is_resource_named name.now) resources.now }
-{
-    resources
-        .iter()
-        .any(|resource| name == resource.name.as_str())
+impl Named for ManagerDef {
+    ghost name_of = { λ def. def.name };
+
+    fn name(&self) -> &str {
+        self.name.as_str()
+    }
 }
 
-fn is_manager(managers: &[ManagerDef], name: &str) -> bool
-    ensures { result ≡ list_any (form.is_manager_named name.now) managers.now }
+impl Named for TableDef {
+    ghost name_of = { λ def. def.name };
+
+    fn name(&self) -> &str {
+        self.name.as_str()
+    }
+}
+
+/// A column.
+impl Named for (Text, ColType) {
+    ghost name_of = { λ column. column.0 };
+
+    fn name(&self) -> &str {
+        self.0.as_str()
+    }
+}
+
+/// Where among the items this name stands, counted from 0.
+pub fn position_of<T: Named>(items: &[T], name: &str) -> Option<usize>
+    ensures value { result ≡ position (λ item. same_text name.now (T.name_of item)) items.now }
+    ensures within { IfSome result (λ k. k < length items.now) }
 {
-    managers.iter().any(|manager| name == manager.name.as_str())
+    items.iter().position(|item| name == item.name())
+}
+
+/// Whether one of the items has this name.
+pub fn has_name<T: Named>(items: &[T], name: &str) -> bool
+    ensures { result ≡ list_any (λ item. same_text name.now (T.name_of item)) items.now }
+{
+    items.iter().any(|item| name == item.name())
 }
 
 /// A text's own copy.
@@ -108,7 +133,7 @@ fn new_node_name(
     if name.len() > NODE_NAME_BYTES {
         return Err(ScenarioError::beyond(alloc, NODE_NAME_BYTES as u64));
     }
-    if is_resource(resources, name) || is_manager(managers, name) {
+    if has_name(resources, name) || has_name(managers, name) {
         return Err(ScenarioError::name(alloc));
     }
     owned(alloc, name)
@@ -129,25 +154,25 @@ pub fn new_node(
 }
 
 fn is_lower(byte: u8) -> bool
-    ensures { result ≡ form.is_lower byte }
+    ensures { result ≡ words.is_lower byte }
 {
     matches!(byte, b'a'..=b'z')
 }
 
 fn is_name_byte(byte: u8) -> bool
-    ensures { result ≡ form.is_name_byte byte }
+    ensures { result ≡ words.is_name_byte byte }
 {
     matches!(byte, b'a'..=b'z' | b'0'..=b'9' | b'_')
 }
 
 fn all_name_bytes(text: &[u8]) -> bool
-    ensures { result ≡ list_all form.is_name_byte text.now }
+    ensures { result ≡ list_all words.is_name_byte text.now }
 {
     text.iter().all(|byte| is_name_byte(*byte))
 }
 
 fn is_lower_word(text: &[u8]) -> bool
-    ensures { result ≡ form.is_lower_word text.now }
+    ensures { result ≡ words.is_lower_word text.now }
 {
     match text.split_first() {
         Some((first, rest)) => is_lower(*first) && all_name_bytes(rest),
@@ -157,27 +182,30 @@ fn is_lower_word(text: &[u8]) -> bool
 
 /// Whether this is a word of statements.
 fn is_keyword(name: &str) -> bool
-    ensures { result ≡ form.is_keyword name.now }
+    ensures { result ≡ words.is_keyword name.now }
 {
-    name == "insert"
-        || name == "into"
-        || name == "values"
-        || name == "update"
-        || name == "set"
-        || name == "where"
-        || name == "delete"
-        || name == "from"
-        || name == "select"
-        || name == "for"
-        || name == "and"
-        || name == "or"
-        || name == "not"
+    matches!(
+        name,
+        "insert"
+            | "into"
+            | "values"
+            | "update"
+            | "set"
+            | "where"
+            | "delete"
+            | "from"
+            | "select"
+            | "for"
+            | "and"
+            | "or"
+            | "not"
+    )
 }
 
 /// Whether a text may be a table's or column's name, however long.
-#[tactic(auto, unfolding(crate::specs::Names::is_table_name))]
+#[tactic(auto, unfolding(scenario_form::specs::Names::is_table_name))]
 pub fn is_table_name(name: &str) -> bool
-    ensures { result ≡ form.is_table_name name.now }
+    ensures { result ≡ words.is_table_name name.now }
 {
     is_lower_word(name.as_bytes()) && !is_keyword(name)
 }

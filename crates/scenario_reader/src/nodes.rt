@@ -6,11 +6,11 @@ ghost use Rattle.scenario_reader.specs.Nodes as form;
 ghost use Rattle.scenario_reader.specs.Faults.{Answers, AnswersAs, each, vec_of};
 
 use crate::errors::ScenarioError;
-use crate::names::{is_word, manager_position, resource_position};
+use crate::names::{is_word, position_of};
 use crate::numbers::number_in;
-use crate::scenarios::{ManagerDef, ResourceDef};
 use crate::shapes::{any_list, text_in, triple};
 use disk_model::LAST_PICK;
+use scenario_form::{ManagerDef, ResourceDef};
 use seata_types::limits::STOP_CALLS;
 use seata_types::{List, Place};
 use serde_json::Value;
@@ -25,7 +25,7 @@ pub fn server(alloc: Global, resources: &[ResourceDef], name: &str) -> Result<Pl
     if name == "tc" {
         return Ok(Place::Tc);
     }
-    match resource_position(resources, name) {
+    match position_of(resources, name) {
         Some(place) => Ok(Place::Res(place as u16 + 1)),
         None => Err(ScenarioError::name(alloc)),
     }
@@ -46,10 +46,10 @@ pub fn node(
     if name == "tc" {
         return Ok(Place::Tc);
     }
-    if let Some(place) = resource_position(resources, name) {
+    if let Some(place) = position_of(resources, name) {
         return Ok(Place::Res(place as u16 + 1));
     }
-    match manager_position(managers, name) {
+    match position_of(managers, name) {
         Some(place) => Ok(Place::Man(place as u16 + 1)),
         None => Err(ScenarioError::name(alloc)),
     }
@@ -78,14 +78,18 @@ fn stop(
     ensures { Answers (form.stop resources.now (view value.now)) result }
 {
     let (first, second, third) = triple(alloc, value)?;
-    let place = stopped(alloc, resources, first).map_err(|fault| fault.in_item(alloc, 0))?;
-    let calls = number_in(alloc, 0, STOP_CALLS as u64, second).map_err(|fault| fault.in_item(
-        alloc, 1,
-    ))?;
-    let pick = number_in(alloc, 0, LAST_PICK as u64, third).map_err(|fault| fault.in_item(
-        alloc, 2,
-    ))?;
-    Ok((place, calls as u32, pick as u16))
+    let place = match stopped(alloc, resources, first) {
+        Ok(place) => place,
+        Err(fault) => return Err(fault.in_item(alloc, 0)),
+    };
+    let calls = match number_in(alloc, 0, STOP_CALLS as u64, second) {
+        Ok(calls) => calls,
+        Err(fault) => return Err(fault.in_item(alloc, 1)),
+    };
+    match number_in(alloc, 0, LAST_PICK as u64, third) {
+        Ok(pick) => Ok((place, calls as u32, pick as u16)),
+        Err(fault) => Err(fault.in_item(alloc, 2)),
+    }
 }
 
 fn each_stop(
@@ -98,10 +102,10 @@ fn each_stop(
 {
     let mut stops = Vec::new(alloc);
     for value in values {
-        let found = stop(alloc, resources, value).map_err(|fault| fault.in_item(
-            alloc,
-            stops.len(),
-        ))?;
+        let found = match stop(alloc, resources, value) {
+            Ok(found) => found,
+            Err(fault) => return Err(fault.in_item(alloc, stops.len())),
+        };
         stops.push(found)?;
     }
     Ok(stops)

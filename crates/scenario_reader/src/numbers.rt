@@ -73,9 +73,10 @@ pub fn number_member(
     ensures within { default ≤ most → IfOk result (λ n. n ≤ most) }
     ensures counted { least ≤ default → IfOk result (λ n. least ≤ n) }
 {
-    number_or(alloc, default, least, most, value.get(name)).map_err(|fault| fault.in_member(
-        alloc, name,
-    ))
+    match number_or(alloc, default, least, most, value.get(name)) {
+        Ok(number) => Ok(number),
+        Err(fault) => Err(fault.in_member(alloc, name)),
+    }
 }
 
 fn are_digits(digits: &[u8]) -> bool

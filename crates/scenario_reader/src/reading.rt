@@ -1,18 +1,18 @@
 //! Reading a scenario.
-ghost use Rattle.std.specs.Prelude.{◌≡◌, ◌≢◌, ◌≤◌, IfOk, IfErr, MatchOption, Err, codes};
+ghost use Rattle.std.specs.Prelude.{◌≡◌, ◌≢◌, ◌≤◌, length, IfOk, IfErr, MatchOption, Err, codes};
 ghost use Rattle.seata_types.specs.declared.limits.TheConstants.{INPUT_BYTES};
 ghost use Rattle.serde_json.specs.Data.{depth};
 ghost use Rattle.serde_json.specs.View.{view};
 ghost use Rattle.scenario_reader.specs.declared.bases.TheConstants.{JSON_DEPTH};
-ghost use Rattle.scenario_reader.specs.Reading.{IsJson, IsNoJson, IsScenario, IsScenarioOf, IsFault, IsTooLong};
+ghost use Rattle.scenario_reader.specs.Reading.{IsJson, IsNoJson, IsScenario, IsScenarioOf, IsFault, IsTooLong, without_events};
 ghost use Rattle.scenario_reader.specs.Form.{scenario_of as form};
 ghost use Rattle.scenario_reader.specs.declared.errors.ScenarioError.TheVariants as fault;
-ghost use Rattle.scenario_reader.specs.Runnable.{IsRunnable};
+ghost use Rattle.scenario_form.specs.Runnable.{IsRunnable};
 
 use crate::bases::{base_of, without_stops};
 use crate::errors::ScenarioError;
 use crate::forms::scenario_of;
-use crate::scenarios::Scenario;
+use scenario_form::Scenario;
 use seata_types::limits::INPUT_BYTES;
 use seata_types::{NoMemory, Text};
 use serde_json::Value;
@@ -78,11 +78,13 @@ fn read_bytes(alloc: Global, bytes: &[u8]) -> Result<Scenario, ScenarioError>
 
 /// Reads a scenario from JSON text of at most 4,194,304 bytes. It names the first cause in the order
 /// of the members that keeps the input from being one; want of memory is no cause. What it gives can be
-/// run: all that it names is there, and within its limits.
-#[tactic(auto, using(crate::proofs::RunnableFacts::given))]
+/// run: all that it names is there, and within its limits. Its `base`, where it is no longer than what may
+/// be read, reads as the same scenario without its stops and with an empty schedule.
+#[tactic(auto, using(crate::proofs::BaseFacts::base_reads, crate::proofs::RunnableFacts::given))]
 pub fn read(alloc: Global, bytes: &[u8]) -> Result<Scenario, ScenarioError>
     ensures ok { IfOk result (IsScenario bytes.now) }
     ensures runnable { IfOk result IsRunnable }
+    ensures again { IfOk result (λ s. length s.base ≤ INPUT_BYTES → IsScenario s.base (without_events s)) }
     ensures err { IfErr result (λ error. error ≢ ScenarioError.NoMemory → IsFault bytes.now error) }
 {
     read_bytes(alloc, bytes)

@@ -7,10 +7,10 @@ ghost use Rattle.scenario_reader.specs.Faults.{Answers, AnswersAs, each, vec_of}
 
 use crate::errors::ScenarioError;
 use crate::names::new_node;
-use crate::scenarios::ResourceDef;
 use crate::shapes::{an_object, list, only};
 use crate::tables::table;
 use local_tables::{Schema, TableDef};
+use scenario_form::ResourceDef;
 use seata_types::limits::{RESOURCES, TABLES};
 use seata_types::{Duplicate, List, Row, Text};
 use serde_json::Value;
@@ -44,9 +44,10 @@ fn each_table(
     let mut defs = Vec::new(alloc);
     let mut opening = Vec::new(alloc);
     for value in values {
-        let (def, rows) = table(alloc, defs.as_slice(), opening.len(), value).map_err(
-            |fault| fault.in_item(alloc, defs.len()),
-        )?;
+        let (def, rows) = match table(alloc, defs.as_slice(), opening.len(), value) {
+            Ok(found) => found,
+            Err(fault) => return Err(fault.in_item(alloc, defs.len())),
+        };
         name_rows(alloc, &def.name, rows, &mut opening)?;
         defs.push(def)?;
     }
@@ -76,12 +77,14 @@ fn resource(
     ensures { Answers (form.resource defs.now (view value.now)) result }
 {
     an_object(alloc, value)?;
-    let name = new_node(alloc, defs, &[], value.get("name")).map_err(|fault| fault.in_member(
-        alloc, "name",
-    ))?;
-    let (tables, opening) = tables(alloc, value.get("tables")).map_err(|fault| fault.in_member(
-        alloc, "tables",
-    ))?;
+    let name = match new_node(alloc, defs, &[], value.get("name")) {
+        Ok(name) => name,
+        Err(fault) => return Err(fault.in_member(alloc, "name")),
+    };
+    let (tables, opening) = match tables(alloc, value.get("tables")) {
+        Ok(found) => found,
+        Err(fault) => return Err(fault.in_member(alloc, "tables")),
+    };
     only(alloc, &RESOURCE_MEMBERS, value)?;
     Ok(ResourceDef {
         name,
@@ -98,10 +101,10 @@ fn each_resource(alloc: Global, values: &[Value]) -> Result<Vec<ResourceDef>, Sc
 {
     let mut resources = Vec::new(alloc);
     for value in values {
-        let found = resource(alloc, resources.as_slice(), value).map_err(|fault| fault.in_item(
-            alloc,
-            resources.len(),
-        ))?;
+        let found = match resource(alloc, resources.as_slice(), value) {
+            Ok(found) => found,
+            Err(fault) => return Err(fault.in_item(alloc, resources.len())),
+        };
         resources.push(found)?;
     }
     Ok(resources)

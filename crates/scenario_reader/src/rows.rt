@@ -5,6 +5,7 @@ ghost use Rattle.std.specs.List.{list_all};
 ghost use Rattle.seata_types.specs.declared.limits.TheConstants.{RESOURCE_ROWS};
 ghost use Rattle.serde_json.specs.Find.{as_array};
 ghost use Rattle.serde_json.specs.View.{view, items_view};
+ghost use Rattle.scenario_form.specs.Contents as contents;
 ghost use Rattle.scenario_reader.specs.Tables as form;
 ghost use Rattle.scenario_reader.specs.Faults.{Answers, AnswersAs, each, vec_of};
 
@@ -34,13 +35,13 @@ fn int_cell(alloc: Global, value: &Value) -> Result<Cell, ScenarioError>
 }
 
 fn is_printable(byte: u8) -> bool
-    ensures { result ≡ form.is_printable byte }
+    ensures { result ≡ contents.is_printable byte }
 {
     byte >= 32 && byte != 127
 }
 
 fn all_printable(text: &[u8]) -> bool
-    ensures { result ≡ list_all form.is_printable text.now }
+    ensures { result ≡ list_all contents.is_printable text.now }
 {
     text.iter().all(|byte| is_printable(*byte))
 }
@@ -89,10 +90,10 @@ fn each_cell(
 {
     let mut cells = Vec::with_capacity(alloc, values.len())?;
     for value in values {
-        let cell = cell_at(alloc, columns, cells.len(), value).map_err(|fault| fault.in_item(
-            alloc,
-            cells.len(),
-        ))?;
+        let cell = match cell_at(alloc, columns, cells.len(), value) {
+            Ok(cell) => cell,
+            Err(fault) => return Err(fault.in_item(alloc, cells.len())),
+        };
         cells.push(cell)?;
     }
     Ok(cells)
@@ -270,9 +271,10 @@ fn each_row(
     let mut rows = Vec::with_capacity(alloc, values.len())?;
     let mut noted = None;
     for value in values {
-        let row = new_row(alloc, columns, places, rows.as_slice(), &mut noted, value).map_err(
-            |fault| fault.in_item(alloc, rows.len()),
-        )?;
+        let row = match new_row(alloc, columns, places, rows.as_slice(), &mut noted, value) {
+            Ok(row) => row,
+            Err(fault) => return Err(fault.in_item(alloc, rows.len())),
+        };
         rows.push(row)?;
     }
     Ok(rows)

@@ -2,6 +2,7 @@
 ghost use Rattle.std.specs.Prelude.{◌≡◌, ◌≤◌, ◌+◌, [], List as Items, option_map, option_copied, length, IfOk};
 ghost use Rattle.seata_types.specs.declared.limits.TheConstants.{LOCALS, MANAGERS, RESOURCES, SCHEDULE_MEMBERS, STEPS};
 ghost use Rattle.serde_json.specs.View.{view, items_view};
+ghost use Rattle.scenario_form.specs.Runnable as plan;
 ghost use Rattle.scenario_reader.specs.Steps as form;
 ghost use Rattle.scenario_reader.specs.Faults.{Answers, AnswersAs, each, vec_of};
 
@@ -9,9 +10,9 @@ use crate::errors::ScenarioError;
 use crate::names::is_word;
 use crate::nodes::{node, server};
 use crate::numbers::{is_plain, number_of_text, plain_number};
-use crate::scenarios::{ManagerDef, ResourceDef, ScheduleItem};
 use crate::shapes::{list, text_in};
 use disk_model::LAST_PICK;
+use scenario_form::{ManagerDef, ResourceDef, ScheduleItem};
 use seata_types::List;
 use seata_types::limits::{SCHEDULE_MEMBERS, STEPS, STOP_CALLS, TICKS};
 use serde_json::Value;
@@ -250,7 +251,7 @@ fn item_of(
 
 /// The single steps that an item stands for.
 fn steps_of(item: ScheduleItem) -> usize
-    ensures { result ≡ form.steps_of item }
+    ensures { result ≡ plan.steps_of item }
 {
     match item {
         ScheduleItem::Auto { steps } => steps as usize,
@@ -272,8 +273,8 @@ fn next_item(
     requires managers { length managers.now ≤ MANAGERS }
     requires locals { locals ≤ LOCALS }
     requires steps { steps ≤ STEPS }
-    ensures exact { (items : Items ScheduleItem) → steps ≡ form.all_steps items → Answers (form.next_item resources.now managers.now locals items (view value.now)) result }
-    ensures few { IfOk result (λ item. steps + form.steps_of item ≤ STEPS) }
+    ensures exact { (items : Items ScheduleItem) → steps ≡ plan.all_steps items → Answers (form.next_item resources.now managers.now locals items (view value.now)) result }
+    ensures few { IfOk result (λ item. steps + plan.steps_of item ≤ STEPS) }
 {
     let item = item_of(alloc, resources, managers, locals, value)?;
     if steps_of(item) > STEPS - steps {
@@ -294,15 +295,16 @@ fn each_item(
     requires managers { length managers.now ≤ MANAGERS }
     requires locals { locals ≤ LOCALS }
     ensures exact { AnswersAs vec_of (each (form.next_item resources.now managers.now locals) [] (items_view values.now)) result }
-    ensures short { IfOk result (λ items. form.all_steps items.items ≤ STEPS) }
+    ensures short { IfOk result (λ items. plan.all_steps items.items ≤ STEPS) }
     ensures whole { IfOk result (λ items. length items.items ≡ length values.now) }
 {
     let mut items = Vec::new(alloc);
     let mut steps = 0;
     for value in values {
-        let item = next_item(alloc, resources, managers, locals, steps, value).map_err(
-            |fault| fault.in_item(alloc, items.len()),
-        )?;
+        let item = match next_item(alloc, resources, managers, locals, steps, value) {
+            Ok(item) => item,
+            Err(fault) => return Err(fault.in_item(alloc, items.len())),
+        };
         steps += steps_of(item);
         items.push(item)?;
     }
@@ -322,7 +324,7 @@ pub fn schedule(
     requires managers { length managers.now ≤ MANAGERS }
     requires locals { locals ≤ LOCALS }
     ensures exact { Answers (form.schedule resources.now managers.now locals (option_map view (option_copied found.entry))) result }
-    ensures few { IfOk result (λ items. form.all_steps items ≤ STEPS) }
+    ensures few { IfOk result (λ items. plan.all_steps items ≤ STEPS) }
     ensures short { IfOk result (λ items. length items ≤ SCHEDULE_MEMBERS) }
 {
     let values = list(alloc, SCHEDULE_MEMBERS, found)?;

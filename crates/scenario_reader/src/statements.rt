@@ -1,6 +1,7 @@
 //! The statements of calls and locals.
 ghost use Rattle.std.specs.Prelude.{◌≡◌, [], find, option_map, option_copied};
 ghost use Rattle.serde_json.specs.View.{view, items_view};
+ghost use Rattle.scenario_form.specs.Contents as contents;
 ghost use Rattle.scenario_reader.specs.Calls as form;
 ghost use Rattle.scenario_reader.specs.Tables.{is_table_named};
 ghost use Rattle.scenario_reader.specs.Faults.{Answers, AnswersAs, each, vec_of};
@@ -35,7 +36,7 @@ fn parsed<'a>(
 
 /// The table that a statement names.
 fn table_of(found: &Stmt) -> &str
-    ensures { result.now ≡ form.table_of found.now }
+    ensures { result.now ≡ contents.table_of found.now }
 {
     match found {
         Stmt::Insert { table, .. } => table.as_str(),
@@ -47,7 +48,7 @@ fn table_of(found: &Stmt) -> &str
 
 /// Whether a statement on a table of this mode may stand in a call of the wanted kind.
 fn suits(wanted: BranchKind, mode: BranchKind, found: &Stmt) -> bool
-    ensures { result ≡ form.suits wanted mode found.now }
+    ensures { result ≡ contents.suits wanted mode found.now }
 {
     match (wanted, mode) {
         (BranchKind::At, BranchKind::At) => true,
@@ -116,9 +117,10 @@ fn each_statement(
     let mut reader = StmtReader::new(alloc);
     let mut statements = Vec::with_capacity(alloc, values.len())?;
     for value in values {
-        let found = statement(alloc, &mut reader, schema, wanted, value).map_err(
-            |fault| fault.in_item(alloc, statements.len()),
-        )?;
+        let found = match statement(alloc, &mut reader, schema, wanted, value) {
+            Ok(found) => found,
+            Err(fault) => return Err(fault.in_item(alloc, statements.len())),
+        };
         statements.push(found)?;
     }
     Ok(statements)

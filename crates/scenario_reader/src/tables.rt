@@ -1,5 +1,5 @@
 //! Tables: their modes, their columns and their keys.
-ghost use Rattle.std.specs.Prelude.{◌≡◌, ◌≤◌, ◌+◌, ◌==◌, [], position, option_map, option_copied, length, IfOk};
+ghost use Rattle.std.specs.Prelude.{◌≡◌, ◌≤◌, ◌+◌, ◌==◌, [], option_map, option_copied, length, IfOk};
 ghost use Rattle.std.specs.List.{list_any};
 ghost use Rattle.seata_types.specs.declared.limits.TheConstants.{COLUMNS, RESOURCE_ROWS};
 ghost use Rattle.serde_json.specs.Find.{as_str};
@@ -8,7 +8,7 @@ ghost use Rattle.scenario_reader.specs.Tables as form;
 ghost use Rattle.scenario_reader.specs.Faults.{Answers, AnswersAs, each, vec_of};
 
 use crate::errors::ScenarioError;
-use crate::names::{is_table_name, new_name};
+use crate::names::{has_name, is_table_name, new_name, position_of};
 use crate::rows::rows;
 use crate::shapes::{an_object, list, only, pair, text, text_in};
 use local_tables::{ColType, TableDef};
@@ -16,12 +16,6 @@ use seata_types::limits::{COLUMNS, KEY_PARTS};
 use seata_types::{BranchKind, List, Row, Text};
 use serde_json::Value;
 use std::alloc::Global;
-
-fn is_table(defs: &[TableDef], name: &str) -> bool
-    ensures { result ≡ list_any (form.is_table_named name.now) defs.now }
-{
-    defs.iter().any(|def| name == def.name.as_str())
-}
 
 /// A table's name, behind these tables.
 #[tactic(auto, unfolding(crate::specs::Tables::table_name))]
@@ -33,7 +27,7 @@ fn table_name(
     ensures { Answers (form.table_name defs.now (option_map view (option_copied found.entry))) result }
 {
     let name = text(alloc, found)?;
-    new_name(alloc, is_table(defs, name), name)
+    new_name(alloc, has_name(defs, name), name)
 }
 
 /// The mode of a table.
@@ -53,18 +47,6 @@ fn mode(alloc: Global, found: Option<&Value>) -> Result<BranchKind, ScenarioErro
 
 // ---- columns
 
-fn is_column(columns: &[(Text, ColType)], name: &str) -> bool
-    ensures { result ≡ list_any (form.is_column_named name.now) columns.now }
-{
-    columns.iter().any(|column| name == column.0.as_str())
-}
-
-fn column_position(columns: &[(Text, ColType)], name: &str) -> Option<usize>
-    ensures { result ≡ position (form.is_column_named name.now) columns.now }
-{
-    columns.iter().position(|column| name == column.0.as_str())
-}
-
 fn column_name(
     alloc: Global,
     columns: &[(Text, ColType)],
@@ -73,7 +55,7 @@ fn column_name(
     ensures { Answers (form.column_name columns.now (as_str (view value.now))) result }
 {
     let name = text_in(alloc, value)?;
-    new_name(alloc, is_column(columns, name), name)
+    new_name(alloc, has_name(columns, name), name)
 }
 
 /// The type of a column.
@@ -100,9 +82,14 @@ fn column(
     ensures { Answers (form.column columns.now (view value.now)) result }
 {
     let (first, second) = pair(alloc, value)?;
-    let name = column_name(alloc, columns, first).map_err(|fault| fault.in_item(alloc, 0))?;
-    let kind = column_type(alloc, second).map_err(|fault| fault.in_item(alloc, 1))?;
-    Ok((name, kind))
+    let name = match column_name(alloc, columns, first) {
+        Ok(name) => name,
+        Err(fault) => return Err(fault.in_item(alloc, 0)),
+    };
+    match column_type(alloc, second) {
+        Ok(kind) => Ok((name, kind)),
+        Err(fault) => Err(fault.in_item(alloc, 1)),
+    }
 }
 
 fn each_column(alloc: Global, values: &[Value]) -> Result<Vec<(Text, ColType)>, ScenarioError>
@@ -111,10 +98,10 @@ fn each_column(alloc: Global, values: &[Value]) -> Result<Vec<(Text, ColType)>, 
 {
     let mut columns = Vec::new(alloc);
     for value in values {
-        let found = column(alloc, columns.as_slice(), value).map_err(|fault| fault.in_item(
-            alloc,
-            columns.len(),
-        ))?;
+        let found = match column(alloc, columns.as_slice(), value) {
+            Ok(found) => found,
+            Err(fault) => return Err(fault.in_item(alloc, columns.len())),
+        };
         columns.push(found)?;
     }
     Ok(columns)
@@ -145,7 +132,7 @@ fn key_column(alloc: Global, columns: &[(Text, ColType)], name: &str) -> Result<
     if !is_table_name(name) {
         return Err(ScenarioError::shape(alloc));
     }
-    match column_position(columns, name) {
+    match position_of(columns, name) {
         Some(place) => Ok(place as u16),
         None => Err(ScenarioError::name(alloc)),
     }
@@ -186,9 +173,10 @@ fn each_key_part(
 {
     let mut places = Vec::new(alloc);
     for value in values {
-        let found = key_part(alloc, columns, places.as_slice(), value).map_err(
-            |fault| fault.in_item(alloc, places.len()),
-        )?;
+        let found = match key_part(alloc, columns, places.as_slice(), value) {
+            Ok(found) => found,
+            Err(fault) => return Err(fault.in_item(alloc, places.len())),
+        };
         places.push(found)?;
     }
     Ok(places)
@@ -248,14 +236,18 @@ fn heading(
     ensures few { IfOk result (λ head. length head.2 ≤ COLUMNS) }
 {
     an_object(alloc, value)?;
-    let name = table_name(alloc, defs, value.get("name")).map_err(|fault| fault.in_member(
-        alloc, "name",
-    ))?;
-    let mode = mode(alloc, value.get("mode")).map_err(|fault| fault.in_member(alloc, "mode"))?;
-    let columns = columns(alloc, value.get("columns")).map_err(|fault| fault.in_member(
-        alloc, "columns",
-    ))?;
-    Ok((name, mode, columns))
+    let name = match table_name(alloc, defs, value.get("name")) {
+        Ok(name) => name,
+        Err(fault) => return Err(fault.in_member(alloc, "name")),
+    };
+    let mode = match mode(alloc, value.get("mode")) {
+        Ok(mode) => mode,
+        Err(fault) => return Err(fault.in_member(alloc, "mode")),
+    };
+    match columns(alloc, value.get("columns")) {
+        Ok(columns) => Ok((name, mode, columns)),
+        Err(fault) => Err(fault.in_member(alloc, "columns")),
+    }
 }
 
 /// A table's key and its rows, where its resource has so many already.
@@ -271,11 +263,14 @@ fn content(
     ensures exact { Answers (form.content used columns.now (view value.now)) result }
     ensures few { IfOk result (λ t. used + length t.1 ≤ RESOURCE_ROWS) }
 {
-    let key = key(alloc, columns, value.get("key")).map_err(|fault| fault.in_member(alloc, "key"))?;
-    let rows = rows(alloc, used, columns, key.as_slice(), value.get("rows")).map_err(
-        |fault| fault.in_member(alloc, "rows"),
-    )?;
-    Ok((key, rows))
+    let key = match key(alloc, columns, value.get("key")) {
+        Ok(key) => key,
+        Err(fault) => return Err(fault.in_member(alloc, "key")),
+    };
+    match rows(alloc, used, columns, key.as_slice(), value.get("rows")) {
+        Ok(rows) => Ok((key, rows)),
+        Err(fault) => Err(fault.in_member(alloc, "rows")),
+    }
 }
 
 /// A table with its rows, behind these tables and so many rows of its resource.

@@ -2,7 +2,7 @@
 use Rattle.std.proofs.Common.{inr, ℕ, List, Result, Ok, Err, IfOk, string_bytes}
 use Rattle.seata_types.specs.declared.copies.NoMemory.{NoMemory}
 use Rattle.scenario_reader.specs.Reading.{IsScenario}
-use Rattle.scenario_reader.specs.declared.scenarios.Scenario.{Scenario}
+use Rattle.scenario_form.specs.declared.scenarios.Scenario.{Scenario}
 use Rattle.history_text.specs.declared.entries.Entry.{Entry}
 use Rattle.node_seat.specs.declared.faults.RunFault.{RunFault}
 use Rattle.seata_lab.specs.declared.answers.Answer.{Answer}

@@ -1,9 +1,9 @@
 -- What status 0 of a replay says, where the shelf's disks tell their bytes.
 use Rattle.std.proofs.Common.{◌≡◌, inl, inr, ℕ, List, [], ◌∷◌, length, Result, Ok, Err, refl, ap, sym, ◌∙◌, arith, length-append}
 use Rattle.disk_model.specs.Disk.{DiskState}
-use Rattle.scenario_reader.specs.declared.scenarios.Scenario.{Scenario}
+use Rattle.scenario_form.specs.declared.scenarios.Scenario.{Scenario}
 use Rattle.scenario_reader.specs.Reading.{IsScenario}
-use Rattle.scenario_reader.specs.Runnable.{IsRunnable}
+use Rattle.scenario_form.specs.Runnable.{IsRunnable}
 use Rattle.scenario_reader.proofs.RunnableFacts.{given}
 use Rattle.history_rules.specs.Histories.{Moment}
 use Rattle.history_text.specs.declared.entries.Entry.{Entry}

@@ -14,12 +14,12 @@ use Rattle.local_tables.specs.Checks as checks
 use Rattle.local_tables.specs.Rows.{table_named}
 use Rattle.local_tables.specs.declared.schemas.Schema.{Schema}
 use Rattle.local_tables.specs.declared.schemas.TableDef.{TableDef}
-use Rattle.scenario_reader.specs.declared.scenarios.ManagerDef.{ManagerDef}
-use Rattle.scenario_reader.specs.declared.scenarios.ResourceDef.{ResourceDef}
-use Rattle.scenario_reader.specs.declared.scenarios.Scenario.{Scenario}
-use Rattle.scenario_reader.specs.Calls as calls
-use Rattle.scenario_reader.specs.Contents.{IsStatement, AreStatements, IsWork, resource_numbered, IsCall}
-use Rattle.scenario_reader.specs.Runnable.{IsManager, IsRunnable}
+use Rattle.scenario_form.specs.declared.scenarios.ManagerDef.{ManagerDef}
+use Rattle.scenario_form.specs.declared.scenarios.ResourceDef.{ResourceDef}
+use Rattle.scenario_form.specs.declared.scenarios.Scenario.{Scenario}
+use Rattle.scenario_form.specs.Contents as calls
+use Rattle.scenario_form.specs.Contents.{IsStatement, AreStatements, IsWork, resource_numbered, IsCall}
+use Rattle.scenario_form.specs.Runnable.{IsManager, IsRunnable}
 use Rattle.history_rules.specs.ResourceMemory.{Setup, action_in}
 use Rattle.history_rules.specs.ManagerRules.{Settings}
 use Rattle.history_rules.specs.Nodes.{counted_at}

@@ -1,7 +1,7 @@
 -- Each legal history of a scenario that can be run is safe.
 use Rattle.std.proofs.Common.{List, refl}
-use Rattle.scenario_reader.specs.declared.scenarios.Scenario.{Scenario}
-use Rattle.scenario_reader.specs.Runnable.{IsRunnable}
+use Rattle.scenario_form.specs.declared.scenarios.Scenario.{Scenario}
+use Rattle.scenario_form.specs.Runnable.{IsRunnable}
 use Rattle.history_rules.specs.Nodes.{no_past}
 use Rattle.history_rules.specs.Histories.{Moment, Legal}
 use Rattle.history_law.specs.Safety.{IsSafeHistory}

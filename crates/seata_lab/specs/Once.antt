@@ -1,7 +1,7 @@
 -- What one replay tells by its status.
 use Rattle.std.specs.Prelude.{◌≡◌, ℕ, true, List, Some}
 use Rattle.disk_model.specs.Disk.{DiskState}
-use Rattle.scenario_reader.specs.declared.scenarios.Scenario.{Scenario}
+use Rattle.scenario_form.specs.declared.scenarios.Scenario.{Scenario}
 use Rattle.scenario_reader.specs.Reading.{IsScenario}
 use Rattle.scenario_nodes.specs.Shelves.{Showing}
 use Rattle.replay_runner.specs.Leaving.{IsCalmShelf}

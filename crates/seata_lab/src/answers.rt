@@ -3,7 +3,7 @@ ghost use Rattle.std.specs.Prelude.{◌≡◌, ◌≢◌, ◌++◌, ℕ, List as
 ghost use Rattle.std.specs.Fmt.{decimal};
 ghost use Rattle.history_text.specs.Report.{line};
 ghost use Rattle.scenario_reader.specs.Reading.{IsScenario};
-ghost use Rattle.scenario_reader.specs.Runnable.{IsRunnable};
+ghost use Rattle.scenario_form.specs.Runnable.{IsRunnable};
 ghost use Rattle.scenario_nodes.specs.Shelves.{ReturnsAll, showing};
 ghost use Rattle.replay_runner.specs.Leaving.{Replays as Replayed};
 ghost use Rattle.seata_lab.specs.Answers.{IsAnswerTo, IsEndText, IsLeftByReplay, TellsShelf, damaged_text, disk_text, end_text, fault_text, full_text, status_of, store_text};

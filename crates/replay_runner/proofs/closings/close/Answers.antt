@@ -25,3 +25,12 @@ returns-clause-history g c =
     gathered_history c.collected.result c.args.run.nodes
     (record { network = c.args.run.network; coordinator = c.into_vec.result; resources = c.in_ok-resources.resources; managers = c.in_ok-managers.managers }) c.args.run.network.items c.args.run.places.items
     c.as_slice.result.now c.in_ok-resources.ensures.traces c.in_ok-managers.ensures refl (c.into_vec.ensures ∙ c.finish-coordinator.ensures.trace) c.as_slice.ensures.value c.collected.ensures
+
+pub returns-in_err-resources-clause-only : goal.returns-in_err-resources-clause-only
+returns-in_err-resources-clause-only g c = c.close_servers.ensures.only
+
+pub returns-in_err-managers-clause-only : goal.returns-in_err-managers-clause-only
+returns-in_err-managers-clause-only g c = c.close_servers.ensures.only
+
+pub returns-clause-only : goal.returns-clause-only
+returns-clause-only g c = c.close_servers.ensures.only

@@ -1,8 +1,9 @@
-use Rattle.std.proofs.Common.{◌≤◌, ◌∙◌, List, arith, length, sym, subst}
-use Rattle.scenario_reader.specs.declared.scenarios.ResourceDef.{ResourceDef}
+use Rattle.std.proofs.Common.{◌≤◌, List, length, sym, subst}
+use Rattle.scenario_form.specs.declared.scenarios.ResourceDef.{ResourceDef}
+use Rattle.replay_runner.specs.OnShelves.{GivesBackOnly}
 use Rattle.replay_runner.specs.Opened.{AreAll, AreDefsApart, AreReturned, HaveBoth, IsOfNone, IsSecondName}
-use Rattle.scenario_nodes.proofs.Returned.{all_after, places_then, showing}
-use Rattle.replay_runner.proofs.Closed.{all_back, all_others, taken_stay}
+use Rattle.scenario_nodes.proofs.Returned.{showing}
+use Rattle.replay_runner.proofs.Closed.{all_back, all_only, taken_stay}
 use Rattle.replay_runner.proofs.Names.{defs_apart}
 use Rattle.replay_runner.proofs.closings.close_servers.Goals as goal
 
@@ -29,32 +30,22 @@ returns-clause-back g c =
     (showing g.H.Shelf.has_place g.H.Shelf.given_back g.H.Shelf.faults g.H.Shelf.tells c.close_resources.new.shelf) c.close_coordinator.ensures.back c.close_coordinator.ensures.keeps
     (subst (λ (ds : List ResourceDef). AreReturned (g.H.Shelf.tells c.close_coordinator.new.shelf) (g.H.Shelf.given_back c.close_resources.new.shelf) ds c.args.resources.items) c.as_slice-defs.ensures
     c.close_resources.ensures.back)
-    (λ n none. c.close_resources.ensures.others n (subst (λ (ds : List ResourceDef). IsOfNone ds (length c.args.resources.items) n) (sym c.as_slice-defs.ensures) none))
+    (subst (λ (ds : List ResourceDef). GivesBackOnly (IsOfNone ds (length c.args.resources.items))
+    (showing g.H.Shelf.has_place g.H.Shelf.given_back g.H.Shelf.faults g.H.Shelf.tells c.close_coordinator.new.shelf)
+    (showing g.H.Shelf.has_place g.H.Shelf.given_back g.H.Shelf.faults g.H.Shelf.tells c.close_resources.new.shelf)) c.as_slice-defs.ensures c.close_resources.ensures.only)
 
-pub returns-clause-others : goal.returns-clause-others
-returns-clause-others g c =
-    all_others c.args.scenario.now c.requires.runnable c.args.coordinator c.args.resources.items c.requires.few
+pub returns-clause-only : goal.returns-clause-only
+returns-clause-only g c =
+    all_only c.args.scenario.now c.requires.runnable c.args.coordinator c.args.resources.items c.requires.few
     (showing g.H.Shelf.has_place g.H.Shelf.given_back g.H.Shelf.faults g.H.Shelf.tells c.args.shelf.now)
     (showing g.H.Shelf.has_place g.H.Shelf.given_back g.H.Shelf.faults g.H.Shelf.tells c.close_coordinator.new.shelf)
     (showing g.H.Shelf.has_place g.H.Shelf.given_back g.H.Shelf.faults g.H.Shelf.tells c.close_resources.new.shelf) c.close_coordinator.ensures.back c.close_coordinator.ensures.keeps
     (subst (λ (ds : List ResourceDef). AreReturned (g.H.Shelf.tells c.close_coordinator.new.shelf) (g.H.Shelf.given_back c.close_resources.new.shelf) ds c.args.resources.items) c.as_slice-defs.ensures
     c.close_resources.ensures.back)
-    (λ n none. c.close_resources.ensures.others n (subst (λ (ds : List ResourceDef). IsOfNone ds (length c.args.resources.items) n) (sym c.as_slice-defs.ensures) none))
-
-pub returns-clause-faults : goal.returns-clause-faults
-returns-clause-faults g c = let one = c.close_coordinator.ensures.keeps.faults in let two = c.close_resources.ensures.faults in omega (arith, one, two)
-
-pub returns-clause-tells : goal.returns-clause-tells
-returns-clause-tells g c = c.close_resources.ensures.tells ∙ c.close_coordinator.ensures.keeps.tells
-
-pub returns-clause-returned : goal.returns-clause-returned
-returns-clause-returned g c =
-    all_after (showing g.H.Shelf.has_place g.H.Shelf.given_back g.H.Shelf.faults g.H.Shelf.tells c.args.shelf.now)
+    (subst (λ (ds : List ResourceDef). GivesBackOnly (IsOfNone ds (length c.args.resources.items))
     (showing g.H.Shelf.has_place g.H.Shelf.given_back g.H.Shelf.faults g.H.Shelf.tells c.close_coordinator.new.shelf)
-    (showing g.H.Shelf.has_place g.H.Shelf.given_back g.H.Shelf.faults g.H.Shelf.tells c.close_resources.new.shelf) c.close_coordinator.ensures.keeps.tells c.close_coordinator.ensures.returned
-    c.close_resources.ensures.returned
+    (showing g.H.Shelf.has_place g.H.Shelf.given_back g.H.Shelf.faults g.H.Shelf.tells c.close_resources.new.shelf)) c.as_slice-defs.ensures c.close_resources.ensures.only)
+    c.close_coordinator.ensures.places c.close_coordinator.ensures.returned
 
-pub returns-clause-places : goal.returns-clause-places
-returns-clause-places g c =
-    places_then (g.H.Shelf.has_place c.args.shelf.now) (g.H.Shelf.has_place c.close_coordinator.new.shelf) (g.H.Shelf.has_place c.close_resources.new.shelf) c.close_coordinator.ensures.places
-    c.close_resources.ensures.places
+pub returns-clause-traces : goal.returns-clause-traces
+returns-clause-traces g c = c.close_resources.ensures.traces

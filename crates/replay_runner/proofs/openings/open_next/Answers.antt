@@ -1,7 +1,7 @@
 use Rattle.std.proofs.Common.{◌≡◌, inl, ◌∙◌, ◌+◌, ◌<◌, ◌++◌, ◌∷◌, [], List, Some, ap, arith, length, length-append, refl, slice_get, sym, subst}
 use Rattle.std.proofs.lemmas.Option.{slice_get_read}
 use Rattle.disk_model.specs.Disk.{Rose}
-use Rattle.scenario_reader.specs.declared.scenarios.ResourceDef.{ResourceDef}
+use Rattle.scenario_form.specs.declared.scenarios.ResourceDef.{ResourceDef}
 use Rattle.scenario_nodes.specs.Nodes.{IsNewResource}
 use Rattle.scenario_nodes.specs.Shelves.{IsDiskName}
 use Rattle.replay_runner.specs.Opened.{AreFirst, HaveBoth, IsNewResourceOf, IsOfOne}
@@ -13,12 +13,33 @@ use Rattle.replay_runner.proofs.NewNodes.{fresh_resource, next_first}
 use Rattle.replay_runner.proofs.Returning.{made_next, of_next}
 use Rattle.replay_runner.proofs.openings.open_next.Goals as goal
 
-pub returns-then-is_err-clause-opened : goal.returns-then-is_err-clause-opened
-returns-then-is_err-clause-opened g c = subst (AreFirst (IsNewResourceOf g.H.D.Disk.state c.args.scenario.now) c.args.scenario.now.resources) (sym c.reserve.ensures.items) c.requires.opened
+pub overflow_cast-k : goal.overflow_cast-k
+overflow_cast-k g c = let few = c.requires.can.runnable.servers in let below = c.requires.there in omega (arith, few, below)
 
-pub returns-then-is_err-clause-taken : goal.returns-then-is_err-clause-taken
-returns-then-is_err-clause-taken g c =
-    subst (HaveBoth (g.H.Shelf.has_place c.args.shelf.now) c.args.scenario.now.resources) (sym (ap length c.reserve.ensures.items ∙ c.requires.next)) c.requires.taken
+pub overflow_add-k : goal.overflow_add-k
+overflow_add-k g c = let few = c.requires.can.runnable.servers in let below = c.requires.there in omega (arith, few, below)
+
+pub new-requires : goal.new-requires
+new-requires g c =
+    let here =
+    slice_get_read c.as_slice.result.now _ c.args.k c.index-as_slice-k.result refl (subst (λ (ds : List ResourceDef). c.args.k < length ds) (sym c.as_slice.ensures) c.requires.there) c.index-as_slice-k.is in
+    record {
+      fresh = fresh_resource g.H.D.Disk.state g.K.RunName.world g.K.RunName.past c.args.scenario.now c.args.k c.index-as_slice-k.result c.in-Ok.resource c.requires.can.is_world c.requires.can.is_past
+          (subst (λ (ds : List ResourceDef). slice_get ds c.args.k ≡ Some c.index-as_slice-k.result) c.as_slice.ensures here) c.in-Ok.ensures.new;
+    }
+
+pub returns-then-is_err-clause-opens : goal.returns-then-is_err-clause-opens
+returns-then-is_err-clause-opens g c =
+    let before = showing g.H.Shelf.has_place g.H.Shelf.given_back g.H.Shelf.faults g.H.Shelf.tells c.args.shelf.now in
+    let same = c.reserve.ensures.items in record {
+      opened = subst (AreFirst (IsNewResourceOf g.H.D.Disk.state c.args.scenario.now) c.args.scenario.now.resources) (sym same) c.requires.opened;
+      taken = subst (HaveBoth before.has_place c.args.scenario.now.resources) (sym (ap length same ∙ c.requires.next)) c.requires.taken;
+      places = λ n here. here;
+      made = λ n there. inl there;
+      out = but_of_all (IsOfOne c.args.scenario.now.resources (length c.reserve.new.self.items)) before before (all_same before);
+      faults = omega arith;
+      tells = refl;
+    }
 
 pub returns-then-is_err-clause-refused : goal.returns-then-is_err-clause-refused
 returns-then-is_err-clause-refused g c =
@@ -26,50 +47,62 @@ returns-then-is_err-clause-refused g c =
     next_unasked g.H.D.Disk.state c.args.scenario.now (g.H.Shelf.has_place c.args.shelf.now) (g.H.Shelf.tells c.args.shelf.now) (g.H.Shelf.given_back c.args.shelf.now)
     (Rose (g.H.Shelf.faults c.args.shelf.now) (g.H.Shelf.faults c.args.shelf.now)) c.args.k def here
 
-pub overflow_cast-k : goal.overflow_cast-k
-overflow_cast-k g c = let few = c.requires.runnable.servers in let below = c.requires.there in omega (arith, few, below)
-
-pub overflow_add-k : goal.overflow_add-k
-overflow_add-k g c = let few = c.requires.runnable.servers in let below = c.requires.there in omega (arith, few, below)
-
-pub new-requires : goal.new-requires
-new-requires g c =
+pub returns-in-Ok-clause-opens : goal.returns-in-Ok-clause-opens
+returns-in-Ok-clause-opens g c =
+    let rs = c.args.scenario.now.resources in
+    let def = c.index-as_slice-k.result in
+    let before = showing g.H.Shelf.has_place g.H.Shelf.given_back g.H.Shelf.faults g.H.Shelf.tells c.args.shelf.now in
+    let after = showing g.H.Shelf.has_place g.H.Shelf.given_back g.H.Shelf.faults g.H.Shelf.tells c.open_resource.new.shelf in
+    let keeps = c.in-Ok.ensures.keeps in
+    let found = c.push_reserved.new.self.items in
     let here =
     slice_get_read c.as_slice.result.now _ c.args.k c.index-as_slice-k.result refl (subst (λ (ds : List ResourceDef). c.args.k < length ds) (sym c.as_slice.ensures) c.requires.there) c.index-as_slice-k.is in
-    record {
-      fresh = fresh_resource g.H.D.Disk.state g.K.RunName.world g.K.RunName.past c.args.scenario.now c.args.k c.index-as_slice-k.result c.in-Ok.resource c.requires.world c.requires.past
-          (subst (λ (ds : List ResourceDef). slice_get ds c.args.k ≡ Some c.index-as_slice-k.result) c.as_slice.ensures here) c.in-Ok.ensures.new;
-    }
-
-pub returns-in-Ok-clause-opened : goal.returns-in-Ok-clause-opened
-returns-in-Ok-clause-opened g c =
-    let here =
-    slice_get_read c.as_slice.result.now _ c.args.k c.index-as_slice-k.result refl (subst (λ (ds : List ResourceDef). c.args.k < length ds) (sym c.as_slice.ensures) c.requires.there) c.index-as_slice-k.is in
-    (next_first (IsNewResourceOf g.H.D.Disk.state c.args.scenario.now) c.args.scenario.now.resources c.args.opened.now.items c.push_reserved.new.self.items c.args.k c.index-as_slice-k.result c.new.result
-    c.requires.opened c.requires.next (c.push_reserved.ensures.items ∙ ap (λ xs. xs ++ c.new.result ∷ []) c.reserve.ensures.items)
-    (subst (λ (ds : List ResourceDef). slice_get ds c.args.k ≡ Some c.index-as_slice-k.result) c.as_slice.ensures here)
-    (record {
-      node = subst (IsNewResource g.H.D.Disk.state c.args.scenario.now (c.args.k + 1) c.index-as_slice-k.result) (sym c.new.ensures.node) c.in-Ok.ensures.new;
-      traced = c.new.ensures.trace;
-      turned = c.new.ensures.turned;
-    })).0
-
-pub returns-in-Ok-clause-taken : goal.returns-in-Ok-clause-taken
-returns-in-Ok-clause-taken g c =
-    let here =
-    slice_get_read c.as_slice.result.now _ c.args.k c.index-as_slice-k.result refl (subst (λ (ds : List ResourceDef). c.args.k < length ds) (sym c.as_slice.ensures) c.requires.there) c.index-as_slice-k.is in
-    let grown = ap length c.push_reserved.ensures.items in
+    let listed = subst (λ (ds : List ResourceDef). slice_get ds c.args.k ≡ Some c.index-as_slice-k.result) c.as_slice.ensures here in
+    let more = ap length c.push_reserved.ensures.items in
     let sum = length-append c.reserve.new.self.items (c.new.result ∷ []) in
     let same = ap length c.reserve.ensures.items in
     let size = c.requires.next in
-    taken_more (g.H.Shelf.has_place c.args.shelf.now) (g.H.Shelf.has_place c.open_resource.new.shelf) c.args.scenario.now.resources c.args.k (length c.push_reserved.new.self.items) c.index-as_slice-k.result
-    c.in-Ok.ensures.keeps.places c.requires.taken (subst (λ (ds : List ResourceDef). slice_get ds c.args.k ≡ Some c.index-as_slice-k.result) c.as_slice.ensures here) c.in-Ok.ensures.both
-    (omega (arith, grown, sum, same, size))
+    let grown : length found ≡ c.args.k + 1 = omega (arith, more, sum, same, size) in record {
+      opened = (next_first (IsNewResourceOf g.H.D.Disk.state c.args.scenario.now) rs c.args.opened.now.items found c.args.k def c.new.result c.requires.opened c.requires.next
+          (c.push_reserved.ensures.items ∙ ap (λ xs. xs ++ c.new.result ∷ []) c.reserve.ensures.items) listed (record {
+            node = subst (IsNewResource g.H.D.Disk.state c.args.scenario.now (c.args.k + 1) def) (sym c.new.ensures.node) c.in-Ok.ensures.new;
+            traced = c.new.ensures.trace;
+            turned = c.new.ensures.turned;
+          })).0;
+      taken = taken_more before.has_place after.has_place rs c.args.k (length found) def keeps.places c.requires.taken listed c.in-Ok.ensures.both grown;
+      places = keeps.places;
+      made = λ n there. made_next before.has_place rs c.args.k def listed n (keeps.made n there);
+      out = but_wider (IsDiskName def.name) (IsOfOne rs (length found)) before after (of_next rs c.args.k (length found) def listed grown) c.in-Ok.ensures.out;
+      faults = keeps.faults;
+      tells = keeps.tells;
+    }
 
-pub returns-in-Err-clause-taken : goal.returns-in-Err-clause-taken
-returns-in-Err-clause-taken g c =
-    subst (HaveBoth (g.H.Shelf.has_place c.open_resource.new.shelf) c.args.scenario.now.resources) (sym (ap length c.reserve.ensures.items ∙ c.requires.next))
-    (taken_stay (g.H.Shelf.has_place c.args.shelf.now) (g.H.Shelf.has_place c.open_resource.new.shelf) c.args.scenario.now.resources c.args.k c.in-Err.ensures.keeps.places c.requires.taken)
+pub returns-in-Ok-clause-more : goal.returns-in-Ok-clause-more
+returns-in-Ok-clause-more g c =
+    let more = ap length c.push_reserved.ensures.items in
+    let sum = length-append c.reserve.new.self.items (c.new.result ∷ []) in
+    let same = ap length c.reserve.ensures.items in
+    let size = c.requires.next in
+    omega (arith, more, sum, same, size)
+
+pub returns-in-Err-clause-opens : goal.returns-in-Err-clause-opens
+returns-in-Err-clause-opens g c =
+    let rs = c.args.scenario.now.resources in
+    let before = showing g.H.Shelf.has_place g.H.Shelf.given_back g.H.Shelf.faults g.H.Shelf.tells c.args.shelf.now in
+    let after = showing g.H.Shelf.has_place g.H.Shelf.given_back g.H.Shelf.faults g.H.Shelf.tells c.open_resource.new.shelf in
+    let keeps = c.in-Err.ensures.keeps in
+    let here =
+    slice_get_read c.as_slice.result.now _ c.args.k c.index-as_slice-k.result refl (subst (λ (ds : List ResourceDef). c.args.k < length ds) (sym c.as_slice.ensures) c.requires.there) c.index-as_slice-k.is in
+    let listed = subst (λ (ds : List ResourceDef). slice_get ds c.args.k ≡ Some c.index-as_slice-k.result) c.as_slice.ensures here in
+    let same = c.reserve.ensures.items in record {
+      opened = subst (AreFirst (IsNewResourceOf g.H.D.Disk.state c.args.scenario.now) rs) (sym same) c.requires.opened;
+      taken = subst (HaveBoth after.has_place rs) (sym (ap length same ∙ c.requires.next)) (taken_stay before.has_place after.has_place rs c.args.k keeps.places c.requires.taken);
+      places = keeps.places;
+      made = λ n there. made_next before.has_place rs c.args.k c.index-as_slice-k.result listed n (keeps.made n there);
+      out = but_of_all (IsOfOne rs (length c.reserve.new.self.items)) before after c.in-Err.ensures.returned;
+      faults = keeps.faults;
+      tells = keeps.tells;
+    }
 
 pub returns-in-Err-clause-refused : goal.returns-in-Err-clause-refused
 returns-in-Err-clause-refused g c =
@@ -78,46 +111,3 @@ returns-in-Err-clause-refused g c =
     next_refused g.H.D.Disk.state c.args.scenario.now (showing g.H.Shelf.has_place g.H.Shelf.given_back g.H.Shelf.faults g.H.Shelf.tells c.args.shelf.now)
     (showing g.H.Shelf.has_place g.H.Shelf.given_back g.H.Shelf.faults g.H.Shelf.tells c.open_resource.new.shelf) c.args.k c.index-as_slice-k.result c.in-Err.fault c.in-Err.ensures.keeps.tells
     (subst (λ (ds : List ResourceDef). slice_get ds c.args.k ≡ Some c.index-as_slice-k.result) c.as_slice.ensures here) c.in-Err.ensures.refused
-
-pub returns-then-is_err-clause-out : goal.returns-then-is_err-clause-out
-returns-then-is_err-clause-out g c =
-    let before = showing g.H.Shelf.has_place g.H.Shelf.given_back g.H.Shelf.faults g.H.Shelf.tells c.args.shelf.now in
-    but_of_all (IsOfOne c.args.scenario.now.resources (length c.reserve.new.self.items)) before before (all_same before)
-
-pub returns-in-Ok-clause-out : goal.returns-in-Ok-clause-out
-returns-in-Ok-clause-out g c =
-    let before = showing g.H.Shelf.has_place g.H.Shelf.given_back g.H.Shelf.faults g.H.Shelf.tells c.args.shelf.now in
-    let after = showing g.H.Shelf.has_place g.H.Shelf.given_back g.H.Shelf.faults g.H.Shelf.tells c.open_resource.new.shelf in
-    let here =
-    slice_get_read c.as_slice.result.now _ c.args.k c.index-as_slice-k.result refl (subst (λ (ds : List ResourceDef). c.args.k < length ds) (sym c.as_slice.ensures) c.requires.there) c.index-as_slice-k.is in
-    let grown = ap length c.push_reserved.ensures.items in
-    let sum = length-append c.reserve.new.self.items (c.new.result ∷ []) in
-    let same = ap length c.reserve.ensures.items in
-    let size = c.requires.next in
-    but_wider (IsDiskName c.index-as_slice-k.result.name) (IsOfOne c.args.scenario.now.resources (length c.push_reserved.new.self.items)) before after
-    (of_next c.args.scenario.now.resources c.args.k (length c.push_reserved.new.self.items) c.index-as_slice-k.result
-    (subst (λ (ds : List ResourceDef). slice_get ds c.args.k ≡ Some c.index-as_slice-k.result) c.as_slice.ensures here) (omega (arith, grown, sum, same, size)))
-    c.in-Ok.ensures.out
-
-pub returns-in-Err-clause-out : goal.returns-in-Err-clause-out
-returns-in-Err-clause-out g c =
-    let before = showing g.H.Shelf.has_place g.H.Shelf.given_back g.H.Shelf.faults g.H.Shelf.tells c.args.shelf.now in
-    let after = showing g.H.Shelf.has_place g.H.Shelf.given_back g.H.Shelf.faults g.H.Shelf.tells c.open_resource.new.shelf in
-    but_of_all (IsOfOne c.args.scenario.now.resources (length c.reserve.new.self.items)) before after c.in-Err.ensures.returned
-
-pub returns-then-is_err-clause-made : goal.returns-then-is_err-clause-made
-returns-then-is_err-clause-made g c = λ n there. inl there
-
-pub returns-in-Ok-clause-made : goal.returns-in-Ok-clause-made
-returns-in-Ok-clause-made g c = λ n there.
-    let here =
-    slice_get_read c.as_slice.result.now _ c.args.k c.index-as_slice-k.result refl (subst (λ (ds : List ResourceDef). c.args.k < length ds) (sym c.as_slice.ensures) c.requires.there) c.index-as_slice-k.is in
-    made_next (g.H.Shelf.has_place c.args.shelf.now) c.args.scenario.now.resources c.args.k c.index-as_slice-k.result
-    (subst (λ (ds : List ResourceDef). slice_get ds c.args.k ≡ Some c.index-as_slice-k.result) c.as_slice.ensures here) n (c.in-Ok.ensures.keeps.made n there)
-
-pub returns-in-Err-clause-made : goal.returns-in-Err-clause-made
-returns-in-Err-clause-made g c = λ n there.
-    let here =
-    slice_get_read c.as_slice.result.now _ c.args.k c.index-as_slice-k.result refl (subst (λ (ds : List ResourceDef). c.args.k < length ds) (sym c.as_slice.ensures) c.requires.there) c.index-as_slice-k.is in
-    made_next (g.H.Shelf.has_place c.args.shelf.now) c.args.scenario.now.resources c.args.k c.index-as_slice-k.result
-    (subst (λ (ds : List ResourceDef). slice_get ds c.args.k ≡ Some c.index-as_slice-k.result) c.as_slice.ensures here) n (c.in-Err.ensures.keeps.made n there)

@@ -34,7 +34,7 @@ returns-in-Err-clause-back g c =
     (g.H.Shelf.has_place c.close-history.new.shelf)
     (c.play_all-played.ensures.count ∙ count_of_resources c.args.scenario.now c.requires.runnable (length c.args.nodes.managers.items) (length c.args.nodes.resources.items) c.new-run.result c.new-run.ensures.goes
     c.requires.new.managers.count c.requires.new.resources.count)
-    c.close-history.ensures.places c.requires.taken)
+    c.close-history.ensures.only.places c.requires.taken)
     c.play_all-played.result c.in-Err.fault c.in-Err.is
     (λ all. c.play_all-played.ensures.played c.args.scenario.now c.requires.runnable (sym c.as_slice-locals.ensures) (sym c.as_slice.ensures)
     (c.new-run.ensures.plays c.args.scenario.now (are_nodes g.H.D.Disk.state c.args.scenario.now c.args.nodes c.requires.new all)))
@@ -50,7 +50,7 @@ returns-in-Ok-clause-back g c =
     (g.H.Shelf.has_place c.close-history.new.shelf)
     (c.play_all-played.ensures.count ∙ count_of_resources c.args.scenario.now c.requires.runnable (length c.args.nodes.managers.items) (length c.args.nodes.resources.items) c.new-run.result c.new-run.ensures.goes
     c.requires.new.managers.count c.requires.new.resources.count)
-    c.close-history.ensures.places c.requires.taken)
+    c.close-history.ensures.only.places c.requires.taken)
     c.play_all-played.result c.in_default.field-0 c.in_default.is
     (λ all. c.play_all-played.ensures.played c.args.scenario.now c.requires.runnable (sym c.as_slice-locals.ensures) (sym c.as_slice.ensures)
     (c.new-run.ensures.plays c.args.scenario.now (are_nodes g.H.D.Disk.state c.args.scenario.now c.args.nodes c.requires.new all)))
@@ -66,7 +66,7 @@ returns-in-Err-history-clause-back g c =
     (g.H.Shelf.has_place c.close-history.new.shelf)
     (c.play_all-played.ensures.count ∙ count_of_resources c.args.scenario.now c.requires.runnable (length c.args.nodes.managers.items) (length c.args.nodes.resources.items) c.new-run.result c.new-run.ensures.goes
     c.requires.new.managers.count c.requires.new.resources.count)
-    c.close-history.ensures.places c.requires.taken)
+    c.close-history.ensures.only.places c.requires.taken)
     c.play_all-played.result c.in_default.field-0 c.in_default.is
     (λ all. c.play_all-played.ensures.played c.args.scenario.now c.requires.runnable (sym c.as_slice-locals.ensures) (sym c.as_slice.ensures)
     (c.new-run.ensures.plays c.args.scenario.now (are_nodes g.H.D.Disk.state c.args.scenario.now c.args.nodes c.requires.new all)))
@@ -94,3 +94,12 @@ returns-in-Err-history-clause-given g c =
     (c.play_all-played.ensures.count ∙ count_of_resources c.args.scenario.now c.requires.runnable (length c.args.nodes.managers.items) (length c.args.nodes.resources.items) c.new-run.result c.new-run.ensures.goes
     c.requires.new.managers.count c.requires.new.resources.count)
     (omega arith) (g.H.Shelf.tells c.args.shelf.now) (g.H.Shelf.given_back c.close-history.new.shelf) c.close-history.ensures.back
+
+pub returns-in-Err-clause-returned : goal.returns-in-Err-clause-returned
+returns-in-Err-clause-returned g c = c.close-history.ensures.only.returned
+
+pub returns-in-Ok-clause-returned : goal.returns-in-Ok-clause-returned
+returns-in-Ok-clause-returned g c = c.close-history.ensures.only.returned
+
+pub returns-in-Err-history-clause-returned : goal.returns-in-Err-history-clause-returned
+returns-in-Err-history-clause-returned g c = c.close-history.ensures.only.returned

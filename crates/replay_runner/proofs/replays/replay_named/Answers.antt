@@ -1,4 +1,4 @@
-use Rattle.std.proofs.Common.{inl, Bool, length, subst}
+use Rattle.std.proofs.Common.{inl, Bool, length, rules, subst}
 use Rattle.replay_runner.specs.Leaving.{GivesBack}
 use Rattle.replay_runner.specs.Opened.{IsOfServer}
 use Rattle.scenario_nodes.proofs.Returned.{all_in, all_same, showing, still}
@@ -15,7 +15,7 @@ pub returns-in-Ok-open_nodes-clause-replays : goal.returns-in-Ok-open_nodes-clau
 returns-in-Ok-open_nodes-clause-replays g c =
     inl (gives_back_on g.H.D.Disk.state (g.H.Shelf.has_place c.args.shelf.now) (g.H.Shelf.has_place c.play.new.shelf) (g.H.Shelf.tells c.args.shelf.now) (g.H.Shelf.given_back c.play.new.shelf)
     c.args.scenario.now c.play.result
-    (subst (λ (t : Bool). GivesBack g.H.D.Disk.state (λ n. ⊥) (g.H.Shelf.has_place c.play.new.shelf) t (g.H.Shelf.given_back c.play.new.shelf) c.args.scenario.now c.play.result) c.open_nodes.ensures.tells
+    (subst (λ (t : Bool). GivesBack g.H.D.Disk.state (λ n. ⊥) (g.H.Shelf.has_place c.play.new.shelf) t (g.H.Shelf.given_back c.play.new.shelf) c.args.scenario.now c.play.result) c.open_nodes.ensures.opens.tells
     c.play.ensures.back))
 
 pub returns-in_default-clause-returned : goal.returns-in_default-clause-returned
@@ -30,5 +30,13 @@ returns-in-Ok-open_nodes-clause-returned g c =
     let before = showing g.H.Shelf.has_place g.H.Shelf.given_back g.H.Shelf.faults g.H.Shelf.tells c.args.shelf.now in
     let opened = showing g.H.Shelf.has_place g.H.Shelf.given_back g.H.Shelf.faults g.H.Shelf.tells c.open_nodes.new.shelf in
     let after = showing g.H.Shelf.has_place g.H.Shelf.given_back g.H.Shelf.faults g.H.Shelf.tells c.play.new.shelf in
-    all_in (IsOfServer rs (length rs)) before opened after c.open_nodes.ensures.tells c.in-Ok-open_nodes.ensures.out c.play.ensures.returned
-    (λ told. c.play.ensures.given (still before.tells opened.tells c.open_nodes.ensures.tells told))
+    all_in (IsOfServer rs (length rs)) before opened after c.open_nodes.ensures.opens.tells c.in-Ok-open_nodes.ensures.opens.out c.play.ensures.returned
+    (λ told. c.play.ensures.given (still before.tells opened.tells c.open_nodes.ensures.opens.tells told))
+
+pub open_nodes-requires-clause-can : goal.open_nodes-requires-clause-can
+open_nodes-requires-clause-can g c κs within = record {
+  runnable = c.requires.runnable;
+  is_world = c.requires.world;
+  is_past = c.requires.past;
+  named = search rules;
+}

@@ -1,7 +1,7 @@
 use Rattle.std.proofs.Common.{◌-◌, ℕ, List, All, sym, subst}
 use Rattle.seata_types.specs.declared.rows.Row.{Row}
 use Rattle.seata_types.specs.declared.statements.Stmt.{Stmt}
-use Rattle.scenario_reader.specs.declared.scenarios.ManagerDef.{ManagerDef}
+use Rattle.scenario_form.specs.declared.scenarios.ManagerDef.{ManagerDef}
 use Rattle.scenario_nodes.specs.Calls.{HasReadCalls, HasTypes, IsReadLocal}
 use Rattle.scenario_nodes.proofs.ReadParts.{locals_read, managers_read}
 use Rattle.scenario_nodes.proofs.SetupWithin.{setup_within}

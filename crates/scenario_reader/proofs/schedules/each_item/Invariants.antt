@@ -2,7 +2,8 @@ use Rattle.std.proofs.Common.{◌≡◌, ◌≤◌, [], drop, length}
 use Rattle.serde_json.specs.View.{items_view}
 use Rattle.seata_types.specs.declared.limits.TheConstants.{STEPS}
 use Rattle.scenario_reader.specs.Faults.{each}
-use Rattle.scenario_reader.specs.Steps.{next_item, all_steps}
+use Rattle.scenario_form.specs.Runnable.{all_steps}
+use Rattle.scenario_reader.specs.Steps.{next_item}
 use Rattle.scenario_reader.proofs.schedules.each_item.Given as goal
 
 abbrev pub invariant-loop-value : goal.invariant-loop-value

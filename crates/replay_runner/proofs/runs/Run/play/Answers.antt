@@ -1,8 +1,8 @@
 use Rattle.std.proofs.Common.{OnOk, ap, sym, ◌+◌, length, refl, subst, arith}
-use Rattle.scenario_reader.specs.declared.scenarios.ScheduleItem.{ScheduleItem}
-use Rattle.scenario_reader.specs.declared.scenarios.ScheduleItem.TheVariants as item
-use Rattle.scenario_reader.specs.Runnable.{FitsNodes}
-use Rattle.scenario_reader.specs.Steps.{steps_of}
+use Rattle.scenario_form.specs.declared.scenarios.ScheduleItem.{ScheduleItem}
+use Rattle.scenario_form.specs.declared.scenarios.ScheduleItem.TheVariants as item
+use Rattle.scenario_form.specs.Runnable.{FitsNodes}
+use Rattle.scenario_form.specs.Runnable.{steps_of}
 use Rattle.history_rules.specs.Schedules.{DeliverOf, TurnOf}
 use Rattle.history_text.specs.declared.entries.Cause.TheVariants as cause
 use Rattle.replay_runner.specs.Going.{CanGo, Went}

@@ -1,9 +1,9 @@
 use Rattle.std.proofs.Common.{[], ◌+◌, ◌∙◌, get_or, length, sym, subst, arith}
 use Rattle.std.proofs.lemmas.Option.{slice_get-get_or}
 use Rattle.seata_types.specs.declared.ids.Place.TheVariants as place
-use Rattle.scenario_reader.specs.declared.scenarios.ScheduleItem.TheVariants as item
-use Rattle.scenario_reader.specs.Runnable.{FitsNodes}
-use Rattle.scenario_reader.specs.Steps.{steps_of}
+use Rattle.scenario_form.specs.declared.scenarios.ScheduleItem.TheVariants as item
+use Rattle.scenario_form.specs.Runnable.{FitsNodes}
+use Rattle.scenario_form.specs.Runnable.{steps_of}
 use Rattle.replay_runner.specs.Going.{AreLocals}
 use Rattle.replay_runner.proofs.Playing.{all_played, next_member, next_room, none_played}
 use Rattle.replay_runner.proofs.Sound.{can_go, went_on}

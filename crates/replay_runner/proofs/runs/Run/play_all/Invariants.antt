@@ -1,8 +1,8 @@
 use Rattle.std.proofs.Common.{◌≡◌, ◌+◌, ◌≤◌, ℕ, List, [], drop, length, map}
 use Rattle.seata_types.specs.declared.limits.TheConstants.{STEPS}
-use Rattle.scenario_reader.specs.declared.scenarios.Scenario.{Scenario}
-use Rattle.scenario_reader.specs.Runnable.{IsRunnable}
-use Rattle.scenario_reader.specs.Steps.{all_steps}
+use Rattle.scenario_form.specs.declared.scenarios.Scenario.{Scenario}
+use Rattle.scenario_form.specs.Runnable.{IsRunnable}
+use Rattle.scenario_form.specs.Runnable.{all_steps}
 use Rattle.history_rules.specs.Histories.{Moment}
 use Rattle.history_rules.specs.Schedules.{singles}
 use Rattle.history_text.specs.Worlds.{item_of}

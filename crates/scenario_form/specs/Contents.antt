@@ -1,5 +1,5 @@
 -- What the parts of a scenario are like that reading gives: names, tables, rows, statements and calls.
-use Rattle.std.specs.Prelude.{◌≡◌, ◌≤◌, ◌<◌, nat_eq, ℕ, zero, suc, true, List, length, map, All, slice_get, Option, Some, None, Ok}
+use Rattle.std.specs.Prelude.{◌≡◌, ◌≤◌, ◌<◌, ◌==◌, ◌&&◌, not, nat_eq, nat_le, ℕ, zero, suc, Bool, true, false, List, length, map, All, slice_get, Option, Some, None, Ok}
 use Rattle.std.specs.List.{IsDistinct, list_all}
 use Rattle.seata_types.specs.Orders.{same_text}
 use Rattle.seata_types.specs.declared.limits.TheConstants.{COLUMNS, KEY_PARTS, NAME_BYTES, NODE_NAME_BYTES, RESOURCE_ROWS, STATEMENTS, STATEMENT_BYTES, TABLES, TEXT_BYTES}
@@ -7,6 +7,7 @@ use Rattle.seata_types.specs.declared.rows.Row.{Row}
 use Rattle.seata_types.specs.declared.rows.Value.{Value}
 use Rattle.seata_types.specs.declared.rows.Value.TheVariants as value
 use Rattle.seata_types.specs.declared.statements.Stmt.{Stmt}
+use Rattle.seata_types.specs.declared.statements.Stmt.TheVariants as stmt
 use Rattle.seata_types.specs.declared.statements.Work.{Work}
 use Rattle.seata_types.specs.declared.statements.Work.TheVariants as work
 use Rattle.seata_types.specs.declared.statuses.BranchKind.{BranchKind}
@@ -17,10 +18,8 @@ use Rattle.local_tables.specs.declared.schemas.ColType.{ColType}
 use Rattle.local_tables.specs.declared.schemas.ColType.TheVariants as type
 use Rattle.local_tables.specs.declared.schemas.Schema.{Schema}
 use Rattle.local_tables.specs.declared.schemas.TableDef.{TableDef}
-use Rattle.scenario_reader.specs.declared.scenarios.ResourceDef.{ResourceDef}
-use Rattle.scenario_reader.specs.Names.{is_node_name, is_table_name}
-use Rattle.scenario_reader.specs.Tables.{Column, is_printable}
-use Rattle.scenario_reader.specs.Calls.{suits, table_of}
+use Rattle.scenario_form.specs.declared.scenarios.ResourceDef.{ResourceDef}
+use Rattle.scenario_form.specs.Names.{is_node_name, is_table_name}
 
 -- at least so much, and at most so much
 abbrev pub IsBetween : ℕ → ℕ → ℕ → Type 0
@@ -43,6 +42,10 @@ abbrev pub AreDifferent : List (List ℕ) → Type 0
 AreDifferent names = IsDistinct same_text names
 
 -- ---- tables
+
+-- a column: its name and its type
+abbrev pub Column : Type 0
+Column = List ℕ × ColType
 
 abbrev pub column_name : Column → List ℕ
 column_name column = column.0
@@ -68,6 +71,10 @@ pub record IsSchema (schema : Schema) : Type 0 where
 
 -- ---- rows
 
+-- no control character: neither below a space nor 127
+abbrev pub is_printable : ℕ → Bool
+is_printable b = nat_le 32 b && not (b == 127)
+
 -- a value of a column: a text there has no control character
 abbrev pub FitsColumn : ColType → Value → Type 0
 FitsColumn type.Int (value.Int number) = Unit {0}
@@ -92,6 +99,20 @@ pub record IsResource (def : ResourceDef) : Type 0 where
   pub opens : (number : ℕ) → IsOpening number def.schema def.opening
 
 -- ---- statements and calls
+
+-- the table that a statement names
+abbrev pub table_of : Stmt → List ℕ
+table_of (stmt.Insert table columns tuples) = table
+table_of (stmt.Update table sets asked) = table
+table_of (stmt.Delete table asked) = table
+table_of (stmt.Select table asked) = table
+
+-- whether a statement may stand in a call of this kind, by the kind of its table
+abbrev pub suits : BranchKind → BranchKind → Stmt → Bool
+suits kind.At kind.At found = true
+suits kind.Tcc kind.Tcc (stmt.Select table asked) = false
+suits kind.Tcc kind.Tcc _ = true
+suits _ _ _ = false
 
 -- a statement of a text that is short enough, for a table that is there and of the wanted mode
 pub record IsStatement (schema : Schema) (wanted : BranchKind) (s : Stmt) : Type 0 where

@@ -1,17 +1,15 @@
 -- What holds of every scenario that is read: a run of it finds each node, each table and each number that it names.
-use Rattle.std.specs.Prelude.{◌≤◌, ℕ, List, ◌++◌, length, map, All, Option, Some, None}
+use Rattle.std.specs.Prelude.{◌≤◌, ◌+◌, ℕ, List, [], ◌∷◌, ◌++◌, length, map, All, Option, Some, None}
 use Rattle.disk_model.specs.declared.disk.TheConstants.{LAST_PICK}
 use Rattle.seata_types.specs.declared.ids.Place.{Place}
 use Rattle.seata_types.specs.declared.ids.Place.TheVariants as place
 use Rattle.seata_types.specs.declared.limits.TheConstants.{CALLS, DISK_LEAST, DISK_MOST, LOCALS, LOCK_TRIES, MANAGERS, RESOURCES, SCHEDULE_MEMBERS, SILENT, STEPS, STOP_CALLS, TICKS}
-use Rattle.scenario_reader.specs.declared.scenarios.ManagerDef.{ManagerDef}
-use Rattle.scenario_reader.specs.declared.scenarios.ResourceDef.{ResourceDef}
-use Rattle.scenario_reader.specs.declared.scenarios.Scenario.{Scenario}
-use Rattle.scenario_reader.specs.declared.scenarios.ScheduleItem.{ScheduleItem}
-use Rattle.scenario_reader.specs.declared.scenarios.ScheduleItem.TheVariants as step
-use Rattle.scenario_reader.specs.Contents.{IsBetween, IsNodeName, AreDifferent, IsResource, IsCall, IsLocal}
-use Rattle.scenario_reader.specs.Reading.{IsScenario, input_bytes, without_events}
-use Rattle.scenario_reader.specs.Steps.{all_steps}
+use Rattle.scenario_form.specs.declared.scenarios.ManagerDef.{ManagerDef}
+use Rattle.scenario_form.specs.declared.scenarios.ResourceDef.{ResourceDef}
+use Rattle.scenario_form.specs.declared.scenarios.Scenario.{Scenario}
+use Rattle.scenario_form.specs.declared.scenarios.ScheduleItem.{ScheduleItem}
+use Rattle.scenario_form.specs.declared.scenarios.ScheduleItem.TheVariants as step
+use Rattle.scenario_form.specs.Contents.{IsBetween, IsNodeName, AreDifferent, IsResource, IsCall, IsLocal}
 
 -- ---- numbers
 
@@ -83,12 +81,20 @@ FitsNodes servers users locals (step.Local number) = IsBetween 1 locals number
 FitsNodes servers users locals (step.Outside number) = IsBetween 1 locals number
 FitsNodes servers users locals (step.Auto steps) = IsBetween 1 STEPS steps
 
+-- the single steps that an item stands for
+abbrev pub steps_of : ScheduleItem → ℕ
+steps_of (step.Auto k) = k
+steps_of _ = 1
+
+-- the single steps of all items
+abbrev pub all_steps : List ScheduleItem → ℕ
+all_steps [] = 0
+all_steps (x ∷ items) = steps_of x + all_steps items
+
 -- ---- the whole
 
--- a scenario that reading can give
+-- a scenario that can be run, as each is that reading gives
 pub record IsRunnable (s : Scenario) : Type 0 where
-  pub given : (bytes : List ℕ) × IsScenario bytes s
-  pub again : length s.base ≤ input_bytes → IsScenario s.base (without_events s)
   pub set : IsSet s
   pub servers : length s.resources ≤ RESOURCES
   pub resources : All IsResource s.resources
