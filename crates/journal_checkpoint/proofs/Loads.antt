@@ -14,7 +14,7 @@ use Rattle.journal_checkpoint.specs.declared.types.Found.{Found}
 use Rattle.journal_checkpoint.specs.declared.types.TwinError.{TwinError}
 use Rattle.journal_checkpoint.specs.declared.types.TwinError.TheVariants as why
 use Rattle.journal_checkpoint.specs.Pairs.{open_head, head_of, active_of, is_active, held, held_by, with_records, begins_at, snapshot_in, chosen, pair_reading}
-use Rattle.journal_checkpoint.specs.Images.{TellAlike, RecoversPair, PairStandsFor, IsActiveDisk, IsOtherHead, IsHeadDamage, IsPairDamage}
+use Rattle.journal_checkpoint.specs.Images.{TellAlike, TellsPair, Restarts, RecoversPair, PairStandsFor, IsActiveDisk, IsOtherHead, IsHeadDamage, IsPairDamage}
 use Rattle.journal_checkpoint.specs.Keeping.{IsHeldDamage}
 use Rattle.journal_checkpoint.proofs.Switches.{no_head, shut_head, opened_head}
 
@@ -189,3 +189,36 @@ pub not_damaged : (a b : List ℕ) (found : Found) (e : TwinError) → PairStand
 not_damaged a b found (why.Damaged second at) is damage = let no : ok_found found ≡ Err (why.Damaged second at) = sym is ∙ damage in absurd (cc)
 not_damaged a b found why.Failed is damage = tt
 not_damaged a b found why.NoMemory is damage = tt
+
+-- ---- what was read
+
+module _ {X Y : DiskState} where
+  pub tells_found : (read : Found) → ((a b : List ℕ) → present X ≡ Some a → present Y ≡ Some b → PairStandsFor read a b) → TellsPair X Y (Ok read)
+  tells_found read found = record { found = found; damaged = tt; recovers = λ other a b is too stands. let same : ok_found read ≡ ok_found other = sym (found a b is too) ∙ stands in cc }
+
+  pub tells_damage : (e : TwinError) → ((a b : List ℕ) → present X ≡ Some a → present Y ≡ Some b → IsPairDamage a b e) → TellsPair X Y (Err e)
+  tells_damage e damaged = record { found = tt; damaged = damaged; recovers = λ other a b is too stands. not_damaged a b other e stands (damaged a b is too) }
+
+-- the same of disks with the same bytes
+pub tells_same : {X Y Z W : DiskState} → present Z ≡ present X → present W ≡ present Y → (result : Result Found TwinError) → TellsPair X Y result → TellsPair Z W result
+tells_same x y (Ok read) tells = tells_found read (λ a b is too. tells.found a b (sym x ∙ is) (sym y ∙ too))
+tells_same x y (Err e) tells = tells_damage e (λ a b is too. tells.damaged a b (sym x ∙ is) (sym y ∙ too))
+
+-- ---- restarts
+
+-- reads after a restart
+pub restarts_then : {old mid new : DiskState} (ok : Bool) (pick : ℕ) → Restarts true pick old mid → OnlyReads mid new → Restarts ok pick old new
+restarts_then ok pick restarts reads = record {
+  images = λ c left. restarts.images c (reads.images.now c left);
+  outcome = λ is c left. restarts.outcome refl c (reads.images.now c left);
+  settled = λ is. settled_after reads (restarts.settled refl);
+  picked = λ is p last. restarts.picked refl p (sym reads.rest.last_pick ∙ last);
+  unarmed = λ is. reads.left ∙ restarts.unarmed refl;
+  faults = omega (arith, restarts.faults, reads.faults);
+  own = omega (arith, restarts.own, reads.own);
+  kind = record {
+    size = reads.rest.kind.size ∙ restarts.kind.size;
+    tells_images = reads.rest.kind.tells_images ∙ restarts.kind.tells_images;
+    tells_moments = reads.rest.kind.tells_moments ∙ restarts.kind.tells_moments;
+  };
+}

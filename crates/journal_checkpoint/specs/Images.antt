@@ -1,8 +1,8 @@
 -- What the images of two disks stand for, at the exits of a call and at each moment of it.
-use Rattle.std.specs.Prelude.{◌≡◌, ◌⊎◌, ℕ, ◌+◌, ◌-◌, ◌^◌, ◌<◌, ◌≤◌, Bool, true, false, if◌then◌else◌, Option, Some, None, List, [], ◌∷◌, ◌++◌, length, Result, Ok, Err, OnOk}
-use Rattle.disk_model.specs.Disk.{DiskState, Counts, SameKind, CountsCalls, IsSettled, IsPicked, KeepsRest, Leaves, Rose, present, last_pick}
+use Rattle.std.specs.Prelude.{◌≡◌, ◌⊎◌, ℕ, ◌+◌, ◌-◌, ◌^◌, ◌<◌, ◌≤◌, Bool, true, false, if◌then◌else◌, Option, Some, None, List, [], ◌∷◌, ◌++◌, length, Result, Ok, Err, IfOk, IfErr, OnOk}
+use Rattle.disk_model.specs.Disk.{DiskState, Counts, SameKind, CountsCalls, HasCause, IsSettled, IsPicked, KeepsRest, Leaves, Rose, present, last_pick}
 use Rattle.disk_model.specs.declared.errors.Failed.{Failed}
-use Rattle.disk_journal.specs.Keeping.{StandsFor}
+use Rattle.disk_journal.specs.Keeping.{OnlyReads, StandsFor}
 use Rattle.disk_journal.specs.declared.errors.JournalError.{JournalError}
 use Rattle.disk_journal.specs.declared.errors.JournalError.TheVariants as journal_error
 use Rattle.journal_checkpoint.specs.declared.layout.TheConstants.{SNAPSHOT_HEAD_BYTES, AROUND}
@@ -12,7 +12,7 @@ use Rattle.journal_checkpoint.specs.declared.types.Active.{Active}
 use Rattle.journal_checkpoint.specs.declared.types.Found.{Found}
 use Rattle.journal_checkpoint.specs.declared.types.TwinError.{TwinError}
 use Rattle.journal_checkpoint.specs.declared.types.TwinError.TheVariants as why
-use Rattle.journal_checkpoint.specs.Pairs.{head_of, active_of, pair_reading, snapshot_in}
+use Rattle.journal_checkpoint.specs.Pairs.{chosen, head_of, active_of, pair_reading, snapshot_in}
 
 -- the bytes of the two disks stand for a snapshot and records
 abbrev pub PairStandsFor : Found → List ℕ → List ℕ → Type 0
@@ -132,6 +132,30 @@ abbrev pub RecoversPair : Found → Result Found TwinError → Type 0
 RecoversPair found (Ok read) = read ≡ found
 RecoversPair found (Err error) = IsNoDamage error
 
+-- Which disk is active was read from the heads of two disks: by what their bytes are, or the damage of one of the heads. It failed for
+-- one of the disks, and wrote nothing.
+pub record FindsActive (first second first_after second_after : DiskState) (result : Result Active TwinError) : Type 0 where
+  pub active : IfOk result (λ active. (a b : List ℕ) → present first ≡ Some a → present second ≡ Some b → active_of (head_of a) (head_of b) ≡ Ok active)
+  pub damaged : IfErr result (λ error. (a b : List ℕ) → present first ≡ Some a → present second ≡ Some b → IsHeadDamage a b error)
+  pub fits : IfOk result (λ active. FitsSnapshot (chosen active.second first.size second.size) active.snapshot)
+  pub on_side : IfOk result IsOnSide
+  pub first_reads : OnlyReads first first_after
+  pub second_reads : OnlyReads second second_after
+  pub failed : result ≡ Err why.Failed → HasCause first.counts first_after.counts ⊎ HasCause second.counts second_after.counts
+
+-- This is exactly what the bytes of two disks hold, and the damage is where they have it. What such a pair left is never damaged.
+pub record TellsPair (first second : DiskState) (result : Result Found TwinError) : Type 0 where
+  pub found : IfOk result (λ found. (a b : List ℕ) → present first ≡ Some a → present second ≡ Some b → PairStandsFor found a b)
+  pub damaged : IfErr result (λ error. (a b : List ℕ) → present first ≡ Some a → present second ≡ Some b → IsPairDamage a b error)
+  pub recovers : (found : Found) (a b : List ℕ) → present first ≡ Some a → present second ≡ Some b → PairStandsFor found a b → RecoversPair found result
+
+-- Two disks were read to the end. It failed for one of them, and wrote nothing.
+pub record ReadsPair (first second first_after second_after : DiskState) (result : Result Found TwinError) : Type 0 where
+  pub tells : TellsPair first second result
+  pub first_reads : OnlyReads first first_after
+  pub second_reads : OnlyReads second second_after
+  pub failed : result ≡ Err why.Failed → HasCause first.counts first_after.counts ⊎ HasCause second.counts second_after.counts
+
 -- Restarts
 
 -- What a restart with this pick, and reads after it, did to a disk, where it answered Ok or not.
@@ -144,6 +168,11 @@ pub record Restarts (ok : Bool) (pick : ℕ) (old new : DiskState) : Type 0 wher
   pub faults : old.counts.faults ≤ new.counts.faults
   pub own : old.counts.own ≤ new.counts.own
   pub kind : SameKind old new
+
+-- the same of two disks
+pub record RestartsPair (ok : Bool) (pick : ℕ) (one two one_after two_after : DiskState) : Type 0 where
+  pub first : Restarts ok pick one one_after
+  pub second : Restarts ok pick two two_after
 
 -- the disk failed by its own fault
 pub record FailsItself (old new : Counts) : Type 0 where

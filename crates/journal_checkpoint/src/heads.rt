@@ -1,9 +1,9 @@
 //! Which disk is active.
-ghost use Rattle.std.specs.Prelude.{◌≡◌, ◌⊎◌, ℕ, List, Some, Ok, Err, IfOk, IfErr, OnErr};
+ghost use Rattle.std.specs.Prelude.{◌≡◌, ℕ, List, Some, Ok, Err, IfOk, OnErr};
 ghost use Rattle.disk_model.specs.Disk.{HasCause, present};
 ghost use Rattle.disk_journal.specs.Keeping.{OnlyReads};
 ghost use Rattle.journal_checkpoint.specs.Pairs.{head_of, open_head, is_active, active_of, chosen};
-ghost use Rattle.journal_checkpoint.specs.Images.{FitsHead, FitsSnapshot, IsHeadDamage, IsOnSide};
+ghost use Rattle.journal_checkpoint.specs.Images.{FindsActive, FitsHead, FitsSnapshot, IsOnSide};
 
 use crate::layout::{AROUND, OPEN};
 use crate::types::{Active, Head, TwinError};
@@ -12,16 +12,7 @@ use disk_model::{Disk, Failed};
 
 /// Which disk is active, by their heads.
 pub fn read_active<D: Disk>(first: &mut D, second: &mut D) -> Result<Active, TwinError>
-    ensures active { IfOk result (λ active. (a b : List ℕ) → present (D.state first.old) ≡ Some a → present (D.state second.old) ≡ Some b
-        → active_of (head_of a) (head_of b) ≡ Ok active) }
-    ensures damaged { IfErr result (λ error. (a b : List ℕ) → present (D.state first.old) ≡ Some a → present (D.state second.old) ≡ Some b
-        → IsHeadDamage a b error) }
-    ensures fits { IfOk result (λ active. FitsSnapshot (chosen active.second (D.state first.old).size (D.state second.old).size) active.snapshot) }
-    ensures side { IfOk result IsOnSide }
-    ensures first_reads { OnlyReads (D.state first.old) (D.state first.new) }
-    ensures second_reads { OnlyReads (D.state second.old) (D.state second.new) }
-    ensures cause { result ≡ Err TwinError.Failed → HasCause (D.state first.old).counts (D.state first.new).counts
-        ⊎ HasCause (D.state second.old).counts (D.state second.new).counts }
+    ensures { FindsActive (D.state first.old) (D.state second.old) (D.state first.new) (D.state second.new) result }
 {
     let one = match read_head(first) {
         Ok(head) => head,

@@ -5,6 +5,7 @@
 mod heads;
 mod layout;
 mod loading;
+mod restarting;
 mod twin;
 mod types;
 mod writing;

@@ -2,6 +2,7 @@
 use crate::heads::read_active;
 use crate::layout::{AROUND, SNAPSHOT_HEAD_BYTES};
 use crate::loading::{begins_at, error_on, read_snapshot};
+use crate::restarting::restart_both;
 use crate::types::{Active, Found, TwinError};
 use crate::writing::write_snapshot;
 use disk_journal::{AppendError, Journal};
@@ -31,8 +32,8 @@ impl<D: Disk> Twin<D> {
     ghost use Rattle.disk_journal.specs.Keeping.{OnlyReads, IsFull, CountsAppend, StandsFor};
     ghost use Rattle.disk_journal.specs.Journals.{from_of, Keeps};
     ghost use Rattle.seata_types.specs.declared.limits.TheConstants.{BODY_BYTES};
-    ghost use Rattle.journal_checkpoint.specs.Pairs.{chosen, head_of, active_of, begins_at, snapshot_in};
-    ghost use Rattle.journal_checkpoint.specs.Images.{TellAlike, Restarts, FailsItself, RecoversPair, CannotCheckpoint, IsOnSide, PairStandsFor, IsPairDamage, IsHeadDamage, FitsSnapshot, LeavesPairs, Either, with_record, only_snapshot};
+    ghost use Rattle.journal_checkpoint.specs.Pairs.{begins_at, snapshot_in};
+    ghost use Rattle.journal_checkpoint.specs.Images.{TellAlike, FindsActive, TellsPair, ReadsPair, RestartsPair, FailsItself, CannotCheckpoint, PairStandsFor, FitsSnapshot, LeavesPairs, Either, with_record, only_snapshot};
     ghost use Rattle.journal_checkpoint.specs.Keeping.{KeepsPair, IsExchanged, IsFallen, IsHeldDamage, LendsActive, LendsOther, active_disk, other_disk, is_second, generation_of, first_disk, second_disk, first_after, second_after, read_by, disks, is_down, needed_for, records_length};
 
     /// Reads two disks, and gives what they hold. It writes nothing. The disks come back where it fails: `Damaged` where
@@ -42,21 +43,9 @@ impl<D: Disk> Twin<D> {
         requires second { IsSettled (D.state second) }
 
         ensures keeps { IfOk result (λ opened. TellAlike (D.state first) (D.state second) → KeepsPair D.state opened.1 opened.0) }
-        ensures up { IfOk result (λ opened. is_down opened.0 ≡ false) }
         // This is exactly what the bytes hold, and the damage is where they have it.
-        ensures found { IfOk result (λ opened. (a b : List ℕ) → present (D.state first) ≡ Some a → present (D.state second) ≡ Some b →
-            PairStandsFor opened.1 a b) }
-        ensures damaged { IfErr result (λ failed. (a b : List ℕ) → present (D.state first) ≡ Some a → present (D.state second) ≡ Some b →
-            IsPairDamage a b failed.0) }
-
-        // What such a pair left is never damaged.
-        ensures recovers { (found : Found) (a b : List ℕ) → present (D.state first) ≡ Some a → present (D.state second) ≡ Some b →
-            PairStandsFor found a b → RecoversPair found (read_by result) }
-
-        ensures failed { IfErr result (λ failed. failed.0 ≡ TwinError.Failed →
-            HasCause (D.state first).counts (D.state failed.1).counts ⊎ HasCause (D.state second).counts (D.state failed.2).counts) }
-        ensures first_reads { OnlyReads (D.state first) (D.state (first_after result)) }
-        ensures second_reads { OnlyReads (D.state second) (D.state (second_after result)) }
+        ensures reads { ReadsPair (D.state first) (D.state second) (D.state (first_after result)) (D.state (second_after result)) (read_by result) }
+        ensures up { IfOk result (λ opened. is_down opened.0 ≡ false) }
     {
         let journal = match Journal::unread(alloc, first) {
             Ok(journal) => journal,
@@ -200,15 +189,8 @@ impl<D: Disk> Twin<D> {
         ensures keeps { IfOk result (λ found. TellAlike (D.state (first_disk self.new)) (D.state (second_disk self.new)) →
             KeepsPair D.state found self.new) }
         // This is exactly what the bytes hold, and the damage is where they have it.
-        ensures found { IfOk result (λ found. (a b : List ℕ) → present (D.state (first_disk self.new)) ≡ Some a → present (D.state (second_disk self.new)) ≡ Some b →
-            PairStandsFor found a b) }
-        ensures damaged { IfErr result (λ error. (a b : List ℕ) → present (D.state (first_disk self.new)) ≡ Some a → present (D.state (second_disk self.new)) ≡ Some b →
-            IsPairDamage a b error) }
-        // What such a pair left is never damaged.
-        ensures recovers { (found : Found) (a b : List ℕ) → present (D.state (first_disk self.new)) ≡ Some a → present (D.state (second_disk self.new)) ≡ Some b →
-            PairStandsFor found a b → RecoversPair found result }
-        ensures first { Restarts (is_ok result) pick (D.state (first_disk self.old)) (D.state (first_disk self.new)) }
-        ensures second { Restarts (is_ok result) pick (D.state (second_disk self.old)) (D.state (second_disk self.new)) }
+        ensures tells { TellsPair (D.state (first_disk self.new)) (D.state (second_disk self.new)) result }
+        ensures restarts { RestartsPair (is_ok result) pick (D.state (first_disk self.old)) (D.state (second_disk self.old)) (D.state (first_disk self.new)) (D.state (second_disk self.new)) }
         ensures failed { result ≡ Err TwinError.Failed →
             FailsItself (D.state (first_disk self.old)).counts (D.state (first_disk self.new)).counts
             ⊎ FailsItself (D.state (second_disk self.old)).counts (D.state (second_disk self.new)).counts }
@@ -274,34 +256,20 @@ impl<D: Disk> Twin<D> {
     // Restarts both disks.
     fn restart_disks(&mut self, pick: u16) -> Result<(), Failed>
         requires { pick ≤ LAST_PICK }
-        ensures first { Restarts (is_ok result) pick (D.state (first_disk self.old)) (D.state (first_disk self.new)) }
-        ensures second { Restarts (is_ok result) pick (D.state (second_disk self.old)) (D.state (second_disk self.new)) }
+        ensures restarts { RestartsPair (is_ok result) pick (D.state (first_disk self.old)) (D.state (second_disk self.old)) (D.state (first_disk self.new)) (D.state (second_disk self.new)) }
         ensures cause { OnErr result (FailsItself (D.state (first_disk self.old)).counts (D.state (first_disk self.new)).counts
             ⊎ FailsItself (D.state (second_disk self.old)).counts (D.state (second_disk self.new)).counts) }
         ensures down { is_down self.new ≡ is_down self.old }
     {
         if self.second {
-            self.other.restart(pick)?;
-            self.journal.disk_mut().restart(pick)?;
-            return Ok(());
+            return restart_both(&mut self.other, self.journal.disk_mut(), pick);
         }
-        self.journal.disk_mut().restart(pick)?;
-        self.other.restart(pick)?;
-        Ok(())
+        restart_both(self.journal.disk_mut(), &mut self.other, pick)
     }
 
     // Which disk is active, by their heads.
     fn read_heads(&mut self) -> Result<Active, TwinError>
-        ensures active { IfOk result (λ active. (a b : List ℕ) → present (D.state (first_disk self.old)) ≡ Some a → present (D.state (second_disk self.old)) ≡ Some b
-            → active_of (head_of a) (head_of b) ≡ Ok active) }
-        ensures damaged { IfErr result (λ error. (a b : List ℕ) → present (D.state (first_disk self.old)) ≡ Some a → present (D.state (second_disk self.old)) ≡ Some b
-            → IsHeadDamage a b error) }
-        ensures fits { IfOk result (λ active. FitsSnapshot (chosen active.second (D.state (first_disk self.old)).size (D.state (second_disk self.old)).size) active.snapshot) }
-        ensures on_side { IfOk result IsOnSide }
-        ensures first_reads { OnlyReads (D.state (first_disk self.old)) (D.state (first_disk self.new)) }
-        ensures second_reads { OnlyReads (D.state (second_disk self.old)) (D.state (second_disk self.new)) }
-        ensures cause { result ≡ Err TwinError.Failed → HasCause (D.state (first_disk self.old)).counts (D.state (first_disk self.new)).counts
-            ⊎ HasCause (D.state (second_disk self.old)).counts (D.state (second_disk self.new)).counts }
+        ensures found { FindsActive (D.state (first_disk self.old)) (D.state (second_disk self.old)) (D.state (first_disk self.new)) (D.state (second_disk self.new)) result }
         ensures side { is_second self.new ≡ is_second self.old }
         ensures down { is_down self.new ≡ is_down self.old }
     {
@@ -366,12 +334,7 @@ impl<D: Disk> Twin<D> {
         requires first { IsSettled (D.state (first_disk self.old)) }
         requires second { IsSettled (D.state (second_disk self.old)) }
         ensures keeps { IfOk result (λ found. TellAlike (D.state (first_disk self.old)) (D.state (second_disk self.old)) → KeepsPair D.state found self.new) }
-        ensures found { IfOk result (λ found. (a b : List ℕ) → present (D.state (first_disk self.old)) ≡ Some a → present (D.state (second_disk self.old)) ≡ Some b → PairStandsFor found a b) }
-        ensures damaged { IfErr result (λ error. (a b : List ℕ) → present (D.state (first_disk self.old)) ≡ Some a → present (D.state (second_disk self.old)) ≡ Some b → IsPairDamage a b error) }
-        ensures first_reads { OnlyReads (D.state (first_disk self.old)) (D.state (first_disk self.new)) }
-        ensures second_reads { OnlyReads (D.state (second_disk self.old)) (D.state (second_disk self.new)) }
-        ensures cause { result ≡ Err TwinError.Failed → HasCause (D.state (first_disk self.old)).counts (D.state (first_disk self.new)).counts
-            ⊎ HasCause (D.state (second_disk self.old)).counts (D.state (second_disk self.new)).counts }
+        ensures reads { ReadsPair (D.state (first_disk self.old)) (D.state (second_disk self.old)) (D.state (first_disk self.new)) (D.state (second_disk self.new)) result }
         ensures up { is_down self.new ≡ is_err result }
     {
         self.fall();

@@ -1,5 +1,5 @@
 -- What two disks hold, or where it is damaged.
-use Rattle.std.proofs.Common.{◌≡◌, ℕ, Bool, Result, Ok, Err, List, sym, ◌∙◌, ap}
+use Rattle.std.proofs.Common.{◌≡◌, ℕ, Bool, Result, Ok, Err, List, refl, sym, ◌∙◌, ap}
 use Rattle.seata_types.specs.declared.errors.OpenError.{OpenError}
 use Rattle.seata_types.specs.declared.errors.OpenError.TheVariants as open_error
 use Rattle.journal_checkpoint.specs.declared.types.Found.{Found}
@@ -54,6 +54,12 @@ not_failed (open_error.Damaged second at) reads is = cc
 not_failed open_error.NoMemory reads is = cc
 not_failed open_error.Failed reads is = reads
 not_failed (open_error.Full full) reads is = reads
+
+-- two disks failed where their store did
+pub twin_failed : (e : TwinError) → store_error e ≡ open_error.Failed → e ≡ twin_error.Failed
+twin_failed twin_error.Failed is = refl
+twin_failed (twin_error.Damaged second at) is = absurd (cc)
+twin_failed twin_error.NoMemory is = absurd (cc)
 
 -- ---- no opening is full
 

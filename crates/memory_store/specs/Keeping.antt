@@ -177,13 +177,6 @@ abbrev pub second_handed_on : {S D : Type 0} → (S → Twin D) → Result S (Op
 second_handed_on twin (Ok s) = second_disk (twin s)
 second_handed_on twin (Err failed) = failed.2
 
--- its disks in their order
-abbrev pub first_after : {M K D : Type 0} → Result (Store M K D) (OpenError × D × D) → D
-first_after result = first_handed_on twin_of result
-
-abbrev pub second_after : {M K D : Type 0} → Result (Store M K D) (OpenError × D × D) → D
-second_after result = second_handed_on twin_of result
-
 -- two disks stay
 pub record SameTwins {D : Type 0} (old new : Twin D) : Type 0 where
   pub first : first_disk new ≡ first_disk old

@@ -4,4 +4,5 @@ pub mod Replays
 pub mod Settling
 pub mod Keeping
 pub mod Adding
+pub mod Openings
 pub mod Readings

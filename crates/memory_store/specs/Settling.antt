@@ -1,12 +1,12 @@
 -- A snapshot in place of the records.
-use Rattle.std.specs.Prelude.{◌≡◌, ◌⊎◌, ◌*◌, ◌<◌, ◌≤◌, ℕ, true, false, None, List, length, Ok}
-use Rattle.disk_model.specs.Disk.{DiskState, KeepsRest}
+use Rattle.std.specs.Prelude.{◌≡◌, ◌⊎◌, ◌*◌, ◌<◌, ◌≤◌, ℕ, true, false, None, List, length, Result, Ok, Err, IfErr, OnOk}
+use Rattle.disk_model.specs.Disk.{DiskState, HasCause, KeepsRest}
 use Rattle.seata_types.specs.declared.errors.OpenError.{OpenError}
 use Rattle.seata_types.specs.declared.errors.OpenError.TheVariants as open_error
 use Rattle.journal_checkpoint.specs.declared.types.Found.{Found}
 use Rattle.journal_checkpoint.specs.declared.twin.Twin.{Twin}
-use Rattle.journal_checkpoint.specs.Images.{PairStandsFor, CannotCheckpoint, only_snapshot}
-use Rattle.journal_checkpoint.specs.Keeping.{KeepsPair, active_disk, other_disk, generation_of, records_length}
+use Rattle.journal_checkpoint.specs.Images.{PairStandsFor, LeavesPairs, CannotCheckpoint, only_snapshot}
+use Rattle.journal_checkpoint.specs.Keeping.{KeepsPair, active_disk, other_disk, first_disk, second_disk, disks, generation_of, is_down, records_length}
 use Rattle.seata_types.specs.declared.limits.TheConstants.{ACTS}
 use Rattle.memory_store.specs.Meanings.{Meaning}
 use Rattle.memory_store.specs.Holdings.{held_in}
@@ -58,3 +58,19 @@ IsNoDamage open_error.Failed = Unit {0}
 IsNoDamage open_error.NoMemory = Unit {0}
 IsNoDamage (open_error.Damaged second at) = ⊥
 IsNoDamage (open_error.Full full) = ⊥
+
+-- A snapshot of the memory was put in place of the snapshot and records where these take more than half of the disk and a snapshot can
+-- be put in their place, or the disks or memory failed.
+pub record Settles {K I D : Type 0} (state : D → DiskState) (m : Meaning K I) (known : K) (result : Result (Unit {0}) OpenError) (old new : Twin D) : Type 0 where
+  pub keeps : OnOk result ((found : Found) → KeepsPair state found old → KeepsOrSettled state m found known new)
+  -- a crash at any moment of the call, however it ends, leaves the old snapshot and records, or the new snapshot
+  pub any_moment : (found : Found) → KeepsPair state found old → LeavesPairs (disks state old) (disks state new) (StandsOrSettled m found known)
+  pub short : OnOk result ((found : Found) → KeepsPair state found old → IsShort state new ⊎ CannotSettle m state known new)
+  pub not_due : IsShort state old → new ≡ old
+  pub error : IfErr result IsNoDamage
+  pub no_memory : result ≡ Err open_error.NoMemory → new ≡ old
+  pub failed : result ≡ Err open_error.Failed →
+      HasCause (state (first_disk old)).counts (state (first_disk new)).counts ⊎ HasCause (state (second_disk old)).counts (state (second_disk new)).counts
+  pub first : RunsOn (state (first_disk old)) (state (first_disk new))
+  pub second : RunsOn (state (second_disk old)) (state (second_disk new))
+  pub up : OnOk result (is_down new ≡ false)

@@ -20,18 +20,17 @@ pub struct Store<M, K, D> {
 }
 
 impl<K: Drop, M: StateMachine<Memory = K> + Drop, D: Disk> Store<M, K, D> {
-    ghost use Rattle.std.specs.Prelude.{◌≡◌, ◌⊎◌, ◌↔◌, ◌+◌, ◌*◌, ◌^◌, ◌<◌, ◌≤◌, ℕ, true, false, is_err, is_ok, List, length, Option, Some, Ok, Err, IsTrue, IfOk, IfErr, OnOk, OnErr};
+    ghost use Rattle.std.specs.Prelude.{◌≡◌, ◌⊎◌, ◌+◌, ◌^◌, ◌<◌, ◌≤◌, ℕ, true, false, is_err, List, length, Some, IfOk, IfErr, OnOk, OnErr};
     ghost use Rattle.std.specs.Borrow.{sem};
-    ghost use Rattle.disk_model.specs.Disk.{IsSettled, HasCause, present};
+    ghost use Rattle.disk_model.specs.Disk.{IsSettled, present};
     ghost use Rattle.disk_model.specs.declared.disk.TheConstants.{LAST_PICK};
-    ghost use Rattle.disk_journal.specs.Keeping.{OnlyReads};
-    ghost use Rattle.disk_journal.specs.Reading.{row_length};
     ghost use Rattle.seata_types.specs.declared.limits.TheConstants.{BODY_BYTES};
-    ghost use Rattle.journal_checkpoint.specs.Images.{FailsItself, PairStandsFor, LeavesPairs, Either, with_record};
+    ghost use Rattle.journal_checkpoint.specs.Images.{PairStandsFor, LeavesPairs, Either, with_record};
     ghost use Rattle.journal_checkpoint.specs.Keeping.{KeepsPair, active_disk, first_disk, second_disk, disks};
-    ghost use Rattle.memory_store.specs.Settling.{GoesOn, RunsOn, IsNoDamage, IsShort};
+    ghost use Rattle.memory_store.specs.Settling.{GoesOn};
     ghost use Rattle.memory_store.specs.Adding.{Adds};
-    ghost use Rattle.memory_store.specs.Keeping.{machine_of, memory_of, twin_of, found_of, is_down, Keeps, Takes, Falls, IsAtEnd, IsFullFor, HasRoomFor, HasRoomIfTaken, ChangesMemory, IsDamage, IsOf, IsNotFull, IsRead, FindsFirst, StaysWhereShort, ComesUp, IsBack, IsTold, first_after, second_after, LendsMemory, LendsActive};
+    ghost use Rattle.memory_store.specs.Openings.{ReadsDisks, OpensDisks, ComesBack, TakesOver};
+    ghost use Rattle.memory_store.specs.Keeping.{machine_of, memory_of, twin_of, found_of, is_down, Keeps, Takes, Falls, IsAtEnd, IsFullFor, HasRoomFor, IsOf, IsBack, IsTold, LendsMemory, LendsActive};
 
     /// Reads two disks, and changes no byte. The disks come back where it fails: `Damaged` where their bytes hold nothing,
     /// `NoMemory` where there is none for what they hold or for appends.
@@ -44,22 +43,9 @@ impl<K: Drop, M: StateMachine<Memory = K> + Drop, D: Disk> Store<M, K, D> {
         requires first { IsSettled (D.state first) }
         requires second { IsSettled (D.state second) }
 
-        // What it knows is exactly what the bytes hold, and the damage is where they have it.
-        ensures ok { IfOk result (λ store. (a b : List ℕ) → present (D.state first) ≡ Some a → present (D.state second) ≡ Some b →
-            IsRead D.state (M.meaning machine) a b store) }
-        ensures place { IfOk result (λ store. (a b : List ℕ) → present (D.state first) ≡ Some a → present (D.state second) ≡ Some b →
-            FindsFirst a b store) }
-        ensures damaged { IfErr result (λ failed. (a b : List ℕ) → present (D.state first) ≡ Some a → present (D.state second) ≡ Some b →
-            IsDamage (M.meaning machine) a b failed.0) }
-        ensures failed { IfErr result (λ failed. failed.0 ≡ OpenError.Failed →
-            HasCause (D.state first).counts (D.state failed.1).counts ⊎ HasCause (D.state second).counts (D.state failed.2).counts) }
-        ensures not_full { IfErr result (λ failed. IsNotFull failed.0) }
-        ensures first_reads { OnlyReads (D.state first) (D.state (first_after result)) }
-        ensures second_reads { OnlyReads (D.state second) (D.state (second_after result)) }
-
+        ensures reads { ReadsDisks D.state (M.meaning machine) (λ store. store) first second result }
         ensures machine { IfOk result (λ store. machine_of store ≡ machine) }
         ensures sound { IfOk result (λ store. (M.meaning machine).IsSound (memory_of store)) }
-        ensures up { IfOk result (λ store. is_down store ≡ false) }
     {
         let (_one, _two) = (first.size(), second.size());
         match Twin::open(alloc, first, second) {
@@ -93,28 +79,9 @@ impl<K: Drop, M: StateMachine<Memory = K> + Drop, D: Disk> Store<M, K, D> {
         requires first { IsSettled (D.state first) }
         requires second { IsSettled (D.state second) }
 
-        ensures ok { IfOk result (λ store. (a b : List ℕ) → present (D.state first) ≡ Some a → present (D.state second) ≡ Some b →
-            IsOf D.state (M.meaning machine) a b store) }
-        ensures place { IfOk result (λ store. (a b : List ℕ) → present (D.state first) ≡ Some a → present (D.state second) ≡ Some b →
-            FindsFirst a b store) }
-        ensures damaged { IfErr result (λ failed. (a b : List ℕ) → present (D.state first) ≡ Some a → present (D.state second) ≡ Some b →
-            IsDamage (M.meaning machine) a b failed.0) }
-        // A crash after it, however it ended, leaves what the bytes hold, as they have it or as a snapshot.
-        ensures images { (a b c d : List ℕ) → present (D.state first) ≡ Some a → present (D.state second) ≡ Some b →
-            (D.state (first_after result)).may_leave c → (D.state (second_after result)).may_leave d → GoesOn (M.meaning machine) a b c d }
-        // Where the records take at most half of either disk it changes no byte.
-        ensures not_due { (a b : List ℕ) (found : Found) → present (D.state first) ≡ Some a → present (D.state second) ≡ Some b → PairStandsFor found a b →
-            2 * row_length found.records ≤ (D.state first).size → 2 * row_length found.records ≤ (D.state second).size →
-            OnlyReads (D.state first) (D.state (first_after result)) × OnlyReads (D.state second) (D.state (second_after result)) }
-        ensures failed { IfErr result (λ failed. failed.0 ≡ OpenError.Failed →
-            HasCause (D.state first).counts (D.state failed.1).counts ⊎ HasCause (D.state second).counts (D.state failed.2).counts) }
-        ensures not_full { IfErr result (λ failed. IsNotFull failed.0) }
-        ensures first_disk { RunsOn (D.state first) (D.state (first_after result)) }
-        ensures second_disk { RunsOn (D.state second) (D.state (second_after result)) }
-
+        ensures opens { OpensDisks D.state (M.meaning machine) (λ store. store) (GoesOn (M.meaning machine)) first second result }
         ensures machine { IfOk result (λ store. machine_of store ≡ machine) }
         ensures sound { IfOk result (λ store. (M.meaning machine).IsSound (memory_of store)) }
-        ensures up { IfOk result (λ store. is_down store ≡ false) }
     {
         let mut store = match Store::read(alloc, machine, first, second) {
             Ok(store) => store,
@@ -247,24 +214,9 @@ impl<K: Drop, M: StateMachine<Memory = K> + Drop, D: Disk> Store<M, K, D> {
         // What it knows is exactly what the pair of images that came back holds.
         ensures back { OnOk result (IsTold (D.state (first_disk (twin_of self.old))) → IsTold (D.state (second_disk (twin_of self.old))) →
             IsBack D.state (M.meaning (machine_of self.old)) pick self.old self.new) }
-        ensures damaged { IfErr result (λ error. (a b : List ℕ) → present (D.state (first_disk (twin_of self.new))) ≡ Some a → present (D.state (second_disk (twin_of self.new))) ≡ Some b →
-            IsDamage (M.meaning (machine_of self.old)) a b error) }
-        // A crash after it, however it ended, leaves what a pair of images from before holds, as it was or as a snapshot.
-        ensures images { (c d : List ℕ) → (D.state (first_disk (twin_of self.new))).may_leave c → (D.state (second_disk (twin_of self.new))).may_leave d →
-            ((a b : List ℕ) × (D.state (first_disk (twin_of self.old))).may_leave a × (D.state (second_disk (twin_of self.old))).may_leave b
-            × GoesOn (M.meaning (machine_of self.old)) a b c d) }
-        // Where the records of each such pair take at most half of either disk, it leaves one of these, however it ended.
-        ensures not_due { StaysWhereShort D.state (twin_of self.old) (twin_of self.new) }
-        ensures failed { result ≡ Err OpenError.Failed →
-            FailsItself (D.state (first_disk (twin_of self.old))).counts (D.state (first_disk (twin_of self.new))).counts
-            ⊎ FailsItself (D.state (second_disk (twin_of self.old))).counts (D.state (second_disk (twin_of self.new))).counts }
-        ensures not_full { IfErr result IsNotFull }
-        ensures first { ComesUp (is_ok result) pick (D.state (first_disk (twin_of self.old))) (D.state (first_disk (twin_of self.new))) }
-        ensures second { ComesUp (is_ok result) pick (D.state (second_disk (twin_of self.old))) (D.state (second_disk (twin_of self.new))) }
-
+        ensures comes { ComesBack D.state (M.meaning (machine_of self.old)) twin_of (GoesOn (M.meaning (machine_of self.old))) pick self.old self.new result }
         ensures sound { OnOk result ((M.meaning (machine_of self.old)).IsSound (memory_of self.new)) }
         ensures memory { OnErr result (memory_of self.new ≡ memory_of self.old) }
-        ensures up { is_down self.new ≡ is_err result }
         ensures machine { machine_of self.new ≡ machine_of self.old }
         ensures found { found_of self.new ≡ found_of self.old }
     {
@@ -286,19 +238,7 @@ impl<K: Drop, M: StateMachine<Memory = K> + Drop, D: Disk> Store<M, K, D> {
         requires up { is_down self.old ≡ false }
         ensures ok { OnOk result ((a b : List ℕ) → present (D.state (first_disk (twin_of self.old))) ≡ Some a → present (D.state (second_disk (twin_of self.old))) ≡ Some b →
             PairStandsFor found.now a b → KeepsPair D.state found.now (twin_of self.old) → IsOf D.state (M.meaning (machine_of self.old)) a b self.new) }
-        ensures damaged { IfErr result (λ error. IsNoDamage error ⊎ ((twin_of self.new ≡ twin_of self.old) × ((a b : List ℕ) →
-            present (D.state (first_disk (twin_of self.old))) ≡ Some a → present (D.state (second_disk (twin_of self.old))) ≡ Some b →
-            PairStandsFor found.now a b → KeepsPair D.state found.now (twin_of self.old) → IsDamage (M.meaning (machine_of self.old)) a b error))) }
-        ensures images { (a b c d : List ℕ) → present (D.state (first_disk (twin_of self.old))) ≡ Some a → present (D.state (second_disk (twin_of self.old))) ≡ Some b →
-            PairStandsFor found.now a b → KeepsPair D.state found.now (twin_of self.old) →
-            (D.state (first_disk (twin_of self.new))).may_leave c → (D.state (second_disk (twin_of self.new))).may_leave d → GoesOn (M.meaning (machine_of self.old)) a b c d }
-        ensures failed { result ≡ Err OpenError.Failed →
-            HasCause (D.state (first_disk (twin_of self.old))).counts (D.state (first_disk (twin_of self.new))).counts
-            ⊎ HasCause (D.state (second_disk (twin_of self.old))).counts (D.state (second_disk (twin_of self.new))).counts }
-        ensures not_due { IsShort D.state (twin_of self.old) → twin_of self.new ≡ twin_of self.old }
-        ensures first { RunsOn (D.state (first_disk (twin_of self.old))) (D.state (first_disk (twin_of self.new))) }
-        ensures second { RunsOn (D.state (second_disk (twin_of self.old))) (D.state (second_disk (twin_of self.new))) }
-        ensures not_full { IfErr result IsNotFull }
+        ensures over { TakesOver D.state (M.meaning (machine_of self.old)) found.now (twin_of self.old) (twin_of self.new) result }
         ensures sound { OnOk result ((M.meaning (machine_of self.old)).IsSound (memory_of self.new)) }
         ensures memory { OnErr result (memory_of self.new ≡ memory_of self.old) }
         ensures up { OnOk result (is_down self.new ≡ false) }

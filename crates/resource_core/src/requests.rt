@@ -70,7 +70,7 @@ fn touched(alloc: Global, images: &[Image]) -> Result<List<RowKey>, NoMemory>
 {
     let mut keys = Vec::new(alloc);
     for image in images {
-        keys.push(image.key.copy(alloc)?).map_err(|_| NoMemory)?;
+        keys.push(image.key.copy(alloc)?)?;
     }
     Ok(List::of(keys))
 }
@@ -94,7 +94,7 @@ fn only_read(alloc: Global, images: &[Image], reads: &[ReadRow]) -> Result<List<
     let mut keys = Vec::new(alloc);
     for read in reads {
         if !is_touched(images, &read.key) {
-            keys.push(read.key.copy(alloc)?).map_err(|_| NoMemory)?;
+            keys.push(read.key.copy(alloc)?)?;
         }
     }
     Ok(List::of(keys))

@@ -16,6 +16,8 @@ use Rattle.journal_checkpoint.specs.Keeping.{active_disk, other_disk, first_disk
 use Rattle.journal_checkpoint.proofs.Ends.{no_place}
 use Rattle.journal_checkpoint.proofs.Kept.{kept_pairs}
 use Rattle.memory_store.specs.Meanings.{Meaning}
+use Rattle.memory_store.specs.declared.store.Store.{Store as Below}
+use Rattle.memory_store.specs.Openings.{OpensDisks, ReadsDisks}
 use Rattle.memory_store.specs.Settling.{RunsOn, GoesOn}
 use Rattle.memory_store.specs.Keeping.{Takes, Falls, IsFullFor, IsDamage, IsBack, IsTold}
 use Rattle.memory_store.proofs.DiskFacts.{runs_same, told_bytes, told_after}
@@ -32,6 +34,17 @@ use Rattle.resource_store.specs.Standing.{StandsForRecords}
 use Rattle.resource_store.specs.Keeping.{setting_of, known, twin, is_down, IsTaken, KeepsRecords, WithOrWithout, Makes, Moves, Changes, boot_record, BootsAs, IsNoDamage, GoesOnAs, GoesOnWithBoot, BringsBack, StandsAlways}
 use Rattle.resource_store.specs.Openings.{opening_error, boot_length, IsBootFull, IsUndamaged, IsBootDamage}
 use Rattle.resource_store.proofs.StoreLaws.{open_keeps, not_damaged, goes_on, counts_boots}
+
+-- ---- what the store below it says, of this resource
+
+pub reads_of : {D : Type 0} (state : D → DiskState) (one two : D) (result : Result (Below Setting Known D) (OpenError × D × D)) (q t : Setting) → q ≡ t
+    → ReadsDisks state (meaning_of q) (λ (k : Below Setting Known D). k) one two result → ReadsDisks state (meaning_of t) (λ (k : Below Setting Known D). k) one two result
+reads_of {D} state one two result q t same = subst (λ (r : Setting). ReadsDisks state (meaning_of r) (λ (k : Below Setting Known D). k) one two result) same
+
+pub opens_of : {D : Type 0} (state : D → DiskState) (one two : D) (result : Result (Below Setting Known D) (OpenError × D × D)) (q t : Setting) → q ≡ t
+    → OpensDisks state (meaning_of q) (λ (k : Below Setting Known D). k) (GoesOn (meaning_of q)) one two result
+    → OpensDisks state (meaning_of t) (λ (k : Below Setting Known D). k) (GoesOn (meaning_of t)) one two result
+opens_of {D} state one two result q t same = subst (λ (r : Setting). OpensDisks state (meaning_of r) (λ (k : Below Setting Known D). k) (GoesOn (meaning_of r)) one two result) same
 
 -- ---- a disk that took a record, or failed
 

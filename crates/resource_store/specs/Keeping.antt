@@ -1,7 +1,7 @@
 -- What a resource's store on two disks shows of itself and keeps, said of each list of records.
-use Rattle.std.specs.Prelude.{◌≡◌, ◌⊎◌, ℕ, ◌<◌, ◌≤◌, ◌+◌, Bool, true, false, List, ◌∷◌, length, Option, Some, Result, Ok, Err, OnOk}
+use Rattle.std.specs.Prelude.{◌≡◌, ◌⊎◌, ℕ, ◌<◌, ◌≤◌, ◌+◌, Bool, true, false, List, ◌∷◌, length, Option, Some, Result, Ok, Err, IfOk, IfErr, OnOk}
 use Rattle.std.specs.Borrow.{Lends, Fml, RattleType, MutBor}
-use Rattle.disk_model.specs.Disk.{DiskState}
+use Rattle.disk_model.specs.Disk.{DiskState, present}
 use Rattle.disk_journal.specs.Reading.{record_length}
 use Rattle.seata_types.specs.declared.errors.OpenError.{OpenError}
 use Rattle.seata_types.specs.declared.errors.StoreError.{StoreError}
@@ -14,6 +14,7 @@ use Rattle.journal_checkpoint.specs.Keeping.{active_disk, first_disk, second_dis
 use Rattle.durable_records.specs.declared.resources.ResourceRecord.{ResourceRecord}
 use Rattle.durable_records.specs.declared.resources.ResourceRecord.TheVariants as log
 use Rattle.durable_records.specs.UndoRecords.{boots}
+use Rattle.memory_store.specs.declared.store.Store.{Store as Memory}
 use Rattle.memory_store.specs.Keeping.{SameTwins, with_twin, first_handed_on, second_handed_on, twin_of, memory_of, machine_of, found_of as store_found, is_down as store_is_down, Keeps, Takes, Falls, HasRoomFor, IsFullFor, IsOf}
 pub use Rattle.memory_store.specs.Settling.{IsNoDamage}
 use Rattle.resource_log.specs.Records.{FitsRecord, record_bytes}
@@ -25,6 +26,10 @@ use Rattle.resource_store.specs.Meaning.{Setting, meaning_of, opening_of}
 use Rattle.resource_store.specs.Standing.{IsListOf, StandsForRecords}
 
 -- ---- what it shows of itself
+
+-- its memory over its disks
+abbrev pub store_of : {D : Type 0} → Store D → Memory Setting Known D
+store_of s = s.kept
 
 -- the resource that it is of
 abbrev pub setting_of : {D : Type 0} → Store D → Setting
@@ -147,6 +152,15 @@ GoesOnWithBoot t a b c d = (rs : List ResourceRecord) → StandsForRecords t rs 
 abbrev pub StandsAlways : {D : Type 0} → (D → DiskState) → Setting → Twin D → Type 0
 StandsAlways state t w =
     (a b : List ℕ) → (state (first_disk w)).may_leave a → (state (second_disk w)).may_leave b → (rs : List ResourceRecord) × StandsForRecords t rs a b
+
+-- Two disks of such a resource were read: each list of records that their bytes stand for is kept, and bytes that stand for records are
+-- never damaged.
+pub record KeepsEach {D : Type 0} (state : D → DiskState) (t : Setting) (first second : D) (result : Result (Store D) (OpenError × D × D)) : Type 0 where
+  pub keeps : IfOk result (λ s. (rs : List ResourceRecord) (a b : List ℕ) → present (state first) ≡ Some a → present (state second) ≡ Some b →
+      StandsForRecords t rs a b → KeepsRecords state t rs s)
+  pub recovers : IfErr result (λ failed. (rs : List ResourceRecord) (a b : List ℕ) → present (state first) ≡ Some a → present (state second) ≡ Some b →
+      StandsForRecords t rs a b → IsNoDamage failed.0)
+  pub setting : IfOk result (λ s. setting_of s ≡ t)
 
 -- It came back as one of the pairs of images that this pick may give: it knows what that pair holds, with a snapshot in place
 -- of the records where one was due, and keeps each list of records that the pair stands for.

@@ -77,7 +77,10 @@ fn read_snapshot(
                 drop(snapshot);
                 return Err(ReadError::NoMemory);
             };
-            Memory::load(alloc, resource, schema, snapshot).map_err(|_| ReadError::NoMemory)
+            match Memory::load(alloc, resource, schema, snapshot) {
+                Ok(memory) => Ok(memory),
+                Err(NoMemory) => Err(ReadError::NoMemory),
+            }
         }
         Err(SnapshotError::Damaged) => Err(ReadError::Damaged),
         Err(SnapshotError::NoMemory) => Err(ReadError::NoMemory),

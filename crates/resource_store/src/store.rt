@@ -27,27 +27,24 @@ pub struct Store<D> {
 
 impl<D: Disk> Store<D> {
     ghost use Rattle.std.specs.Borrow.{sem};
-    ghost use Rattle.std.specs.Prelude.{◌≡◌, ◌⊎◌, ◌+◌, ◌*◌, ◌^◌, ◌<◌, ◌≤◌, ℕ, true, false, is_err, is_ok, All, List as Items, length, Option, Some, None, Ok, Err, IfOk, IfErr, OnOk, OnErr};
+    ghost use Rattle.std.specs.Prelude.{◌≡◌, ◌⊎◌, ◌≤◌, ℕ, true, false, All, List as Items, Some, IfOk, IfErr, OnOk, OnErr};
     ghost use Rattle.disk_model.specs.Disk.{IsSettled, HasCause, present};
     ghost use Rattle.disk_model.specs.declared.disk.TheConstants.{LAST_PICK};
-    ghost use Rattle.disk_journal.specs.Keeping.{OnlyReads};
-    ghost use Rattle.disk_journal.specs.Reading.{row_length};
     ghost use Rattle.byte_fields.specs.Parts.{FitsNamedRow};
-    ghost use Rattle.journal_checkpoint.specs.declared.types.Found.{Found};
-    ghost use Rattle.journal_checkpoint.specs.Images.{FailsItself, PairStandsFor};
     ghost use Rattle.journal_checkpoint.specs.Keeping.{active_disk, first_disk, second_disk};
     ghost use Rattle.local_tables.specs.Rows.{IsOpening};
     ghost use Rattle.durable_records.specs.declared.resources.ResourceRecord.{ResourceRecord as Record};
     ghost use Rattle.durable_records.specs.declared.resources.ResourceRecord.TheVariants as log;
     ghost use Rattle.memory_store.specs.Settling.{RunsOn};
-    ghost use Rattle.memory_store.specs.Keeping.{IsDamage, IsNotFull, IsRead, IsOf, FindsFirst, StaysWhereShort, IsTold, ComesUp};
+    ghost use Rattle.memory_store.specs.Keeping.{FindsFirst, IsTold};
+    ghost use Rattle.memory_store.specs.Openings.{ReadsDisks, OpensDisks, ComesBack};
     ghost use Rattle.resource_store.specs.Openings.{IsUndamaged, IsBootDamage};
     ghost use Rattle.resource_memory.specs.Changes.{may_come};
     ghost use Rattle.resource_memory.specs.Keeping.{IsKept};
     ghost use Rattle.resource_memory.specs.Lookups.{tried_leg};
     ghost use Rattle.resource_store.specs.Meaning.{setting, meaning_of};
     ghost use Rattle.resource_store.specs.Standing.{StandsForRecords};
-    ghost use Rattle.resource_store.specs.Keeping.{setting_of, known, twin, found_of, is_down, KeepsRecords, Changes, IsTaken, boot_record, SameDisks, IsNoDamage, GoesOnAs, GoesOnWithBoot, BootsAs, BootsFrom, BringsBack, first_after, second_after, LendsActive, StandsAlways};
+    ghost use Rattle.resource_store.specs.Keeping.{store_of, setting_of, known, twin, found_of, is_down, KeepsEach, Changes, IsTaken, boot_record, SameDisks, IsNoDamage, GoesOnAs, GoesOnWithBoot, BootsAs, BootsFrom, BringsBack, first_after, second_after, LendsActive, StandsAlways};
 
     /// Reads two disks, and changes no byte. The disks come back where it fails.
     pub fn read(
@@ -64,24 +61,9 @@ impl<D: Disk> Store<D> {
         requires fits { All FitsNamedRow opening }
 
         // It keeps each list of records that the bytes stand for, and bytes that stand for records are never damaged.
-        ensures keeps { IfOk result (λ s. (rs : Items Record) (a b : Items ℕ) → present (D.state first) ≡ Some a → present (D.state second) ≡ Some b →
-            StandsForRecords (setting resource schema opening) rs a b → KeepsRecords D.state (setting resource schema opening) rs s) }
-        ensures recovers { IfErr result (λ failed. (rs : Items Record) (a b : Items ℕ) → present (D.state first) ≡ Some a → present (D.state second) ≡ Some b →
-            StandsForRecords (setting resource schema opening) rs a b → IsNoDamage failed.0) }
+        ensures stands { KeepsEach D.state (setting resource schema opening) first second result }
         // The damage is where the bytes, a record or the order of records has it.
-        ensures read { IfOk result (λ s. (a b : Items ℕ) → present (D.state first) ≡ Some a → present (D.state second) ≡ Some b →
-            IsRead D.state (meaning_of (setting resource schema opening)) a b s.kept) }
-        ensures place { IfOk result (λ s. (a b : Items ℕ) → present (D.state first) ≡ Some a → present (D.state second) ≡ Some b → FindsFirst a b s.kept) }
-        ensures damaged { IfErr result (λ failed. (a b : Items ℕ) → present (D.state first) ≡ Some a → present (D.state second) ≡ Some b →
-            IsDamage (meaning_of (setting resource schema opening)) a b failed.0) }
-        ensures failed { IfErr result (λ failed. failed.0 ≡ OpenError.Failed →
-            HasCause (D.state first).counts (D.state failed.1).counts ⊎ HasCause (D.state second).counts (D.state failed.2).counts) }
-        ensures not_full { IfErr result (λ failed. IsNotFull failed.0) }
-        ensures first_reads { OnlyReads (D.state first) (D.state (first_after result)) }
-        ensures second_reads { OnlyReads (D.state second) (D.state (second_after result)) }
-
-        ensures setting { IfOk result (λ s. setting_of s ≡ setting resource schema opening) }
-        ensures up { IfOk result (λ s. is_down s ≡ false) }
+        ensures reads { ReadsDisks D.state (meaning_of (setting resource schema opening)) store_of first second result }
     {
         let machine = ResourceMachine::new(resource, schema, opening);
         match memory_store::Store::read(alloc, machine, first, second) {
@@ -105,32 +87,10 @@ impl<D: Disk> Store<D> {
         requires opens { IsOpening resource schema opening }
         requires fits { All FitsNamedRow opening }
 
-        ensures keeps { IfOk result (λ s. (rs : Items Record) (a b : Items ℕ) → present (D.state first) ≡ Some a → present (D.state second) ≡ Some b →
-            StandsForRecords (setting resource schema opening) rs a b → KeepsRecords D.state (setting resource schema opening) rs s) }
-        ensures recovers { IfErr result (λ failed. (rs : Items Record) (a b : Items ℕ) → present (D.state first) ≡ Some a → present (D.state second) ≡ Some b →
-            StandsForRecords (setting resource schema opening) rs a b → IsNoDamage failed.0) }
-        // The records past the snapshot take at most half of the disk then, unless no snapshot can be put in their place.
-        ensures opened { IfOk result (λ s. (a b : Items ℕ) → present (D.state first) ≡ Some a → present (D.state second) ≡ Some b →
-            IsOf D.state (meaning_of (setting resource schema opening)) a b s.kept) }
-        ensures place { IfOk result (λ s. (a b : Items ℕ) → present (D.state first) ≡ Some a → present (D.state second) ≡ Some b → FindsFirst a b s.kept) }
-        ensures damaged { IfErr result (λ failed. (a b : Items ℕ) → present (D.state first) ≡ Some a → present (D.state second) ≡ Some b →
-            IsDamage (meaning_of (setting resource schema opening)) a b failed.0) }
+        ensures stands { KeepsEach D.state (setting resource schema opening) first second result }
         // A crash after it, however it ended, leaves what stands for the same records.
-        ensures images { (a b c d : Items ℕ) → present (D.state first) ≡ Some a → present (D.state second) ≡ Some b →
-            (D.state (first_after result)).may_leave c → (D.state (second_after result)).may_leave d → GoesOnAs (setting resource schema opening) a b c d }
-        // Where the records take at most half of either disk it changes no byte.
-        ensures not_due { (a b : Items ℕ) (found : Found) → present (D.state first) ≡ Some a → present (D.state second) ≡ Some b → PairStandsFor found a b →
-            2 * row_length found.records ≤ (D.state first).size → 2 * row_length found.records ≤ (D.state second).size →
-            OnlyReads (D.state first) (D.state (first_after result)) × OnlyReads (D.state second) (D.state (second_after result)) }
-        ensures failed { IfErr result (λ failed. failed.0 ≡ OpenError.Failed →
-            HasCause (D.state first).counts (D.state failed.1).counts ⊎ HasCause (D.state second).counts (D.state failed.2).counts) }
-        ensures not_full { IfErr result (λ failed. IsNotFull failed.0) }
-        ensures first_disk { RunsOn (D.state first) (D.state (first_after result)) }
-        ensures second_disk { RunsOn (D.state second) (D.state (second_after result)) }
-
+        ensures opens { OpensDisks D.state (meaning_of (setting resource schema opening)) store_of (GoesOnAs (setting resource schema opening)) first second result }
         ensures sound { IfOk result (λ s. (meaning_of (setting resource schema opening)).IsSound (known s)) }
-        ensures setting { IfOk result (λ s. setting_of s ≡ setting resource schema opening) }
-        ensures up { IfOk result (λ s. is_down s ≡ false) }
     {
         let machine = ResourceMachine::new(resource, schema, opening);
         match memory_store::Store::open(alloc, machine, first, second) {
@@ -457,27 +417,14 @@ impl<D: Disk> Store<D> {
         // It keeps each list of records that the pair of images that came back stands for.
         ensures back { OnOk result (IsTold (D.state (first_disk (twin self.old))) → IsTold (D.state (second_disk (twin self.old))) →
             BringsBack D.state pick self.old self.new) }
-        ensures damaged { IfErr result (λ error. (a b : Items ℕ) → present (D.state (first_disk (twin self.new))) ≡ Some a → present (D.state (second_disk (twin self.new))) ≡ Some b →
-            IsDamage (meaning_of (setting_of self.old)) a b error) }
         // It is never damaged where each pair of images from before stands for records.
         ensures recovers { IfErr result (λ error. IsTold (D.state (first_disk (twin self.old))) → IsTold (D.state (second_disk (twin self.old))) →
             StandsAlways D.state (setting_of self.old) (twin self.old) → IsNoDamage error) }
         // A crash after it, however it ended, leaves what stands for the same records as a pair of images from before.
-        ensures images { (c d : Items ℕ) → (D.state (first_disk (twin self.new))).may_leave c → (D.state (second_disk (twin self.new))).may_leave d →
-            (a b : Items ℕ) × (D.state (first_disk (twin self.old))).may_leave a × (D.state (second_disk (twin self.old))).may_leave b
-            × GoesOnAs (setting_of self.old) a b c d }
-        // Where the records of each such pair take at most half of either disk, it leaves one of these, however it ended.
-        ensures not_due { StaysWhereShort D.state (twin self.old) (twin self.new) }
-        ensures failed { result ≡ Err OpenError.Failed →
-            FailsItself (D.state (first_disk (twin self.old))).counts (D.state (first_disk (twin self.new))).counts
-            ⊎ FailsItself (D.state (second_disk (twin self.old))).counts (D.state (second_disk (twin self.new))).counts }
-        ensures not_full { IfErr result IsNotFull }
-        ensures first { ComesUp (is_ok result) pick (D.state (first_disk (twin self.old))) (D.state (first_disk (twin self.new))) }
-        ensures second { ComesUp (is_ok result) pick (D.state (second_disk (twin self.old))) (D.state (second_disk (twin self.new))) }
+        ensures comes { ComesBack D.state (meaning_of (setting_of self.old)) twin (GoesOnAs (setting_of self.old)) pick self.old self.new result }
 
         ensures sound { OnOk result ((meaning_of (setting_of self.old)).IsSound (known self.new)) }
         ensures known { OnErr result (known self.new ≡ known self.old) }
-        ensures up { is_down self.new ≡ is_err result }
         ensures setting { setting_of self.new ≡ setting_of self.old }
         ensures found { found_of self.new ≡ found_of self.old }
     {

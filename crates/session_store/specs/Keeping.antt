@@ -1,7 +1,7 @@
 -- What a coordinator's sessions on two disks show of themselves and keep, said of each list of records.
-use Rattle.std.specs.Prelude.{◌≡◌, ◌≢◌, ◌⊎◌, ℕ, ◌<◌, ◌+◌, Bool, true, false, Option, Some, None, List, ◌∷◌, length, Result, Ok, Err}
+use Rattle.std.specs.Prelude.{◌≡◌, ◌≢◌, ◌⊎◌, ℕ, ◌<◌, ◌+◌, Bool, true, false, Option, Some, None, List, ◌∷◌, length, Result, Ok, Err, IfOk, IfErr}
 use Rattle.std.specs.Borrow.{Lends, Fml, RattleType, MutBor}
-use Rattle.disk_model.specs.Disk.{DiskState}
+use Rattle.disk_model.specs.Disk.{DiskState, present}
 use Rattle.seata_types.specs.declared.errors.Full.{Full}
 use Rattle.seata_types.specs.declared.errors.OpenError.{OpenError}
 use Rattle.seata_types.specs.declared.errors.StoreError.{StoreError}
@@ -16,7 +16,7 @@ use Rattle.journal_checkpoint.specs.Keeping.{active_disk, first_disk, second_dis
 use Rattle.memory_store.specs.declared.store.Store.{Store}
 use Rattle.memory_store.specs.Meanings.{Meaning}
 pub use Rattle.memory_store.specs.Settling.{IsNoDamage}
-use Rattle.memory_store.specs.Keeping.{SameTwins, with_twin, first_handed_on, second_handed_on, twin_of, memory_of, machine_of, found_of as store_found_of, is_down as store_is_down, Keeps, Takes, Falls, HasRoomFor, IsFullFor, IsOf}
+use Rattle.memory_store.specs.Keeping.{SameTwins, with_twin, twin_of, memory_of, machine_of, found_of as store_found_of, is_down as store_is_down, Keeps, Takes, Falls, HasRoomFor, IsFullFor, IsOf}
 use Rattle.durable_records.specs.declared.coordinators.SessionRecord.{SessionRecord}
 use Rattle.durable_records.specs.declared.coordinators.SessionRecord.TheVariants as log
 use Rattle.session_log.specs.declared.sessions.RegisterPlace.{RegisterPlace}
@@ -183,6 +183,16 @@ abbrev pub GoesOnAs : (managers resources : ℕ) → (a b c d : List ℕ) → Ty
 GoesOnAs managers resources a b c d =
     (rs : List SessionRecord) → StandsForSessions managers resources rs a b → StandsForSessions managers resources rs c d
 
+-- Two disks were read, of a scenario with so many managers and resources: each list of records that their bytes stand for is kept, and
+-- bytes that stand for records are never damaged.
+pub record KeepsEach {D : Type 0} (state : D → DiskState) (of_managers of_resources : ℕ) (first second : D) (result : Result (Sessions D) (OpenError × D × D)) : Type 0 where
+  pub keeps : IfOk result (λ s. (rs : List SessionRecord) (a b : List ℕ) → present (state first) ≡ Some a → present (state second) ≡ Some b →
+      StandsForSessions of_managers of_resources rs a b → KeepsRecords state rs s)
+  pub recovers : IfErr result (λ failed. (rs : List SessionRecord) (a b : List ℕ) → present (state first) ≡ Some a → present (state second) ≡ Some b →
+      StandsForSessions of_managers of_resources rs a b → IsNoDamage failed.0)
+  pub managers : IfOk result (λ s. managers_of s ≡ of_managers)
+  pub resources : IfOk result (λ s. resources_of s ≡ of_resources)
+
 -- It came back as one of the pairs of images that this pick may give: it knows what that pair holds, and keeps each list of
 -- records that it stands for.
 pub record BringsBack {D : Type 0} (state : D → DiskState) (pick : ℕ) (old new : Sessions D) : Type 0 where
@@ -192,13 +202,6 @@ pub record BringsBack {D : Type 0} (state : D → DiskState) (pick : ℕ) (old n
   pub second : (state (second_disk (twin old))).may_leave b × (state (second_disk (twin old))).comes_back pick b
   pub is : IsOf state (meaning new) a b new.store
   pub keeps : (rs : List SessionRecord) → StandsFor new rs a b → KeepsRecords state rs new
-
--- the disks that an opening hands on
-abbrev pub first_after : {D : Type 0} → Result (Sessions D) (OpenError × D × D) → D
-first_after result = first_handed_on twin result
-
-abbrev pub second_after : {D : Type 0} → Result (Sessions D) (OpenError × D × D) → D
-second_after result = second_handed_on twin result
 
 -- ---- a disk that is lent
 

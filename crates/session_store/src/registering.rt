@@ -98,7 +98,7 @@ fn copies(alloc: Global, rows: &[RowKey]) -> Result<List<RowKey>, NoMemory>
 {
     let mut copied = Vec::new(alloc);
     for row in rows {
-        copied.push(row.copy(alloc)?).map_err(|_| NoMemory)?;
+        copied.push(row.copy(alloc)?)?;
     }
     Ok(List::of(copied))
 }

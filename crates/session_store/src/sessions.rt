@@ -18,26 +18,20 @@ pub struct Sessions<D> {
 
 impl<D: Disk> Sessions<D> {
     ghost use Rattle.std.specs.Borrow.{sem};
-    ghost use Rattle.std.specs.Prelude.{◌≡◌, ◌⊎◌, ◌+◌, ◌*◌, ◌^◌, ◌<◌, ◌≤◌, ℕ, true, false, is_err, is_ok, List, length, Some, None, Ok, Err, IfOk, IfErr, OnOk, OnErr};
-    ghost use Rattle.disk_model.specs.Disk.{IsSettled, HasCause, present};
+    ghost use Rattle.std.specs.Prelude.{◌≡◌, ◌+◌, ◌≤◌, true, false, length, None, IfOk, OnOk, OnErr};
+    ghost use Rattle.disk_model.specs.Disk.{IsSettled};
     ghost use Rattle.disk_model.specs.declared.disk.TheConstants.{LAST_PICK};
-    ghost use Rattle.disk_journal.specs.Keeping.{OnlyReads};
-    ghost use Rattle.disk_journal.specs.Reading.{row_length};
     ghost use Rattle.seata_types.specs.declared.limits.TheConstants.{BODY_BYTES};
-    ghost use Rattle.journal_checkpoint.specs.declared.types.Found.{Found};
-    ghost use Rattle.journal_checkpoint.specs.Images.{FailsItself, PairStandsFor};
     ghost use Rattle.journal_checkpoint.specs.Keeping.{active_disk, first_disk, second_disk};
-    ghost use Rattle.durable_records.specs.declared.coordinators.SessionRecord.{SessionRecord as Record};
     ghost use Rattle.durable_records.specs.declared.coordinators.SessionRecord.TheVariants as log;
     ghost use Rattle.durable_records.specs.Progress.{has_retrying};
     ghost use Rattle.durable_records.specs.SessionOrder.{is_counted, is_within};
     ghost use Rattle.session_memory.specs.Lookups.{status_in, xid_for};
     ghost use Rattle.session_memory.specs.Changes.{is_begin, is_finished, is_open, may_come};
-    ghost use Rattle.memory_store.specs.Settling.{RunsOn};
-    ghost use Rattle.memory_store.specs.Keeping.{IsDamage, IsNotFull, IsRead, IsOf, FindsFirst, StaysWhereShort, ComesUp, IsTold};
+    ghost use Rattle.memory_store.specs.Keeping.{IsTold};
+    ghost use Rattle.memory_store.specs.Openings.{ReadsDisks, OpensDisks, ComesBack};
     ghost use Rattle.session_store.specs.Meaning.{meaning_of};
-    ghost use Rattle.session_store.specs.Standing.{StandsForSessions};
-    ghost use Rattle.session_store.specs.Keeping.{store_of, managers_of, resources_of, known, twin, is_down, SameOpening, SameDisks, KeepsRecords, Makes, registers, begun_record, IsNoDamage, GoesOnAs, BringsBack, first_after, second_after, LendsActive};
+    ghost use Rattle.session_store.specs.Keeping.{store_of, managers_of, resources_of, known, twin, is_down, SameOpening, SameDisks, KeepsEach, Makes, registers, begun_record, GoesOnAs, BringsBack, LendsActive};
 
     /// Reads two disks, and changes no byte. The disks come back where it fails.
     pub fn read(
@@ -51,26 +45,9 @@ impl<D: Disk> Sessions<D> {
         requires second { IsSettled (D.state second) }
 
         // It keeps each list of records that the bytes stand for, and bytes that stand for records are never damaged.
-        ensures keeps { IfOk result (λ s. (rs : List Record) (a b : List ℕ) → present (D.state first) ≡ Some a → present (D.state second) ≡ Some b →
-            StandsForSessions managers resources rs a b → KeepsRecords D.state rs s) }
-        ensures recovers { IfErr result (λ failed. (rs : List Record) (a b : List ℕ) → present (D.state first) ≡ Some a → present (D.state second) ≡ Some b →
-            StandsForSessions managers resources rs a b → IsNoDamage failed.0) }
+        ensures stands { KeepsEach D.state managers resources first second result }
         // The damage is where the bytes, a record or the order of records has it.
-        ensures read { IfOk result (λ s. (a b : List ℕ) → present (D.state first) ≡ Some a → present (D.state second) ≡ Some b →
-            IsRead D.state (meaning_of managers resources) a b (store_of s)) }
-        ensures place { IfOk result (λ s. (a b : List ℕ) → present (D.state first) ≡ Some a → present (D.state second) ≡ Some b →
-            FindsFirst a b (store_of s)) }
-        ensures damaged { IfErr result (λ failed. (a b : List ℕ) → present (D.state first) ≡ Some a → present (D.state second) ≡ Some b →
-            IsDamage (meaning_of managers resources) a b failed.0) }
-        ensures failed { IfErr result (λ failed. failed.0 ≡ OpenError.Failed →
-            HasCause (D.state first).counts (D.state failed.1).counts ⊎ HasCause (D.state second).counts (D.state failed.2).counts) }
-        ensures not_full { IfErr result (λ failed. IsNotFull failed.0) }
-        ensures first_reads { OnlyReads (D.state first) (D.state (first_after result)) }
-        ensures second_reads { OnlyReads (D.state second) (D.state (second_after result)) }
-
-        ensures managers { IfOk result (λ s. managers_of s ≡ managers) }
-        ensures resources { IfOk result (λ s. resources_of s ≡ resources) }
-        ensures up { IfOk result (λ s. is_down s ≡ false) }
+        ensures reads { ReadsDisks D.state (meaning_of managers resources) store_of first second result }
     {
         let machine = SessionMachine {
             managers,
@@ -94,34 +71,9 @@ impl<D: Disk> Sessions<D> {
         requires first { IsSettled (D.state first) }
         requires second { IsSettled (D.state second) }
 
-        ensures keeps { IfOk result (λ s. (rs : List Record) (a b : List ℕ) → present (D.state first) ≡ Some a → present (D.state second) ≡ Some b →
-            StandsForSessions managers resources rs a b → KeepsRecords D.state rs s) }
-        ensures recovers { IfErr result (λ failed. (rs : List Record) (a b : List ℕ) → present (D.state first) ≡ Some a → present (D.state second) ≡ Some b →
-            StandsForSessions managers resources rs a b → IsNoDamage failed.0) }
-        // What it knows is what the bytes hold, and the records past a snapshot take at most half of the disk, unless no snapshot
-        // can be put in their place.
-        ensures opened { IfOk result (λ s. (a b : List ℕ) → present (D.state first) ≡ Some a → present (D.state second) ≡ Some b →
-            IsOf D.state (meaning_of managers resources) a b (store_of s)) }
-        ensures place { IfOk result (λ s. (a b : List ℕ) → present (D.state first) ≡ Some a → present (D.state second) ≡ Some b →
-            FindsFirst a b (store_of s)) }
-        ensures damaged { IfErr result (λ failed. (a b : List ℕ) → present (D.state first) ≡ Some a → present (D.state second) ≡ Some b →
-            IsDamage (meaning_of managers resources) a b failed.0) }
+        ensures stands { KeepsEach D.state managers resources first second result }
         // A crash after it, however it ended, leaves what stands for the same records.
-        ensures images { (a b c d : List ℕ) → present (D.state first) ≡ Some a → present (D.state second) ≡ Some b →
-            (D.state (first_after result)).may_leave c → (D.state (second_after result)).may_leave d → GoesOnAs managers resources a b c d }
-        // Where the records take at most half of either disk it changes no byte.
-        ensures not_due { (a b : List ℕ) (found : Found) → present (D.state first) ≡ Some a → present (D.state second) ≡ Some b → PairStandsFor found a b →
-            2 * row_length found.records ≤ (D.state first).size → 2 * row_length found.records ≤ (D.state second).size →
-            OnlyReads (D.state first) (D.state (first_after result)) × OnlyReads (D.state second) (D.state (second_after result)) }
-        ensures failed { IfErr result (λ failed. failed.0 ≡ OpenError.Failed →
-            HasCause (D.state first).counts (D.state failed.1).counts ⊎ HasCause (D.state second).counts (D.state failed.2).counts) }
-        ensures not_full { IfErr result (λ failed. IsNotFull failed.0) }
-        ensures first_disk { RunsOn (D.state first) (D.state (first_after result)) }
-        ensures second_disk { RunsOn (D.state second) (D.state (second_after result)) }
-
-        ensures managers { IfOk result (λ s. managers_of s ≡ managers) }
-        ensures resources { IfOk result (λ s. resources_of s ≡ resources) }
-        ensures up { IfOk result (λ s. is_down s ≡ false) }
+        ensures opens { OpensDisks D.state (meaning_of managers resources) store_of (GoesOnAs managers resources) first second result }
     {
         let machine = SessionMachine {
             managers,
@@ -285,23 +237,9 @@ impl<D: Disk> Sessions<D> {
         // It keeps each list of records that the pair of images that came back stands for.
         ensures back { OnOk result (IsTold (D.state (first_disk (twin self.old))) → IsTold (D.state (second_disk (twin self.old))) →
             BringsBack D.state pick self.old self.new) }
-        ensures damaged { IfErr result (λ error. (a b : List ℕ) → present (D.state (first_disk (twin self.new))) ≡ Some a → present (D.state (second_disk (twin self.new))) ≡ Some b →
-            IsDamage (meaning_of (managers_of self.old) (resources_of self.old)) a b error) }
         // A crash after it, however it ended, leaves what stands for the same records as a pair of images from before.
-        ensures images { (c d : List ℕ) → (D.state (first_disk (twin self.new))).may_leave c → (D.state (second_disk (twin self.new))).may_leave d →
-            (a b : List ℕ) × (D.state (first_disk (twin self.old))).may_leave a × (D.state (second_disk (twin self.old))).may_leave b
-            × GoesOnAs (managers_of self.old) (resources_of self.old) a b c d }
-        // Where the records of each such pair take at most half of either disk, it leaves one of these, however it ended.
-        ensures not_due { StaysWhereShort D.state (twin self.old) (twin self.new) }
-        ensures failed { result ≡ Err OpenError.Failed →
-            FailsItself (D.state (first_disk (twin self.old))).counts (D.state (first_disk (twin self.new))).counts
-            ⊎ FailsItself (D.state (second_disk (twin self.old))).counts (D.state (second_disk (twin self.new))).counts }
-        ensures not_full { IfErr result IsNotFull }
-        ensures first { ComesUp (is_ok result) pick (D.state (first_disk (twin self.old))) (D.state (first_disk (twin self.new))) }
-        ensures second { ComesUp (is_ok result) pick (D.state (second_disk (twin self.old))) (D.state (second_disk (twin self.new))) }
-
+        ensures comes { ComesBack D.state (meaning_of (managers_of self.old) (resources_of self.old)) twin (GoesOnAs (managers_of self.old) (resources_of self.old)) pick self.old self.new result }
         ensures knows { OnErr result (known self.new ≡ known self.old) }
-        ensures up { is_down self.new ≡ is_err result }
         ensures opening { SameOpening self.old self.new }
     {
         self.store.restart(alloc, pick)

@@ -1,4 +1,8 @@
-use Rattle.resource_store.proofs.OpeningLaws.{restarted_back, restarted_images, restart_recovers}
+use Rattle.memory_store.proofs.Openings.{back_in}
+use Rattle.resource_store.specs.Keeping.{setting_of, store_of}
+use Rattle.resource_store.specs.Meaning.{meaning_of}
+use Rattle.resource_store.proofs.OpeningLaws.{restarted_back, restart_recovers}
+use Rattle.resource_store.proofs.StoreLaws.{goes_on}
 use Rattle.resource_store.proofs.store.Store.restart.Goals as goal
 
 pub returns-clause-back : goal.returns-clause-back
@@ -6,8 +10,10 @@ returns-clause-back g c = restarted_back g.D.Disk.state g.met.D.Disk.lawful c.ar
 
 pub returns-clause-recovers : goal.returns-clause-recovers
 returns-clause-recovers g c =
-    restart_recovers g.D.Disk.state g.met.D.Disk.lawful c.args.pick c.args.self.now (record { kept = c.restart.new.self }) c.restart.result c.restart.ensures.damaged c.restart.ensures.images
-    c.restart.ensures.first.kind c.restart.ensures.second.kind
+    let e = c.restart.ensures.comes in
+    restart_recovers g.D.Disk.state g.met.D.Disk.lawful c.args.pick c.args.self.now (record { kept = c.restart.new.self }) c.restart.result e.damaged e.images e.first.kind e.second.kind
 
-pub returns-clause-images : goal.returns-clause-images
-returns-clause-images g c = restarted_images g.D.Disk.state g.met.D.Disk.lawful c.args.pick c.args.self.now (record { kept = c.restart.new.self }) c.restart.ensures.images
+pub returns-clause-comes : goal.returns-clause-comes
+returns-clause-comes g c =
+    let t = setting_of c.args.self.now in
+    back_in g.D.Disk.state (meaning_of t) store_of (goes_on t) c.args.pick c.args.self.now (record { kept = c.restart.new.self }) c.restart.result c.restart.ensures.comes

@@ -1,18 +1,32 @@
+use Rattle.std.proofs.Common.{ap}
+use Rattle.session_store.specs.declared.machine.SessionMachine.{SessionMachine}
+use Rattle.session_store.specs.Keeping.{store_of}
+use Rattle.session_store.specs.Meaning.{meaning_of}
+use Rattle.memory_store.proofs.Openings.{opens_in, opens_none}
 use Rattle.session_store.proofs.SessionLaws.{open_keeps, not_damaged, goes_on}
 use Rattle.session_store.proofs.sessions.Sessions.open.Goals as goal
 
-pub returns-in-Ok-clause-keeps : goal.returns-in-Ok-clause-keeps
-returns-in-Ok-clause-keeps g c = λ rs a b is too stands.
-    open_keeps c.args.managers c.args.resources g.D.Disk.state a b (record { store = c.in-Ok.store }) c.in-Ok.ensures.machine (c.in-Ok.ensures.ok a b is too) rs stands
+pub returns-in-Ok-clause-stands : goal.returns-in-Ok-clause-stands
+returns-in-Ok-clause-stands g c = record {
+  keeps = λ rs a b is too stands.
+      open_keeps c.args.managers c.args.resources g.D.Disk.state a b (record { store = c.in-Ok.store }) c.in-Ok.ensures.machine (c.in-Ok.ensures.opens.opened a b is too) rs stands;
+  recovers = tt;
+  managers = ap (λ (q : SessionMachine). q.managers) c.in-Ok.ensures.machine;
+  resources = ap (λ (q : SessionMachine). q.resources) c.in-Ok.ensures.machine;
+}
 
-pub returns-in-Err-clause-recovers : goal.returns-in-Err-clause-recovers
-returns-in-Err-clause-recovers g c = λ rs a b is too stands.
-    not_damaged c.args.managers c.args.resources a b c.in-Err.failed.0 (c.in-Err.ensures.damaged a b is too) rs stands
+pub returns-in-Ok-clause-opens : goal.returns-in-Ok-clause-opens
+returns-in-Ok-clause-opens g c =
+    opens_in g.D.Disk.state (meaning_of c.args.managers c.args.resources) store_of c.args.first c.args.second (goes_on c.args.managers c.args.resources) (record { store = c.in-Ok.store }) c.in-Ok.ensures.opens
 
-pub returns-in-Ok-clause-images : goal.returns-in-Ok-clause-images
-returns-in-Ok-clause-images g c = λ a b x y is too one two.
-    goes_on c.args.managers c.args.resources a b x y (c.in-Ok.ensures.images a b x y is too one two)
+pub returns-in-Err-clause-stands : goal.returns-in-Err-clause-stands
+returns-in-Err-clause-stands g c = record {
+  keeps = tt;
+  recovers = λ rs a b is too stands. not_damaged c.args.managers c.args.resources a b c.in-Err.failed.0 (c.in-Err.ensures.opens.damaged a b is too) rs stands;
+  managers = tt;
+  resources = tt;
+}
 
-pub returns-in-Err-clause-images : goal.returns-in-Err-clause-images
-returns-in-Err-clause-images g c = λ a b x y is too one two.
-    goes_on c.args.managers c.args.resources a b x y (c.in-Err.ensures.images a b x y is too one two)
+pub returns-in-Err-clause-opens : goal.returns-in-Err-clause-opens
+returns-in-Err-clause-opens g c =
+    opens_none g.D.Disk.state (meaning_of c.args.managers c.args.resources) store_of c.args.first c.args.second (goes_on c.args.managers c.args.resources) c.in-Err.failed c.in-Err.ensures.opens
