@@ -1,13 +1,12 @@
 -- How many tickets are opened by a call.
 use Rattle.std.proofs.Common.{◌≡◌, ◌+◌, ◌≤◌, ℕ, true, Some, is_some, cond, Result, Ok, Err, ap, sym, ◌∙◌, arith}
-use Rattle.seata_types.specs.declared.copies.NoMemory.{NoMemory}
 use Rattle.seata_types.specs.declared.errors.StmtError.{StmtError}
 use Rattle.seata_types.specs.declared.ids.Ticket.{Ticket}
 use Rattle.local_tables.specs.declared.schemas.Effect.{Effect}
 use Rattle.local_txn.specs.declared.transactions.ExecError.{ExecError}
 use Rattle.local_txn.specs.declared.transactions.ExecError.TheVariants as error
 use Rattle.local_txn.specs.OpenTickets.{Owner, open_at, opening_of}
-use Rattle.local_txn.specs.Answers.{Tickets, last_ticket, Executed, Executes, Prepares}
+use Rattle.local_txn.specs.Answers.{Tickets, last_ticket, Executed, Executes}
 use Rattle.local_txn.proofs.Tests.{ticket_itself}
 
 pub execute_opens : (old new : Tickets) (owner : Owner) (m : Result Effect (ℕ × StmtError)) (r : Result Ticket ExecError) → Executes old owner m r new → new.opened ≤ old.opened + 1
@@ -15,10 +14,6 @@ execute_opens old new owner m (Ok t) e = let k : new.opened ≡ old.opened + 1 =
 execute_opens old new owner m (Err (error.Stmt index why)) e = let k : new.opened ≡ old.opened = ap (λ (u : Tickets). u.opened) e.1 in omega (arith, k)
 execute_opens old new owner m (Err (error.Busy key by)) e = let k : new.opened ≡ old.opened = ap (λ (u : Tickets). u.opened) e.1 in omega (arith, k)
 execute_opens old new owner m (Err error.NoMemory) e = let k : new.opened ≡ old.opened = ap (λ (u : Tickets). u.opened) e in omega (arith, k)
-
-pub prepare_opens : (old new : Tickets) (owner : Owner) (r : Result Ticket NoMemory) → Prepares old owner r new → new.opened ≤ old.opened + 1
-prepare_opens old new owner (Ok t) e = let k : new.opened ≡ old.opened + 1 = ap (λ (u : Tickets). u.opened) e.1 in omega (arith, k)
-prepare_opens old new owner (Err x) e = let k : new.opened ≡ old.opened = ap (λ (u : Tickets). u.opened) e in omega (arith, k)
 
 -- a ticket that was just opened is the last one, and open
 module _ (old new : Tickets) (owner : Owner) (m : Result Effect (ℕ × StmtError)) (t : Ticket) (e : Executed old owner m t new) where

@@ -1,3 +1,2 @@
 pub mod Saving
 pub mod Accounts
-pub mod Grants

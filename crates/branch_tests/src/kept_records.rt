@@ -1,12 +1,11 @@
 //! A resource's records as bytes, also in the layout of earlier programs.
 ghost use Rattle.resource_log.specs.Records.{FitsRecord};
 
-use crate::samples::{IMAGES, LEG, OLD_IMAGES, joined};
+use crate::samples::{Fail, IMAGES, LEG, OLD_IMAGES, Parts, joined};
 use durable_records::ResourceRecord;
 use resource_log::*;
 use seata_types::Duplicate;
 use std::alloc::Global;
-use std::test::*;
 
 // The row with key 1 was read as (1).
 const READS: [u8; 30] = [
@@ -70,66 +69,102 @@ fn is_written_as(alloc: Global, read: &[&[u8]], written: &[&[u8]]) -> Result<boo
     })
 }
 
-#[test]
-fn each_record_is_written_as_it_is_read(rt: HostRuntime) -> Result<(), Fail> {
-    for parts in [
-        [[1].as_slice(), &[0, 0, 0, 2], &[], &[], &[]],
+/// Records by their parts, with the parts that they are written in. The first are in the layouts that are written.
+const RECORDS: [(Parts, Parts); 16] = [
+    (
+        [&[1], &[0, 0, 0, 2], &[], &[], &[]],
+        [&[1], &[0, 0, 0, 2], &[], &[], &[]],
+    ),
+    (
         [&[18], &LEG, &[0, 1], &IMAGES, &READS],
-        [&[3], &LEG, &[], &[], &[]],
-        [&[4], &LEG, &[], &[], &[]],
-        [&[5], &LEG, &[], &[], &[]],
+        [&[18], &LEG, &[0, 1], &IMAGES, &READS],
+    ),
+    ([&[3], &LEG, &[], &[], &[]], [&[3], &LEG, &[], &[], &[]]),
+    ([&[4], &LEG, &[], &[], &[]], [&[4], &LEG, &[], &[], &[]]),
+    ([&[5], &LEG, &[], &[], &[]], [&[5], &LEG, &[], &[], &[]]),
+    (
         [&[22], &LEG, &[0, 1], &IMAGES, &[]],
+        [&[22], &LEG, &[0, 1], &IMAGES, &[]],
+    ),
+    (
         [&[23], &LEG, &IMAGES, &[], &[]],
+        [&[23], &LEG, &IMAGES, &[], &[]],
+    ),
+    (
         [&[24], &LEG, &IMAGES, &[], &[]],
-        [&[9], &LEG, &[], &[], &[]],
+        [&[24], &LEG, &IMAGES, &[], &[]],
+    ),
+    ([&[9], &LEG, &[], &[], &[]], [&[9], &LEG, &[], &[], &[]]),
+    (
         [&[26], &[0, 1], &IMAGES, &[], &[]],
+        [&[26], &[0, 1], &IMAGES, &[], &[]],
+    ),
+    (
         [&[27], &[0, 1], &IMAGES, &[], &[]],
-    ] {
-        assert!(rt; is_written_as(rt.alloc(), &parts, &parts)?);
+        [&[27], &[0, 1], &IMAGES, &[], &[]],
+    ),
+    // The layouts of earlier programs.
+    (
+        [&[2], &LEG, &[0, 1], &OLD_IMAGES, &[0, 0]],
+        [&[18], &LEG, &[0, 1], &IMAGES, &[0, 0]],
+    ),
+    (
+        [&[2], &LEG, &[0, 1], &OLD_IMAGES, &OLD_READS],
+        [&[18], &LEG, &[0, 1], &IMAGES, &READS],
+    ),
+    (
+        [&[6], &LEG, &[0, 1], &OLD_IMAGES, &[]],
+        [&[22], &LEG, &[0, 1], &IMAGES, &[]],
+    ),
+    (
+        [&[7], &LEG, &OLD_IMAGES, &[], &[]],
+        [&[23], &LEG, &IMAGES, &[], &[]],
+    ),
+    (
+        [&[8], &LEG, &OLD_IMAGES, &[], &[]],
+        [&[24], &LEG, &IMAGES, &[], &[]],
+    ),
+];
+
+fn are_written(alloc: Global) -> Result<(), Fail> {
+    for (k, (read, written)) in RECORDS.iter().enumerate() {
+        if !is_written_as(alloc, read, written)? {
+            return Err(Fail::Case(k));
+        }
     }
     Ok(())
 }
 
 #[test]
-fn records_of_earlier_programs_are_written_anew(rt: HostRuntime) -> Result<(), Fail> {
-    for (old, new) in [
-        (
-            [[2].as_slice(), &LEG, &[0, 1], &OLD_IMAGES, &[0, 0]],
-            [[18].as_slice(), &LEG, &[0, 1], &IMAGES, &[0, 0]],
-        ),
-        (
-            [&[2], &LEG, &[0, 1], &OLD_IMAGES, &OLD_READS],
-            [&[18], &LEG, &[0, 1], &IMAGES, &READS],
-        ),
-        (
-            [&[6], &LEG, &[0, 1], &OLD_IMAGES, &[]],
-            [&[22], &LEG, &[0, 1], &IMAGES, &[]],
-        ),
-        (
-            [&[7], &LEG, &OLD_IMAGES, &[], &[]],
-            [&[23], &LEG, &IMAGES, &[], &[]],
-        ),
-        (
-            [&[8], &LEG, &OLD_IMAGES, &[], &[]],
-            [&[24], &LEG, &IMAGES, &[], &[]],
-        ),
-    ] {
-        assert!(rt; is_written_as(rt.alloc(), &old, &new)?);
+fn records_of_each_layout_are_written_in_the_newest(rt: HostRuntime) -> Result<(), Fail> {
+    are_written(rt.alloc())
+}
+
+const NO_RECORDS: [Parts; 6] = [
+    [&[], &[], &[], &[], &[]],
+    [&[10], &LEG, &[], &[], &[]],
+    [
+        &[3],
+        &[0, 0, 0, 0, 0, 0, 0, 1, 0, 0, 0, 0, 0, 0, 0],
+        &[],
+        &[],
+        &[],
+    ],
+    [&[3], &LEG, &[0], &[], &[]],
+    [&[23], &LEG, &OLD_IMAGES, &[], &[]],
+    [&[7], &LEG, &IMAGES, &[], &[]],
+];
+
+fn are_refused(alloc: Global) -> Result<(), Fail> {
+    for (k, parts) in NO_RECORDS.iter().enumerate() {
+        if !is_no_record(alloc, parts)? {
+            return Err(Fail::Case(k));
+        }
     }
     Ok(())
 }
 
 #[test]
 fn bytes_that_are_no_record(rt: HostRuntime) -> Result<(), Fail> {
-    for parts in [
-        [[].as_slice(), &[], &[]],
-        [&[10], &LEG, &[]],
-        [&[3], &LEG[..15], &[]],
-        [&[3], &LEG, &[0]],
-        [&[23], &LEG, &OLD_IMAGES],
-        [&[7], &LEG, &IMAGES],
-    ] {
-        assert!(rt; is_no_record(rt.alloc(), &parts)?);
-    }
-    Ok(())
+    are_refused(rt.alloc())
 }

@@ -1,11 +1,15 @@
-//! A resource's snapshot as bytes, also in the layout of earlier programs, and each cause of its damage.
+//! A resource's snapshot as bytes, also in the layout of earlier programs: the memory that it says, which is written again, and
+//! each cause of its damage.
+ghost use Rattle.std.specs.Prelude.{◌≡◌, true, IfOk};
 ghost use Rattle.resource_log.specs.Snapshots.{FitsSnapshot};
+ghost use Rattle.resource_log.specs.Soundness.{is_sound};
+ghost use Rattle.branch_tests.specs.Saving.{CanBeSaved};
 
-use crate::samples::{accounts, joined, nothing};
+use crate::samples::{Fail, Parts, accounts, joined};
 use local_tables::Schema;
-use resource_log::*;
+use resource_log::{ResourceSnapshot, SnapshotError, read_snapshot};
+use resource_memory::Memory;
 use std::alloc::Global;
-use std::test::*;
 
 // Layout 2; two acts, one boot.
 const HEAD: [u8; 9] = [2, 0, 0, 0, 2, 0, 0, 0, 1];
@@ -43,82 +47,81 @@ const FENCES: [u8; 42] = [
 
 const NONE: [u8; 4] = [0, 0, 0, 0];
 
-/// The bytes that the snapshot of these bytes is written as.
-fn again(alloc: Global, schema: &Schema, bytes: &[u8]) -> Result<Vec<u8>, SnapshotError> {
-    match read_snapshot(alloc, bytes, 1, schema) {
-        Ok(snapshot) => write(alloc, snapshot),
-        Err(error) => Err(error),
-    }
-}
-
-fn write(alloc: Global, snapshot: ResourceSnapshot) -> Result<Vec<u8>, SnapshotError>
-    requires { FitsSnapshot snapshot }
+fn loaded(alloc: Global, schema: Schema, snapshot: ResourceSnapshot) -> Result<Memory, Fail>
+    requires sound { is_sound 1 schema snapshot ≡ true }
+    requires fits { FitsSnapshot snapshot }
+    ensures { IfOk result CanBeSaved }
 {
-    match write_snapshot(alloc, &snapshot) {
-        Ok(bytes) => Ok(bytes),
-        Err(_) => Err(SnapshotError::NoMemory),
+    match Memory::load(alloc, 1, schema, snapshot) {
+        Ok(memory) => Ok(memory),
+        Err(_) => Err(Fail::NoMemory),
     }
 }
 
-/// Whether the snapshot of these parts is written as the others.
-fn is_written_as(
-    alloc: Global,
-    schema: &Schema,
-    read: &[&[u8]],
-    written: &[&[u8]],
-) -> Result<bool, Fail> {
+/// The memory that the snapshot of these bytes says.
+fn read(alloc: Global, bytes: &[u8]) -> Result<Memory, Fail>
+    ensures { IfOk result CanBeSaved }
+{
+    let schema = accounts(alloc)?;
+    match read_snapshot(alloc, bytes, 1, &schema) {
+        Ok(snapshot) => loaded(alloc, schema, snapshot),
+        Err(_) => Err(Fail::Failed),
+    }
+}
+
+/// The bytes that a memory's snapshot is written as.
+fn written(alloc: Global, memory: &Memory) -> Result<Vec<u8>, Fail>
+    requires { CanBeSaved memory.now }
+{
+    if memory.acts() > 100 {
+        return Err(Fail::Differs("how many records there are"));
+    }
+    if !memory.has_room() {
+        return Err(Fail::Differs("the room of a snapshot"));
+    }
+    Ok(memory.write(alloc)?)
+}
+
+fn written_again(alloc: Global, bytes: &[u8]) -> Result<Vec<u8>, Fail> {
+    let memory = read(alloc, bytes)?;
+    written(alloc, &memory)
+}
+
+/// Whether the memory of the snapshot of these parts is written as the others.
+fn is_written_as(alloc: Global, read: &[&[u8]], written: &[&[u8]]) -> Result<bool, Fail> {
     let bytes = joined(alloc, read)?;
     let wanted = joined(alloc, written)?;
-    Ok(again(alloc, schema, &bytes) == Ok(wanted))
+    Ok(written_again(alloc, &bytes)? == wanted)
 }
 
-/// Whether these parts are refused as damaged.
-fn is_damaged(alloc: Global, schema: &Schema, parts: &[&[u8]]) -> Result<bool, Fail> {
-    let bytes = joined(alloc, parts)?;
-    Ok(again(alloc, schema, &bytes) == Err(SnapshotError::Damaged))
-}
+/// Snapshots by their parts, with the parts that they are written in.
+const SNAPSHOTS: [(Parts, Parts); 3] = [
+    (
+        [&HEAD, &ROWS, &UNDOS, &FENCES, &[]],
+        [&HEAD, &ROWS, &UNDOS, &FENCES, &[]],
+    ),
+    (
+        [&HEAD, &NONE, &MARKED, &NONE, &[]],
+        [&HEAD, &NONE, &MARKED, &NONE, &[]],
+    ),
+    (
+        [&[1, 0, 0, 0, 2, 0, 0, 0, 1], &ROWS, &OLD_UNDOS, &NONE, &[]],
+        [&HEAD, &ROWS, &UNDOS, &NONE, &[]],
+    ),
+];
 
-/// Two acts, one boot, and nothing kept.
-fn empty(alloc: Global) -> ResourceSnapshot
-    ensures { FitsSnapshot result }
-{
-    ResourceSnapshot {
-        acts: 2,
-        boots: 1,
-        rows: nothing(alloc),
-        undos: nothing(alloc),
-        fences: nothing(alloc),
-    }
-}
-
-#[test]
-fn snapshots_are_written_as_they_are_read(rt: HostRuntime) -> Result<(), Fail> {
-    let schema = accounts(rt.alloc())?;
-    for (read, written) in [
-        (
-            [HEAD.as_slice(), &ROWS, &UNDOS, &FENCES],
-            [HEAD.as_slice(), &ROWS, &UNDOS, &FENCES],
-        ),
-        (
-            [&HEAD, &NONE, &MARKED, &NONE],
-            [&HEAD, &NONE, &MARKED, &NONE],
-        ),
-        (
-            [&[1, 0, 0, 0, 2, 0, 0, 0, 1], &ROWS, &OLD_UNDOS, &NONE],
-            [&HEAD, &ROWS, &UNDOS, &NONE],
-        ),
-    ] {
-        assert!(rt; is_written_as(rt.alloc(), &schema, &read, &written)?);
+fn are_written(alloc: Global) -> Result<(), Fail> {
+    for (k, (read, written)) in SNAPSHOTS.iter().enumerate() {
+        if !is_written_as(alloc, read, written)? {
+            return Err(Fail::Case(k));
+        }
     }
     Ok(())
 }
 
 #[test]
-fn an_empty_snapshot(rt: HostRuntime) -> Result<(), Fail> {
-    let wanted = joined(rt.alloc(), &[&HEAD, &NONE, &NONE, &NONE])?;
-    let found = write(rt.alloc(), empty(rt.alloc()));
-    assert!(rt; found == Ok(wanted));
-    Ok(())
+fn snapshots_of_each_layout_are_written_in_the_newest(rt: HostRuntime) -> Result<(), Fail> {
+    are_written(rt.alloc())
 }
 
 // Two rows of one key, and a row of a table that isn't there.
@@ -156,31 +159,49 @@ const OTHER_FENCE: [u8; 23] = [
     0, 0, 0, 1, 0, 0, 0, 0, 0, 0, 0, 2, 0, 0, 0, 0, 0, 0, 0, 1, 5, 0, 1,
 ];
 
-#[test]
-fn each_damage_is_refused(rt: HostRuntime) -> Result<(), Fail> {
-    let schema = accounts(rt.alloc())?;
-    for parts in [
-        [
-            [3, 0, 0, 0, 2, 0, 0, 0, 1].as_slice(),
-            &NONE,
-            &NONE,
-            &NONE,
-            &[],
-        ],
-        [&[2, 128, 0, 0, 0, 0, 0, 0, 1], &NONE, &NONE, &NONE, &[]],
-        [&[2, 0, 0, 0, 2, 0, 0, 0, 3], &NONE, &NONE, &NONE, &[]],
-        [&HEAD, &NONE, &NONE, &NONE, &[0]],
-        [&HEAD, &NONE, &NONE, &NONE[..3], &[]],
-        [&HEAD, &SAME_ROWS, &NONE, &NONE, &[]],
-        [&HEAD, &OTHER_ROWS, &NONE, &NONE, &[]],
-        [&HEAD, &NO_KEY, &NONE, &NONE, &[]],
-        [&HEAD, &NONE, &OTHER_UNDOS, &NONE, &[]],
-        [&HEAD, &NONE, &OTHER_READ, &NONE, &[]],
-        [&HEAD, &NONE, &OLD_UNDOS, &NONE, &[]],
-        [&HEAD, &NONE, &NONE, &SAME_FENCES, &[]],
-        [&HEAD, &NONE, &NONE, &OTHER_FENCE, &[]],
-    ] {
-        assert!(rt; is_damaged(rt.alloc(), &schema, &parts)?);
+const DAMAGED: [Parts; 13] = [
+    [&[3, 0, 0, 0, 2, 0, 0, 0, 1], &NONE, &NONE, &NONE, &[]],
+    [&[2, 128, 0, 0, 0, 0, 0, 0, 1], &NONE, &NONE, &NONE, &[]],
+    [&[2, 0, 0, 0, 2, 0, 0, 0, 3], &NONE, &NONE, &NONE, &[]],
+    [&HEAD, &NONE, &NONE, &NONE, &[0]],
+    [&HEAD, &NONE, &NONE, &[0, 0, 0], &[]],
+    [&HEAD, &SAME_ROWS, &NONE, &NONE, &[]],
+    [&HEAD, &OTHER_ROWS, &NONE, &NONE, &[]],
+    [&HEAD, &NO_KEY, &NONE, &NONE, &[]],
+    [&HEAD, &NONE, &OTHER_UNDOS, &NONE, &[]],
+    [&HEAD, &NONE, &OTHER_READ, &NONE, &[]],
+    [&HEAD, &NONE, &OLD_UNDOS, &NONE, &[]],
+    [&HEAD, &NONE, &NONE, &SAME_FENCES, &[]],
+    [&HEAD, &NONE, &NONE, &OTHER_FENCE, &[]],
+];
+
+/// Whether bytes are refused as damaged.
+fn is_refused(alloc: Global, schema: &Schema, bytes: &[u8]) -> bool {
+    match read_snapshot(alloc, bytes, 1, schema) {
+        Ok(snapshot) => {
+            drop(snapshot);
+            false
+        }
+        Err(error) => error == SnapshotError::Damaged,
+    }
+}
+
+fn is_damaged(alloc: Global, schema: &Schema, parts: &[&[u8]]) -> Result<bool, Fail> {
+    let bytes = joined(alloc, parts)?;
+    Ok(is_refused(alloc, schema, &bytes))
+}
+
+fn are_damaged(alloc: Global) -> Result<(), Fail> {
+    let schema = accounts(alloc)?;
+    for (k, parts) in DAMAGED.iter().enumerate() {
+        if !is_damaged(alloc, &schema, parts)? {
+            return Err(Fail::Case(k));
+        }
     }
     Ok(())
+}
+
+#[test]
+fn each_damage_is_refused(rt: HostRuntime) -> Result<(), Fail> {
+    are_damaged(rt.alloc())
 }

@@ -1,10 +1,9 @@
-//! Tests of what a resource keeps of its branches, and of what its disks keep, over public calls.
+//! Tests of what a resource keeps of its branches, where no scenario comes: what earlier programs left, damage, refusals, and
+//! what nothing but a test asks for.
 #![tactic(auto)]
 
 #[cfg(test)]
-mod at_branches;
-#[cfg(test)]
-mod fences;
+mod earlier_disks;
 #[cfg(test)]
 mod kept_records;
 #[cfg(test)]
@@ -12,20 +11,6 @@ mod kept_snapshots;
 #[cfg(test)]
 mod local_txns;
 #[cfg(test)]
-mod local_writes;
-#[cfg(test)]
-mod resource_memories;
-#[cfg(test)]
-mod resources;
-#[cfg(test)]
-mod same_images;
-#[cfg(test)]
 mod samples;
-#[cfg(test)]
-mod store_crashes;
-#[cfg(test)]
-mod stores;
-#[cfg(test)]
-mod tcc_branches;
 #[cfg(test)]
 mod undo_logs;

@@ -1,15 +1,54 @@
-//! What several tests share: branches, bytes, tables and statements.
+//! What several tests share: why a test fails, branches, bytes, tables and statements.
 ghost use Rattle.std.specs.Prelude.{◌≡◌, [], length, IfOk};
 ghost use Rattle.branch_tests.specs.Accounts.{account_table, accounts};
 
 use local_tables::{ColType, Schema, TableDef, Tables};
-use seata_types::{BranchId, BranchKind, Leg, List, RowKey, Stmt, Text, Value, Xid};
+use seata_types::{BranchId, BranchKind, Leg, List, NoMemory, RowKey, Stmt, Text, Value, Xid};
 use sql_reader::read_stmt;
-use std::alloc::Global;
-use std::test::Fail;
+use std::alloc::{AllocError, AllocFailed, Global};
+
+/// Why a test fails.
+#[derive(Clone, Copy, Debug, PartialEq)]
+pub enum Fail {
+    NoMemory,
+    /// A call failed that was to pass.
+    Failed,
+    /// Two disks are damaged.
+    Damaged,
+    /// This isn't so.
+    Differs(&'static str),
+    /// It isn't so in the case with this number, counted from 0.
+    Case(usize),
+}
+
+impl From<NoMemory> for Fail {
+    fn from(_: NoMemory) -> Fail {
+        Fail::NoMemory
+    }
+}
+
+impl From<AllocError> for Fail {
+    fn from(_: AllocError) -> Fail {
+        Fail::NoMemory
+    }
+}
+
+impl<T: Drop> From<AllocFailed<T>> for Fail {
+    fn from(_: AllocFailed<T>) -> Fail {
+        Fail::NoMemory
+    }
+}
+
+/// A test of what a name says.
+pub fn so(is: bool, what: &'static str) -> Result<(), Fail> {
+    if is { Ok(()) } else { Err(Fail::Differs(what)) }
+}
 
 /// Branch 1 of transaction 1.
 pub const LEG: [u8; 16] = [0, 0, 0, 0, 0, 0, 0, 1, 0, 0, 0, 0, 0, 0, 0, 1];
+
+/// A record's or a snapshot's bytes, in parts.
+pub type Parts = [&'static [u8]; 5];
 
 /// Of table acc of resource 1, the row with key 1 was (1, 1000) and is (1, 900).
 pub const IMAGES: [u8; 61] = [
@@ -93,6 +132,6 @@ pub fn statements(alloc: Global, words: &str) -> Result<Vec<Stmt>, Fail>
 {
     match read_stmt(alloc, words) {
         Ok(stmt) => Ok(Vec::from_array(alloc, [stmt])?),
-        Err(_) => Err(Fail::from("no statement")),
+        Err(_) => Err(Fail::Failed),
     }
 }

@@ -7,6 +7,8 @@ mod disks;
 #[cfg(test)]
 mod journals;
 #[cfg(test)]
+mod samples;
+#[cfg(test)]
 mod twins;
 
 pub use arming::{arm_active, arm_other};

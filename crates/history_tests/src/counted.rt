@@ -10,17 +10,15 @@ ghost use Rattle.coordinator_core.specs.Costs.{held_rows};
 ghost use Rattle.coordinator_core.specs.Standing.{is_down, sessions_of, steps_left};
 ghost use Rattle.history_tests.specs.Served.{Serves};
 
-use crate::served;
-use crate::steps::{answer_line, is_line};
+use crate::errors::Fail;
+use crate::steps::has_line;
 use coordinator_core::Coordinator;
 use disk_model::MemDisk;
 use history_text::Node;
 use lock_table::Steps;
 use seata_types::{BranchKind, Input, List, Message, NodeError, Place, Step, Ticket, Xid};
 use std::alloc::Global;
-use std::marker::Brand;
 use std::sync::ledger::{Blank, Ledger};
-use std::test::Fail;
 
 /// The registration of transaction 1's first call, of TCC mode and without rows.
 fn registration(alloc: Global) -> Input
@@ -57,13 +55,13 @@ fn register<L: Ledger, P: Ledger>(
     tc.step_counting_passes(alloc, registration(alloc), 0, steps, passes)
 }
 
-/// Whether transaction 1 begins, and its branch is registered.
-fn registers<L: Ledger, P: Ledger>(
+/// Whether its branch is granted.
+pub fn counts<L: Ledger, P: Ledger>(
     alloc: Global,
     tc: &mut Coordinator<MemDisk>,
     steps: Blank,
     passes: Blank,
-) -> Result<bool, Fail>
+) -> Result<(), Fail>
     requires serves { Serves tc.old }
     requires steps_name { steps.name ≡ L.name }
     requires steps_parts { steps.parts ≡ L.parts }
@@ -74,29 +72,10 @@ fn registers<L: Ledger, P: Ledger>(
 {
     let mut steps = Steps::<L>::new(steps);
     let mut passes = Steps::<P>::new(passes);
-    let begin = served::begin(1, 60000)?;
-    let begun = served::line(alloc, tc, begin, 0)?;
     if tc.is_down() || tc.steps_left() == 0 {
-        return Err(Fail::from("no step is left"));
+        return Err(Fail::Other("no step is left"));
     }
     let answer = register(alloc, tc, &mut steps, &mut passes);
-    let line = answer_line(alloc, Place::Tc, answer);
-    let granted = is_line(
-        line,
-        "1 tc 0 turn | granted tc:1 b1 | granted t1.1 tc:1 b1 to r1",
-    )?;
-    Ok(granted && begun.as_str() == "1 tc 0 turn | begun tc:1 | begun tc:1 to m1")
-}
-
-fn counts(alloc: Global) -> Result<bool, Fail> {
-    let mut tc = served::open(alloc)?;
-    let good = registers::<Brand, Brand>(alloc, &mut tc, Blank::new(1), Blank::new(1));
-    drop(tc);
-    good
-}
-
-#[test]
-fn counts_a_registration(rt: HostRuntime) -> Result<(), Fail> {
-    assert!(rt; counts(rt.alloc())?);
-    Ok(())
+    let wanted = "1 tc 0 turn | granted tc:1 b1 | granted t1.1 tc:1 b1 to r1";
+    has_line(alloc, Place::Tc, answer, wanted)
 }

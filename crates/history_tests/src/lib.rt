@@ -1,14 +1,13 @@
-//! Tests of histories' lines, written and read, and of the coordinator, a resource and a manager, over their public calls.
+//! Tests of histories' lines, written and read, and of what the coordinator, a manager and a resource answer that no scenario
+//! asks, over their public calls.
 #![tactic(auto)]
 
-#[cfg(test)]
-mod branches;
 #[cfg(test)]
 mod coordinator;
 #[cfg(test)]
 mod counted;
 #[cfg(test)]
-mod kept_bytes;
+mod errors;
 #[cfg(test)]
 mod lines;
 #[cfg(test)]
@@ -16,10 +15,8 @@ mod manager;
 #[cfg(test)]
 mod reading;
 #[cfg(test)]
-mod resources;
+mod resource;
 #[cfg(test)]
 mod served;
 #[cfg(test)]
 mod steps;
-#[cfg(test)]
-mod stops;

@@ -1,9 +1,9 @@
 //! The lines of entries read back, and the lines that no entry has.
+use crate::errors::Fail;
 use entry_reader::{LineError, read_entry};
 use history_text::{Entry, Names, write_entry};
 use seata_types::{List, NoMemory, Text};
 use std::alloc::Global;
-use std::test::Fail;
 
 /// A line of each kind of cause, act and message.
 const LINES: [&str; 83] = [
@@ -161,16 +161,17 @@ const NO_LINES: [&str; 62] = [
 fn listed(alloc: Global, words: &[&str]) -> Result<List<Text>, NoMemory> {
     let mut names = Vec::new(alloc);
     for word in words {
-        let name = String::from_str(alloc, word).map_err(|_| NoMemory)?;
-        names.push(Text::of(name)).map_err(|_| NoMemory)?;
+        let name = String::from_str(alloc, word)?;
+        names.push(Text::of(name))?;
     }
     Ok(List::of(names))
 }
 
-fn names(alloc: Global) -> Result<Names, NoMemory> {
+/// The names of resources and of managers.
+pub fn names_of(alloc: Global, resources: &[&str], managers: &[&str]) -> Result<Names, NoMemory> {
     Ok(Names {
-        resources: listed(alloc, &["A", "B"])?,
-        managers: listed(alloc, &["m1"])?,
+        resources: listed(alloc, resources)?,
+        managers: listed(alloc, managers)?,
     })
 }
 
@@ -203,24 +204,37 @@ fn is_refused(alloc: Global, line: &str, names: &Names) -> bool {
     }
 }
 
-#[test]
-fn reads_each_kind_of_line(rt: HostRuntime) -> Result<(), Fail> {
-    let Ok(names) = names(rt.alloc()) else {
-        return Err(Fail::from("memory"));
-    };
-    for line in &LINES {
-        assert!(rt; reads_back(rt.alloc(), line, &names), "{line}");
+fn read_back_each(alloc: Global, names: &Names) -> Result<(), Fail> {
+    for line in LINES {
+        if !reads_back(alloc, line, names) {
+            return Err(Fail::Other(line));
+        }
     }
     Ok(())
 }
 
-#[test]
-fn refuses_what_no_entry_is_printed_as(rt: HostRuntime) -> Result<(), Fail> {
-    let Ok(names) = names(rt.alloc()) else {
-        return Err(Fail::from("memory"));
-    };
-    for line in &NO_LINES {
-        assert!(rt; is_refused(rt.alloc(), line, &names), "{line}");
+fn refuse_each(alloc: Global, names: &Names) -> Result<(), Fail> {
+    for line in NO_LINES {
+        if !is_refused(alloc, line, names) {
+            return Err(Fail::Other(line));
+        }
     }
     Ok(())
+}
+
+fn read_each(alloc: Global, names: &Names) -> Result<(), Fail> {
+    read_back_each(alloc, names)?;
+    refuse_each(alloc, names)
+}
+
+fn are_read(alloc: Global) -> Result<(), Fail> {
+    let names = names_of(alloc, &["A", "B"], &["m1"])?;
+    let read = read_each(alloc, &names);
+    drop(names);
+    read
+}
+
+#[test]
+fn reads_each_kind_of_line_and_no_other(rt: HostRuntime) -> Result<(), Fail> {
+    are_read(rt.alloc())
 }

@@ -1,17 +1,10 @@
-//! Tests of what the coordinator's disks keep and of its tables, over public calls.
+//! Tests of what the coordinator's disks keep, over public calls: the bytes of records and snapshots, also in older layouts and
+//! damaged.
 #![tactic(auto)]
 
 #[cfg(test)]
-mod damaged_sessions;
-#[cfg(test)]
-mod kept_sessions;
-#[cfg(test)]
-mod loaded_memories;
-#[cfg(test)]
-mod locks;
-#[cfg(test)]
-mod memories;
+mod errors;
 #[cfg(test)]
 mod records;
 #[cfg(test)]
-mod turns;
+mod sessions;

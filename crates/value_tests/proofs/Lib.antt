@@ -1,3 +1,1 @@
-mod FeedGrowth
-mod InsertionLaws
-mod KeyParts
+pub mod KeyParts

@@ -1,16 +1,15 @@
-//! Messages as frames, whole and in pieces.
-ghost use Rattle.std.specs.Prelude.{◌<◌, IfOk};
+//! Messages as frames, both ways.
+ghost use Rattle.std.specs.Prelude.{IfOk};
 ghost use Rattle.byte_fields.specs.Layout.{FitsKey, FitsKeys};
 ghost use Rattle.frame_codec.specs.Limits.{IsKeyWithin, AreKeysWithin, IsFramable};
 
-use crate::copies::copied;
-use frame_codec::{FeedError, FrameError, FrameFeed, Framed, Packet, decode, encode};
+use crate::samples::{Fail, copied, so};
+use frame_codec::{Packet, encode};
 use seata_types::{
     BranchId, BranchKind, BranchStatus, CallAnswer, GlobalStatus, List, Message, NoMemory,
     Registered, RowKey, StmtError, Text, Ticket, Value, Why, Work, Xid,
 };
 use std::alloc::Global;
-use std::test::*;
 
 // Commit of transaction 7, request number 5.
 const COMMIT: [u8; 26] = [
@@ -57,29 +56,43 @@ fn packet_again(alloc: Global, packed: &Packet) -> Result<Packet, NoMemory> {
     packet(alloc, copy, stamp)
 }
 
-// The bytes of the message's packet, once they are the bytes of a copy of the opened message too.
-fn sent(alloc: Global, message: Message, stamp: u32) -> Result<Vec<u8>, Fail>
+// The packet of a message, once it has the bytes of the packet of a copy of the opened message too.
+fn sent(alloc: Global, message: Message, stamp: u32) -> Result<Packet, Fail>
     requires { IsFramable message }
 {
     let first = packet(alloc, message, stamp)?;
     let again = packet_again(alloc, &first)?;
-    if again.bytes() != first.bytes() {
-        return Err(Fail::from("opened otherwise"));
+    let is_same = again.bytes() == first.bytes();
+    drop(again);
+    if !is_same {
+        drop(first);
+        return Err(Fail::Differs("opened otherwise"));
     }
-    Ok(Vec::from_slice(alloc, first.bytes())?)
+    Ok(first)
 }
 
-#[test]
-fn known_bytes(rt: HostRuntime) -> Result<(), Fail> {
-    let commit = sent(rt.alloc(), Message::GlobalCommit { xid: Xid(7) }, 5)?;
-    assert_eq!(rt; commit.as_slice(), COMMIT.as_slice());
+// Whether a message is framed in these bytes.
+fn is_framed_as(alloc: Global, message: Message, stamp: u32, bytes: &[u8]) -> Result<bool, Fail>
+    requires { IsFramable message }
+{
+    let packet = sent(alloc, message, stamp)?;
+    Ok(packet.bytes() == bytes)
+}
+
+fn have_known_bytes(alloc: Global) -> Result<(), Fail> {
+    let commit = Message::GlobalCommit { xid: Xid(7) };
+    let is_commit = is_framed_as(alloc, commit, 5, &COMMIT)?;
     let begin = Message::Begin {
         manager: 1,
         timeout: 60_000,
     };
-    let begin = sent(rt.alloc(), begin, 1)?;
-    assert_eq!(rt; begin.as_slice(), BEGIN.as_slice());
-    Ok(())
+    let is_begin = is_framed_as(alloc, begin, 1, &BEGIN)?;
+    so(is_commit && is_begin, "known bytes")
+}
+
+#[test]
+fn known_bytes(rt: HostRuntime) -> Result<(), Fail> {
+    have_known_bytes(rt.alloc())
 }
 
 const BRANCH: BranchId = BranchId(3);
@@ -90,12 +103,14 @@ const TICKET: Ticket = Ticket { boot: 1, seq: 2 };
 fn typed(alloc: Global, message: Message, code: u16) -> Result<(), Fail>
     requires { IsFramable message }
 {
-    let bytes = sent(alloc, message, code as u32)?;
+    let packet = sent(alloc, message, code as u32)?;
     let wanted = code.to_be_bytes();
-    match bytes.get(16..18) {
-        Some(found) if found == wanted.as_slice() => Ok(()),
-        _ => Err(Fail::from("another type code")),
-    }
+    let is_coded = match packet.bytes().get(16..18) {
+        Some(found) => found == wanted.as_slice(),
+        None => false,
+    };
+    drop(packet);
+    so(is_coded, "a type code")
 }
 
 // One message of each type code that holds no list and no answer.
@@ -218,128 +233,14 @@ fn questions(alloc: Global) -> Result<(), Fail> {
     Ok(())
 }
 
+fn each_has_its_code(alloc: Global) -> Result<(), Fail> {
+    plain_messages(alloc)?;
+    registrations(alloc)?;
+    answers(alloc)?;
+    questions(alloc)
+}
+
 #[test]
 fn each_type(rt: HostRuntime) -> Result<(), Fail> {
-    plain_messages(rt.alloc())?;
-    registrations(rt.alloc())?;
-    answers(rt.alloc())?;
-    questions(rt.alloc())
-}
-
-// The commit's frame with some bytes put in place of others.
-fn changed(changes: &[(usize, u8)]) -> [u8; 26] {
-    let mut bytes = COMMIT;
-    for (place, byte) in changes {
-        if *place < bytes.len() {
-            bytes[*place] = *byte;
-        }
-    }
-    bytes
-}
-
-#[test]
-fn faults(rt: HostRuntime) -> Result<(), Fail> {
-    let length = [(3, 255), (4, 255), (5, 255), (6, 255)];
-    let cases: [(&[(usize, u8)], FrameError); 13] = [
-        (&[(0, 0xdb)], FrameError::Magic),
-        (&[(2, 1)], FrameError::Version),
-        (&length, FrameError::Length),
-        (&[(6, 17)], FrameError::Length),
-        (&[(8, 0x0f)], FrameError::Length),
-        (&[(11, 1)], FrameError::Compressed(1)),
-        (&[(6, 0x1b)], FrameError::Short { need: 27 }),
-        (&[(17, 0xff)], FrameError::UnknownType(255)),
-        (&[(17, 13)], FrameError::UnknownType(13)),
-        (&[(17, 17)], FrameError::UnknownType(17)),
-        (&[(9, 1)], FrameError::Body { at: 9 }),
-        (&[(10, 2)], FrameError::Body { at: 10 }),
-        (&[(6, 0x19)], FrameError::Body { at: 18 }),
-    ];
-    for (changes, fault) in cases {
-        let found = decode(rt.alloc(), &changed(changes)).err();
-        assert_eq!(rt; found, Some(fault));
-    }
-    let short = decode(rt.alloc(), &COMMIT[..15]).err();
-    assert_eq!(rt; short, Some(FrameError::Short { need: 16 }));
-    let cut = decode(rt.alloc(), &COMMIT[..20]).err();
-    assert_eq!(rt; cut, Some(FrameError::Short { need: 26 }));
-
-    let mut longer = Vec::from_slice(rt.alloc(), &changed(&[(6, 0x1b)]))?;
-    longer.push(0)?;
-    let ended = decode(rt.alloc(), &longer).err();
-    assert_eq!(rt; ended, Some(FrameError::Body { at: 26 }));
-    Ok(())
-}
-
-// A call of transaction 7 by manager 1 on resource 2, its call 3, with one statement.
-const CALL: [u8; 52] =
-    *b"\xda\xda\x02\0\0\0\x34\0\x10\0\x01\0\0\0\0\x05\0\xc9\0\0\0\0\0\0\0\x07\0\x01\0\x02\0\x03\0\0\x01\0\x0fDELETE FROM acc";
-
-// A statement is read from its canonical text alone.
-#[test]
-fn statements(rt: HostRuntime) -> Result<(), Fail> {
-    assert!(rt; decode(rt.alloc(), &CALL).is_ok());
-    // A small letter, a name that is a keyword, and a text of no statement.
-    for (place, byte) in [(37, b'd'), (49, b' '), (37, b'X')] {
-        let mut bytes = CALL;
-        bytes[place] = byte;
-        let fault = decode(rt.alloc(), &bytes).err();
-        assert_eq!(rt; fault, Some(FrameError::Body { at: 35 }));
-    }
-    Ok(())
-}
-
-fn note_places(places: &mut Vec<u64>, frames: &[Framed]) -> Result<(), Fail> {
-    for frame in frames {
-        places.push(frame.at)?;
-    }
-    Ok(())
-}
-
-// The places of the frames that pieces of so many bytes give, and how the feed ends.
-fn fed(
-    alloc: Global,
-    bytes: &[u8],
-    step: usize,
-    places: &mut Vec<u64>,
-) -> Result<Option<(u64, FrameError)>, Fail>
-    requires { 0 < step }
-{
-    let mut feed = FrameFeed::new(alloc);
-    let mut at = 0;
-    while at < bytes.len() {
-        let end = bytes.len().min(at.saturating_add(step));
-        let frames = match feed.feed(alloc, &bytes[at..end]) {
-            Ok(frames) => frames,
-            Err(FeedError::Bad { before, .. }) => before,
-            Err(FeedError::NoMemory) => return Err("memory")?,
-        };
-        note_places(places, frames.as_slice())?;
-        at = end;
-    }
-    Ok(feed.finish())
-}
-
-#[test]
-fn pieces(rt: HostRuntime) -> Result<(), Fail> {
-    let mut two = Vec::from_slice(rt.alloc(), &BEGIN)?;
-    two.extend_from_slice(&COMMIT)?;
-    let cut = &two[..40];
-    let mut bad = Vec::from_slice(rt.alloc(), &two)?;
-    bad[28] = 0;
-    let cases: [(&[u8], &[u64], Option<(u64, FrameError)>); 4] = [
-        (&[], &[], None),
-        (&two, &[0, 28], None),
-        (cut, &[0], Some((28, FrameError::Short { need: 16 }))),
-        (&bad, &[0], Some((28, FrameError::Magic))),
-    ];
-    for (bytes, expected, end) in cases {
-        for step in [1, 27, 54] {
-            let mut places = Vec::new(rt.alloc());
-            let found = fed(rt.alloc(), bytes, step, &mut places)?;
-            assert_eq!(rt; found, end);
-            assert_eq!(rt; places.as_slice(), expected);
-        }
-    }
-    Ok(())
+    each_has_its_code(rt.alloc())
 }

@@ -1,4 +1,4 @@
-//! Tests of values, statements, fields, frames, tables and images, over their public calls.
+//! Tests of statements, fields, frames, tables, images and copies, over their public calls.
 #![tactic(auto)]
 
 #[cfg(test)]
@@ -10,14 +10,10 @@ mod frames;
 #[cfg(test)]
 mod images;
 #[cfg(test)]
-mod many_images;
+mod samples;
 #[cfg(test)]
 mod statements;
-#[cfg(test)]
-mod steps;
 #[cfg(test)]
 mod tables;
 #[cfg(test)]
 mod tellings;
-#[cfg(test)]
-mod types;

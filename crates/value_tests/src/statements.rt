@@ -1,11 +1,10 @@
 //! Statements: texts with their exact answers.
 ghost use Rattle.sql_reader.specs.Readable.{IsReadable};
 
-use crate::copies::copied;
+use crate::samples::{Fail, copied};
 use seata_types::{NoMemory, Stmt};
-use sql_reader::{SqlError, read_stmt, write_stmt};
+use sql_reader::{SqlError, SqlKind, read_stmt, write_stmt};
 use std::alloc::Global;
-use std::test::Fail;
 
 /// Texts in the grammar, each with the canonical text of its statement.
 const READ: [(&str, &str); 42] = [
@@ -147,86 +146,103 @@ const READ: [(&str, &str); 42] = [
 ];
 
 /// Texts outside it, each with the place and the kind of its refusal.
-const REFUSED: [(&str, &str); 64] = [
-    ("", "0 End"),
-    ("  \n", "3 End"),
-    (";", "0 Token"),
-    ("FOO", "0 Token"),
-    ("TABLE t", "0 Token"),
-    ("'x'", "0 Token"),
-    ("7", "0 Token"),
-    ("UPDATE acc SET", "14 End"),
-    ("UPDATE acc SET  ", "16 End"),
-    ("UPDATE", "6 End"),
-    ("UPDATE set SET m = 1", "7 Token"),
-    ("UPDATE Acc SET m = 1", "7 Token"),
-    ("UPDATE accX SET m = 1", "7 Token"),
-    ("UPDATE _a SET m = 1", "7 Token"),
+const REFUSED: [(&str, usize, SqlKind); 64] = [
+    ("", 0, SqlKind::End),
+    ("  \n", 3, SqlKind::End),
+    (";", 0, SqlKind::Token),
+    ("FOO", 0, SqlKind::Token),
+    ("TABLE t", 0, SqlKind::Token),
+    ("'x'", 0, SqlKind::Token),
+    ("7", 0, SqlKind::Token),
+    ("UPDATE acc SET", 14, SqlKind::End),
+    ("UPDATE acc SET  ", 16, SqlKind::End),
+    ("UPDATE", 6, SqlKind::End),
+    ("UPDATE set SET m = 1", 7, SqlKind::Token),
+    ("UPDATE Acc SET m = 1", 7, SqlKind::Token),
+    ("UPDATE accX SET m = 1", 7, SqlKind::Token),
+    ("UPDATE _a SET m = 1", 7, SqlKind::Token),
     (
         "UPDATE a23456789012345678901234567890_12 SET m = 1",
-        "7 Token",
+        7,
+        SqlKind::Token,
     ),
-    ("UPDATE t m = 1", "9 Token"),
-    ("UPDATE t SET m 1", "15 Token"),
-    ("UPDATE t SET m = - x", "19 Token"),
-    ("UPDATE t SET m = 1 2", "19 Token"),
-    ("UPDATE t SET m = 1,", "19 End"),
-    ("UPDATE t SET m = 1 +", "20 End"),
-    ("UPDATE t SET m = WHERE", "17 Token"),
-    ("UPDATE t SET m < 1", "15 Token"),
-    ("INSERT acc", "7 Token"),
-    ("INSERT INTO acc VALUES (1)", "16 Token"),
-    ("INSERT INTO acc () VALUES (1)", "17 Token"),
-    ("INSERT INTO acc (id VALUES (1)", "20 Token"),
-    ("INSERT INTO acc (id) VALUES ()", "29 Token"),
-    ("INSERT INTO acc (id) VALUES (x)", "29 Token"),
-    ("INSERT INTO acc (id) VALUES (1", "30 End"),
-    ("INSERT INTO acc (id) VALUES (1)(2)", "31 Token"),
-    ("DELETE acc", "7 Token"),
-    ("DELETE FROM t;;", "14 Token"),
-    ("DELETE FROM t; x", "15 Token"),
-    ("DELETE FROM t WHERE", "19 End"),
-    ("DELETE FROM t WHERE a", "21 End"),
-    ("DELETE FROM t WHERE a = b", "24 Token"),
-    ("DELETE FROM t WHERE 1 = a", "20 Token"),
-    ("DELETE FROM t WHERE a ! = 1", "22 Token"),
-    ("DELETE FROM t WHERE a < > 1", "24 Token"),
-    ("DELETE FROM t WHERE a == 1", "23 Token"),
-    ("DELETE FROM t WHERE (a = 1", "26 End"),
-    ("DELETE FROM t WHERE a = 1)", "25 Token"),
-    ("DELETE FROM t WHERE a = 1 AND", "29 End"),
-    ("DELETE FROM t WHERE a = 1 b", "26 Token"),
-    ("SELECT a FROM t FOR UPDATE", "7 Token"),
-    ("SELECT * FROM t", "15 End"),
-    ("SELECT * FROM t FOR", "19 End"),
-    ("SELECT * FROM t FOR DELETE", "20 Token"),
-    ("DELETE FROM t WHERE a=9223372036854775808", "22 Number"),
-    ("DELETE FROM t WHERE a=-9223372036854775809", "22 Number"),
+    ("UPDATE t m = 1", 9, SqlKind::Token),
+    ("UPDATE t SET m 1", 15, SqlKind::Token),
+    ("UPDATE t SET m = - x", 19, SqlKind::Token),
+    ("UPDATE t SET m = 1 2", 19, SqlKind::Token),
+    ("UPDATE t SET m = 1,", 19, SqlKind::End),
+    ("UPDATE t SET m = 1 +", 20, SqlKind::End),
+    ("UPDATE t SET m = WHERE", 17, SqlKind::Token),
+    ("UPDATE t SET m < 1", 15, SqlKind::Token),
+    ("INSERT acc", 7, SqlKind::Token),
+    ("INSERT INTO acc VALUES (1)", 16, SqlKind::Token),
+    ("INSERT INTO acc () VALUES (1)", 17, SqlKind::Token),
+    ("INSERT INTO acc (id VALUES (1)", 20, SqlKind::Token),
+    ("INSERT INTO acc (id) VALUES ()", 29, SqlKind::Token),
+    ("INSERT INTO acc (id) VALUES (x)", 29, SqlKind::Token),
+    ("INSERT INTO acc (id) VALUES (1", 30, SqlKind::End),
+    ("INSERT INTO acc (id) VALUES (1)(2)", 31, SqlKind::Token),
+    ("DELETE acc", 7, SqlKind::Token),
+    ("DELETE FROM t;;", 14, SqlKind::Token),
+    ("DELETE FROM t; x", 15, SqlKind::Token),
+    ("DELETE FROM t WHERE", 19, SqlKind::End),
+    ("DELETE FROM t WHERE a", 21, SqlKind::End),
+    ("DELETE FROM t WHERE a = b", 24, SqlKind::Token),
+    ("DELETE FROM t WHERE 1 = a", 20, SqlKind::Token),
+    ("DELETE FROM t WHERE a ! = 1", 22, SqlKind::Token),
+    ("DELETE FROM t WHERE a < > 1", 24, SqlKind::Token),
+    ("DELETE FROM t WHERE a == 1", 23, SqlKind::Token),
+    ("DELETE FROM t WHERE (a = 1", 26, SqlKind::End),
+    ("DELETE FROM t WHERE a = 1)", 25, SqlKind::Token),
+    ("DELETE FROM t WHERE a = 1 AND", 29, SqlKind::End),
+    ("DELETE FROM t WHERE a = 1 b", 26, SqlKind::Token),
+    ("SELECT a FROM t FOR UPDATE", 7, SqlKind::Token),
+    ("SELECT * FROM t", 15, SqlKind::End),
+    ("SELECT * FROM t FOR", 19, SqlKind::End),
+    ("SELECT * FROM t FOR DELETE", 20, SqlKind::Token),
+    (
+        "DELETE FROM t WHERE a=9223372036854775808",
+        22,
+        SqlKind::Number,
+    ),
+    (
+        "DELETE FROM t WHERE a=-9223372036854775809",
+        22,
+        SqlKind::Number,
+    ),
     (
         "DELETE FROM t WHERE a=-  99999999999999999999999",
-        "22 Number",
+        22,
+        SqlKind::Number,
     ),
-    ("UPDATE t SET m = n - 9223372036854775808", "21 Number"),
-    ("DELETE FROM t WHERE a='x", "22 Text"),
-    ("DELETE FROM t WHERE a='x''", "22 Text"),
-    ("DELETE FROM t WHERE a='x\ny'", "22 Text"),
-    ("DELETE FROM t WHERE a='\u{7f}'", "22 Text"),
+    (
+        "UPDATE t SET m = n - 9223372036854775808",
+        21,
+        SqlKind::Number,
+    ),
+    ("DELETE FROM t WHERE a='x", 22, SqlKind::Text),
+    ("DELETE FROM t WHERE a='x''", 22, SqlKind::Text),
+    ("DELETE FROM t WHERE a='x\ny'", 22, SqlKind::Text),
+    ("DELETE FROM t WHERE a='\u{7f}'", 22, SqlKind::Text),
     (
         "DELETE FROM t WHERE a='xxxxxxxxxxxxxxxxxxxxxxxxxxxxxxxxxxxxxxxxxxxxxxxxxxxxxxxxxxxxxxxxxxxxxxxxxxxxxxxxxxxxxxxxxxxxxxxxxxxxxxxxxxxxxxxxxxxxxxxxx'",
-        "22 Text",
+        22,
+        SqlKind::Text,
     ),
     (
         "DELETE FROM t WHERE NOT NOT NOT NOT NOT NOT NOT NOT NOT NOT NOT NOT NOT NOT NOT NOT NOT a=1",
-        "84 Depth",
+        84,
+        SqlKind::Depth,
     ),
     (
         "DELETE FROM t WHERE (((((((((((((((((a=1)))))))))))))))))",
-        "36 Depth",
+        36,
+        SqlKind::Depth,
     ),
-    ("DELETE FROM t WHERE # = 1", "20 Token"),
-    ("DELETE FROM t WHERE \u{e9} = 1", "20 Token"),
-    ("DELETE FROM t 'x", "14 Token"),
-    ("DELETE FROM 99999999999999999999", "12 Token"),
+    ("DELETE FROM t WHERE # = 1", 20, SqlKind::Token),
+    ("DELETE FROM t WHERE \u{e9} = 1", 20, SqlKind::Token),
+    ("DELETE FROM t 'x", 14, SqlKind::Token),
+    ("DELETE FROM 99999999999999999999", 12, SqlKind::Token),
 ];
 
 fn written(alloc: Global, statement: Stmt) -> Result<String, NoMemory>
@@ -243,42 +259,50 @@ fn canonical(alloc: Global, statement: Stmt) -> Result<String, NoMemory>
     written(alloc, copy)
 }
 
-fn refusal(alloc: Global, error: SqlError) -> Result<String, Fail> {
-    match error {
-        SqlError::Refused { at, kind } => Ok(format!(in alloc; "{at} {kind:?}")?),
-        SqlError::NoMemory => Err(Fail::from("no memory")),
-    }
-}
-
-/// The canonical text of the statement that a text is, or the place and the kind of its refusal.
-fn told(alloc: Global, text: &str) -> Result<String, Fail> {
+/// The canonical text of the statement that a text is.
+fn written_again(alloc: Global, text: &str) -> Result<String, Fail> {
     match read_stmt(alloc, text) {
         Ok(statement) => Ok(canonical(alloc, statement)?),
-        Err(error) => refusal(alloc, error),
+        Err(_) => Err(Fail::Failed),
     }
 }
 
-/// The first text of which something else is told, with that; nothing where there is none.
-fn first_other(alloc: Global, cases: &[(&str, &str)]) -> Result<String, Fail> {
-    for (text, wanted) in cases {
-        let line = told(alloc, text)?;
-        if line.as_str() != *wanted {
-            return Ok(format!(in alloc; "{text}: {line}")?);
+fn are_read(alloc: Global) -> Result<(), Fail> {
+    for (text, wanted) in READ {
+        let line = written_again(alloc, text)?;
+        if line.as_str() != wanted {
+            return Err(Fail::Differs(text));
         }
     }
-    Ok(String::new(alloc))
+    Ok(())
 }
 
 #[test]
 fn texts_in_the_grammar(rt: HostRuntime) -> Result<(), Fail> {
-    let other = first_other(rt.alloc(), &READ)?;
-    assert_eq!(rt; other.as_str(), "");
+    are_read(rt.alloc())
+}
+
+/// Why a text is no statement; nothing where it is one.
+fn refusal(alloc: Global, text: &str) -> Option<SqlError> {
+    match read_stmt(alloc, text) {
+        Ok(statement) => {
+            drop(statement);
+            None
+        }
+        Err(error) => Some(error),
+    }
+}
+
+fn are_refused(alloc: Global) -> Result<(), Fail> {
+    for (text, at, kind) in REFUSED {
+        if refusal(alloc, text) != Some(SqlError::Refused { at, kind }) {
+            return Err(Fail::Differs(text));
+        }
+    }
     Ok(())
 }
 
 #[test]
 fn texts_outside_the_grammar(rt: HostRuntime) -> Result<(), Fail> {
-    let other = first_other(rt.alloc(), &REFUSED)?;
-    assert_eq!(rt; other.as_str(), "");
-    Ok(())
+    are_refused(rt.alloc())
 }

@@ -1,18 +1,14 @@
 //! Calls with their exact effects, on tables that are filled by statements.
 ghost use Rattle.std.specs.Prelude.{◌≡◌, []};
 
+use crate::samples::{Fail, so, text};
 use crate::tellings::{tell_effect, tell_error};
 use local_tables::{ColType, Schema, TableDef, Tables, Way};
 use seata_types::limits::FIELD_ITEMS;
-use seata_types::{BranchKind, List, Row, RowKey, Stmt, Text, Value};
+use seata_types::{BranchKind, List, Row, Stmt, Text};
 use sql_reader::read_stmt;
 use std::alloc::Global;
 use std::fmt::Write;
-use std::test::Fail;
-
-fn text(alloc: Global, word: &str) -> Result<Text, Fail> {
-    Ok(Text::of(String::from_str(alloc, word)?))
-}
 
 /// A table of numbers, but for the columns whose names are texts', with the places of its key columns.
 fn table(alloc: Global, name: &str, columns: &[&str], key: &[u16]) -> Result<TableDef, Fail> {
@@ -59,7 +55,7 @@ fn statements(alloc: Global, words: &str) -> Result<Vec<Stmt>, Fail> {
     let mut stmts = Vec::new(alloc);
     for part in words.split("; ") {
         let Ok(stmt) = read_stmt(alloc, part) else {
-            return Err(Fail::from("no statement"));
+            return Err(Fail::Failed);
         };
         stmts.push(stmt)?;
     }
@@ -74,7 +70,7 @@ fn tried(
     is_kept: bool,
 ) -> Result<String, Fail> {
     if stmts.len() > FIELD_ITEMS {
-        return Err(Fail::from("too many statements"));
+        return Err(Fail::Failed);
     }
     match tables.effect(alloc, stmts) {
         Ok(effect) => {
@@ -102,12 +98,6 @@ fn effect(alloc: Global, tables: &mut Tables, words: &str) -> Result<String, Fai
 
 const FILLING: &str =
     "INSERT INTO acc (id, m) VALUES (1, 5), (2, 7), (3, -4); INSERT INTO tag (n, k, t) VALUES (1, 'a', 'x'), (2, 'b', 'y'), (3, 'c', 'x'); INSERT INTO seat (who, no, line) VALUES ('p', 1, 2), ('q', 2, 1), ('r', 1, 1)";
-
-const ALL: &str =
-    "SELECT * FROM acc FOR UPDATE; SELECT * FROM seat FOR UPDATE; SELECT * FROM tag FOR UPDATE";
-
-const FILLED: &str =
-    "acc:1(1 5) acc:2(2 7) acc:3(3 -4) seat:1_1(1 1 'r) seat:1_2(2 1 'q) seat:2_1(1 2 'p) tag:'a(1 'a 'x) tag:'b(2 'b 'y) tag:'c(3 'c 'x) | 0 0 0";
 
 /// Calls and their effects: the images with the row before and after, the reads, and how many rows each statement
 /// touches; or the number of the first statement without a meaning, and why it has none.
@@ -260,27 +250,19 @@ const CALLS: [(&str, &str); 42] = [
     ),
 ];
 
-/// The first call of which something else is told, with that; nothing where there is none.
-fn first_other(alloc: Global, tables: &mut Tables, calls: &[(&str, &str)]) -> Result<String, Fail> {
+/// Whether each of these calls has its effect, which is then done and undone.
+fn have_effects(
+    alloc: Global,
+    tables: &mut Tables,
+    calls: &[(&'static str, &'static str)],
+) -> Result<(), Fail> {
     for (words, wanted) in calls {
         let told = effect(alloc, tables, words)?;
         if told.as_str() != *wanted {
-            return Ok(format!(in alloc; "{words}: {told}")?);
+            return Err(Fail::Differs(*words));
         }
     }
-    Ok(String::new(alloc))
-}
-
-/// The first call that leaves other rows once it is undone, with these; nothing where there is none.
-fn first_left(alloc: Global, tables: &mut Tables, calls: &[(&str, &str)]) -> Result<String, Fail> {
-    for (words, _) in calls {
-        drop(effect(alloc, tables, words)?);
-        let left = effect(alloc, tables, ALL)?;
-        if left.as_str() != FILLED {
-            return Ok(format!(in alloc; "{words}: {left}")?);
-        }
-    }
-    Ok(String::new(alloc))
+    Ok(())
 }
 
 /// Three tables with three rows each.
@@ -290,39 +272,16 @@ fn filled(alloc: Global) -> Result<Tables, Fail> {
     Ok(tables)
 }
 
+fn calls_have_effects(alloc: Global) -> Result<(), Fail> {
+    let mut tables = filled(alloc)?;
+    let answer = have_effects(alloc, &mut tables, &CALLS);
+    drop(tables);
+    answer
+}
+
 #[test]
 fn calls_on_three_tables(rt: HostRuntime) -> Result<(), Fail> {
-    let mut tables = filled(rt.alloc())?;
-    let other = first_other(rt.alloc(), &mut tables, &CALLS)?;
-    assert_eq!(rt; other.as_str(), "");
-    Ok(())
-}
-
-#[test]
-fn calls_that_are_undone(rt: HostRuntime) -> Result<(), Fail> {
-    let mut tables = filled(rt.alloc())?;
-    let other = first_left(rt.alloc(), &mut tables, &CALLS)?;
-    assert_eq!(rt; other.as_str(), "");
-    assert_eq!(rt; tables.rows(), 9);
-    Ok(())
-}
-
-/// Whether the table `acc` has a row with this key.
-fn stands(alloc: Global, tables: &Tables, number: i64) -> Result<bool, Fail> {
-    let key = RowKey {
-        resource: 1,
-        table: text(alloc, "acc")?,
-        pk: List::of(Vec::from_array(alloc, [Value::Int(number)])?),
-    };
-    Ok(tables.get(&key).is_some())
-}
-
-#[test]
-fn rows_by_their_keys(rt: HostRuntime) -> Result<(), Fail> {
-    let tables = filled(rt.alloc())?;
-    assert!(rt; stands(rt.alloc(), &tables, 1)?);
-    assert!(rt; !stands(rt.alloc(), &tables, 4)?);
-    Ok(())
+    calls_have_effects(rt.alloc())
 }
 
 /// An INSERT of rows from one key on.
@@ -336,34 +295,21 @@ fn many(alloc: Global, from: i64, count: i64) -> Result<String, Fail> {
     Ok(words)
 }
 
-/// The table `acc` with 4,096 rows, put in by calls of 256.
-fn full(alloc: Global) -> Result<Tables, Fail> {
-    let mut tables = opened(alloc)?;
+/// Puts 4,096 rows in the table `acc` by calls of 256.
+fn fill_up(alloc: Global, tables: &mut Tables) -> Result<(), Fail> {
     let mut from = 1i64;
     for _ in 0..16 {
         let words = many(alloc, from, 256)?;
-        drop(run(alloc, &mut tables, words.as_str())?);
+        drop(run(alloc, tables, words.as_str())?);
         from = from.saturating_add(256);
     }
-    Ok(tables)
-}
-
-#[test]
-fn a_call_of_too_many_rows(rt: HostRuntime) -> Result<(), Fail> {
-    let mut tables = opened(rt.alloc())?;
-    let words = many(rt.alloc(), 1, 257)?;
-    let told = effect(rt.alloc(), &mut tables, words.as_str())?;
-    assert_eq!(rt; told.as_str(), "1 TooManyRows");
     Ok(())
 }
 
-#[test]
-fn a_table_of_too_many_rows(rt: HostRuntime) -> Result<(), Fail> {
-    let mut tables = full(rt.alloc())?;
-    assert_eq!(rt; tables.rows(), 4096);
-    let other = first_other(rt.alloc(), &mut tables, &LIMITS)?;
-    assert_eq!(rt; other.as_str(), "");
-    Ok(())
+fn too_many_are_refused(alloc: Global, tables: &mut Tables) -> Result<(), Fail> {
+    let words = many(alloc, 1, 257)?;
+    let told = effect(alloc, tables, words.as_str())?;
+    so(told.as_str() == "1 TooManyRows", "a call of too many rows")
 }
 
 /// Calls on 4,096 rows.
@@ -394,3 +340,22 @@ const LIMITS: [(&str, &str); 7] = [
         "2 TooManyRows",
     ),
 ];
+
+fn limits_hold(alloc: Global, tables: &mut Tables) -> Result<(), Fail> {
+    too_many_are_refused(alloc, tables)?;
+    fill_up(alloc, tables)?;
+    so(tables.rows() == 4096, "the rows of a full table")?;
+    have_effects(alloc, tables, &LIMITS)
+}
+
+fn calls_have_limits(alloc: Global) -> Result<(), Fail> {
+    let mut tables = opened(alloc)?;
+    let answer = limits_hold(alloc, &mut tables);
+    drop(tables);
+    answer
+}
+
+#[test]
+fn calls_of_too_many_rows(rt: HostRuntime) -> Result<(), Fail> {
+    calls_have_limits(rt.alloc())
+}

@@ -1,10 +1,10 @@
 //! Effects as text: each image as its key with the row before and after, each read as its key with its row, and behind a bar
 //! how many rows each statement touches.
+use crate::samples::Fail;
 use local_tables::{Effect, EffectError};
 use seata_types::{Image, ReadRow, Row, RowKey, StmtError, Value};
 use std::alloc::Global;
 use std::fmt::Write;
-use std::test::Fail;
 
 fn tell_value(out: &mut String, value: &Value) -> Result<(), Fail> {
     match value {
@@ -68,36 +68,35 @@ pub fn tell_effect(alloc: Global, effect: &Effect) -> Result<String, Fail> {
     Ok(out)
 }
 
-fn tell_why(out: &mut String, why: &StmtError) -> Result<(), Fail> {
+/// The name of an error, and the key that it has, if it has one.
+fn word_of(why: &StmtError) -> (&'static str, Option<&RowKey>) {
     match why {
-        StmtError::NoTable => out.push_str("NoTable")?,
-        StmtError::NoColumn => out.push_str("NoColumn")?,
-        StmtError::Columns => out.push_str("Columns")?,
-        StmtError::KeyChanged => out.push_str("KeyChanged")?,
-        StmtError::TypeMismatch => out.push_str("TypeMismatch")?,
-        StmtError::TooManyRows => out.push_str("TooManyRows")?,
-        StmtError::Overflow { key } => {
-            out.push_str("Overflow ")?;
-            tell_key(out, key)?;
-        }
-        StmtError::Duplicate { key } => {
-            out.push_str("Duplicate ")?;
-            tell_key(out, key)?;
-        }
-        StmtError::TableFull => out.push_str("TableFull")?,
+        StmtError::NoTable => ("NoTable", None),
+        StmtError::NoColumn => ("NoColumn", None),
+        StmtError::Columns => ("Columns", None),
+        StmtError::KeyChanged => ("KeyChanged", None),
+        StmtError::TypeMismatch => ("TypeMismatch", None),
+        StmtError::TooManyRows => ("TooManyRows", None),
+        StmtError::Overflow { key } => ("Overflow ", Some(key)),
+        StmtError::Duplicate { key } => ("Duplicate ", Some(key)),
+        StmtError::TableFull => ("TableFull", None),
     }
-    Ok(())
+}
+
+fn tell_why(alloc: Global, index: u16, why: &StmtError) -> Result<String, Fail> {
+    let (word, key) = word_of(why);
+    let mut out = String::new(alloc);
+    write!(out, "{index} {word}")?;
+    if let Some(key) = key {
+        tell_key(&mut out, key)?;
+    }
+    Ok(out)
 }
 
 /// Why a call has no effect: the statement's number, and its error.
 pub fn tell_error(alloc: Global, error: &EffectError) -> Result<String, Fail> {
-    let mut out = String::new(alloc);
     match error {
-        EffectError::At { index, why } => {
-            write!(out, "{index} ")?;
-            tell_why(&mut out, why)?;
-        }
-        EffectError::NoMemory => out.push_str("NoMemory")?,
+        EffectError::At { index, why } => tell_why(alloc, *index, why),
+        EffectError::NoMemory => Err(Fail::NoMemory),
     }
-    Ok(out)
 }

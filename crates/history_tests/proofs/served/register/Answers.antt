@@ -1,8 +1,12 @@
-use Rattle.history_tests.proofs.Asked.{none_asked, rows_asked}
+use Rattle.std.proofs.Common.{sym, subst}
+use Rattle.seata_types.specs.declared.ids.Place.TheVariants as place
+use Rattle.seata_types.specs.declared.statuses.BranchKind.TheVariants as kind
+use Rattle.coordinator_core.specs.Serving.{ServesInput}
+use Rattle.history_tests.proofs.Asked.{register_served}
 use Rattle.history_tests.proofs.served.register.Goals as goal
 
-pub registration-requires-clause-hold : goal.registration-requires-clause-hold
-registration-requires-clause-hold c = rows_asked _ c.in-Ok.ensures
-
-pub registration-requires-clause-check : goal.registration-requires-clause-check
-registration-requires-clause-check c = none_asked _ c.no_rows.ensures
+pub returns : goal.returns
+returns c =
+    subst (ServesInput 2 1) (sym c.from_resource.ensures)
+    (register_served (place.Res 1) c.xid_of-xid.result c.args.call c.ticket_of-ticket.result kind.At c.no_rows-hold.result c.no_rows-check.result
+    c.xid_of-xid.ensures c.requires c.ticket_of-ticket.ensures c.no_rows-hold.ensures c.no_rows-check.ensures)
