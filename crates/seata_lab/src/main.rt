@@ -2,34 +2,12 @@
 //! prints a line for each.
 #![tactic(auto)]
 
-mod answers;
-#[cfg(test)]
-mod failing;
-mod frames;
-#[cfg(test)]
-mod gallery;
-mod laws;
-mod listings;
-mod memory;
-#[cfg(test)]
-mod rows;
-mod standard;
-mod statuses;
-mod streams;
-#[cfg(test)]
-mod tests;
-mod tops;
-mod transfer;
-mod words;
-
 use disk_model::MemShelf;
+use lab_calls::{MEMORY, StdSink, StdSource, top};
 use seata_types::Text;
-use standard::{StdSink, StdSource};
-use statuses::MEMORY;
 use std::env;
 use std::io::ErrorKind;
 use std::process::ExitCode;
-use tops::top;
 
 fn main(rt: HostRuntime) -> ExitCode {
     let mut words = Vec::new(rt.alloc());

@@ -1,0 +1,77 @@
+-- The status of a replay where no device fails.
+use Rattle.std.proofs.Common.{◌≡◌, ◌⊎◌, inl, inr, ◌||◌, ℕ, nat_eq, Bool, true, false, List, [], Some, Result, Ok, Err, slice_get, refl, ap, sym, subst, ◌∙◌, arith}
+use Rattle.std.proofs.lemmas.Bool.Decides.{nat_tests}
+use Rattle.std.proofs.lemmas.Option.{same_Some}
+use Rattle.disk_model.specs.Disk.{DiskState}
+use Rattle.scenario_reader.specs.declared.errors.ScenarioError.{ScenarioError}
+use Rattle.scenario_form.specs.declared.scenarios.Scenario.{Scenario}
+use Rattle.scenario_reader.specs.Form.{scenario_of}
+use Rattle.scenario_reader.specs.Reading.{IsJson, IsScenario, IsScenarioOf}
+use Rattle.history_text.specs.declared.entries.Entry.{Entry}
+use Rattle.node_seat.specs.declared.faults.RunFault.{RunFault}
+use Rattle.node_seat.specs.declared.faults.RunFault.TheVariants as run_fault
+use Rattle.scenario_nodes.specs.Shelves.{Showing}
+use Rattle.replay_runner.specs.Leaving.{IsCalmEnd, IsCalmShelf, server_names}
+use Rattle.replay_runner.specs.Leaving.{Replays as Replayed}
+use Rattle.replay_runner.proofs.Calm.{ends_calmly}
+use Rattle.lab_calls.specs.Answers.{IsEndText, Replays, TellsReplay, is_calm_end, is_end}
+use Rattle.lab_calls.specs.Streams.{Devices, IsCalm}
+
+-- ---- an input is no other scenario, but for the text under which it is kept
+
+names_in : Result Scenario ScenarioError → List (List ℕ)
+names_in (Ok s) = server_names s
+names_in (Err e) = []
+
+same_servers : (input : List ℕ) (r s : Scenario) → IsScenario input r → IsScenario input s → server_names r ≡ server_names s
+unfolding IsScenario IsScenarioOf IsJson names_in
+same_servers input r s a b =
+    let known : a.1 ≡ b.1 = same_Some a.1 b.1 (sym a.2.1 ∙ b.2.1) in
+    ap names_in (sym a.3.0 ∙ ap scenario_of known ∙ b.3.0)
+
+calm_of : {D : Type 0} (state : D → DiskState) (before after : Showing D) (r s : Scenario) → server_names r ≡ server_names s → IsCalmShelf state s before after → IsCalmShelf state r before after
+calm_of state before after r s same calm = record {
+  tells = calm.tells;
+  told = calm.told;
+  shelf = calm.shelf;
+  disks = λ name disk is given. calm.disks name disk (is.0, is.1, subst (λ names. slice_get names is.0 ≡ Some is.1) same is.2, is.3) given;
+}
+
+-- the status of such an end
+calm_text : (s : Scenario) (ended : Result (List Entry) RunFault) (text : List ℕ) (n : ℕ) → IsCalmEnd ended → IsEndText s ended text n → is_calm_end n ≡ true
+calm_text s (Ok es) text n calm t = rw t.0 refl
+calm_text s (Err (run_fault.Full at full)) text n calm t = rw t.1 refl
+calm_text s (Err run_fault.NoMemory) text n calm t = absurd (t.0 refl)
+calm_text s (Err (run_fault.Store at)) text n calm t = absurd calm
+calm_text s (Err (run_fault.Damaged at second offset)) text n calm t = absurd calm
+calm_text s (Err run_fault.Other) text n calm t = absurd calm
+
+module _ {D : Type 0} (state : D → DiskState) (before after : Showing D) (result : ℕ) (old new : Devices) (input : List ℕ) (told : old.left ≡ Some input) (s : Scenario) (is : IsScenario input s)
+    {IsDone : Scenario → List ℕ → Type 0} (said : TellsReplay (Replayed state before after) IsDone result old new) where
+  of_replay : (n : ℕ) → Replays (Replayed state before after) n input old new → IsCalmShelf state s before after → is_calm_end n ≡ true
+  of_replay n r calm = calm_text r.scenario r.is_replay.ended r.text n (ends_calmly state r.scenario before after r.is_replay.ended r.is_replay.has_ended (calm_of state before after r.scenario s (same_servers input r.scenario s r.is_scenario is) calm)) r.is_replay.is_text
+
+  pub calm_status : IsCalm old new → IsCalmShelf state s before after → is_calm_end result ≡ true
+  calm_status still calm = by (said.complete input s told is still)
+    where
+      three_never : is_calm_end 3 ≡ true → is_calm_end result ≡ true
+      three_never e = absurd (let no : false ≡ true = e in cc)
+
+      at : (zero six seven eight nine : Bool) → nat_eq result 0 ≡ zero → nat_eq result 6 ≡ six → nat_eq result 7 ≡ seven → nat_eq result 8 ≡ eight → nat_eq result 9 ≡ nine
+          → (zero || (six || (seven || (eight || (nine || false))))) ≡ true → (zero || (six || (eight || false))) ≡ true
+      at true six seven eight nine a b c d e known = refl
+      at false true seven eight nine a b c d e known = refl
+      at false false true eight nine a b c d e known =
+          let seven : result ≡ 7 = grind (arith, nat_tests) in
+          absurd (let no : is_calm_end 7 ≡ true = of_replay 7 (subst (λ n. Replays (Replayed state before after) n input old new) seven (said.replayed (rw seven refl) input told)) calm in
+          let never : false ≡ true = no in cc)
+      at false false false true nine a b c d e known = refl
+      at false false false false true a b c d e known =
+          let nine : result ≡ 9 = grind (arith, nat_tests) in
+          absurd (let no : is_calm_end 9 ≡ true = of_replay 9 (subst (λ n. Replays (Replayed state before after) n input old new) nine (said.replayed (rw nine refl) input told)) calm in
+          let never : false ≡ true = no in cc)
+      at false false false false false a b c d e known = absurd (let no : false ≡ true = known in cc)
+
+      by : (is_end result ≡ true) ⊎ Replays (Replayed state before after) 3 input old new → is_calm_end result ≡ true
+      by (inl known) = at (nat_eq result 0) (nat_eq result 6) (nat_eq result 7) (nat_eq result 8) (nat_eq result 9) refl refl refl refl refl known
+      by (inr r) = three_never (of_replay 3 r calm)

@@ -1,0 +1,13 @@
+use Rattle.lab_calls.proofs.Concluded.{concluded}
+use Rattle.lab_calls.specs.Answers.{IsFramesAnswer, frames_statuses}
+use Rattle.lab_calls.specs.Streams.{devices}
+use Rattle.lab_calls.proofs.FramesListed.{tells_frames, frames_texts}
+use Rattle.lab_calls.proofs.tops.frames_once.Goals as goal
+
+pub returns : goal.returns
+returns g c =
+    let old = devices g.S.Source.left g.S.Source.faults g.K.Sink.written g.K.Sink.faults c.args.source.now c.args.sink.now in
+    let new = devices g.S.Source.left g.S.Source.faults g.K.Sink.written g.K.Sink.faults c.list_input.new.source c.write_answer.new.sink in
+    let t = concluded IsFramesAnswer frames_statuses frames_texts c.write_answer.result old new c.list_input.result c.list_input.ensures.answer c.list_input.ensures.statuses c.list_input.ensures.failed
+    c.write_answer.ensures.whole c.write_answer.ensures.front c.write_answer.ensures.nothing in
+    record { frames = tells_frames c.write_answer.result old new t; faults = t.faults }

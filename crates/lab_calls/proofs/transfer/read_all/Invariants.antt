@@ -1,0 +1,16 @@
+use Rattle.std.proofs.Common.{◌≡◌, ◌≤◌, ◌-◌, ◌+◌, vec_len}
+use Rattle.seata_types.specs.declared.limits.TheConstants.{INPUT_BYTES, PIECE_BYTES}
+use Rattle.std.specs.Io.KnownBytes.{Consumes}
+use Rattle.lab_calls.proofs.transfer.read_all.Given as goal
+
+abbrev pub invariant-loop-bytes : goal.invariant-loop-bytes
+invariant-loop-bytes g l =
+    record {
+      most : vec_len l.bytes ≤ INPUT_BYTES + 1;
+      taken : Consumes (g.S.Source.left l.initial.source) (g.S.Source.left l.source) l.bytes.items;
+      counted : g.S.Source.faults l.initial.source ≤ g.S.Source.faults l.source;
+      buffer : vec_len l.buffer ≡ PIECE_BYTES;
+    }
+
+abbrev pub decreases-loop-bytes : goal.decreases-loop-bytes
+decreases-loop-bytes g l = INPUT_BYTES + 1 - vec_len l.bytes

@@ -1,0 +1,65 @@
+-- What the source and the sink in memory tell, and which of their calls fail.
+use Rattle.std.specs.Prelude.{ℕ, ◌+◌, ◌-◌, ◌^◌, min, nat_eq, Bool, List, drop, take, length, Option, Some}
+use Rattle.std.specs.List.{list_any}
+use Rattle.lab_calls.specs.declared.memory.MemSource.{MemSource}
+use Rattle.lab_calls.specs.declared.memory.MemSink.{MemSink}
+
+-- ---- calls, counted from 1
+
+-- the number of the next call after so many; it stands still at its greatest value
+abbrev pub next_call : ℕ → ℕ
+next_call calls = min (calls + 1) (2 ^ 32 - 1)
+
+-- whether the next call after so many is one that fails
+abbrev pub fails_next : List ℕ → ℕ → Bool
+fails_next failing calls = list_any (λ call. nat_eq call (next_call calls)) failing
+
+-- ---- a source
+
+-- the bytes that are left, as they are and as they are told
+abbrev pub left_of : MemSource → List ℕ
+left_of s = drop s.at s.bytes.items
+
+abbrev pub bytes_left : MemSource → Option (List ℕ)
+bytes_left s = Some (left_of s)
+
+-- how often it failed
+abbrev pub source_faults : MemSource → ℕ
+source_faults s = s.faults
+
+-- the calls that fail
+abbrev pub source_fails : MemSource → List ℕ
+source_fails s = s.failing.items
+
+-- the most bytes that a call gives
+abbrev pub source_step : MemSource → ℕ
+source_step s = s.step
+
+-- how many calls there were
+abbrev pub source_calls : MemSource → ℕ
+source_calls s = s.calls
+
+-- ---- a sink
+
+-- the bytes that were put into it
+abbrev pub bytes_written : MemSink → Option (List ℕ)
+bytes_written s = Some (take s.at s.bytes.items)
+
+-- how often it failed
+abbrev pub sink_faults : MemSink → ℕ
+sink_faults s = s.faults
+
+-- for how many bytes there is still room
+abbrev pub room_left : MemSink → ℕ
+room_left s = length s.bytes.items - s.at
+
+-- the most bytes that a call takes
+abbrev pub sink_step : MemSink → ℕ
+sink_step s = s.step
+
+-- the calls that fail, and how many there were
+abbrev pub sink_fails : MemSink → List ℕ
+sink_fails s = s.failing.items
+
+abbrev pub sink_calls : MemSink → ℕ
+sink_calls s = s.calls

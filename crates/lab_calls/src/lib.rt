@@ -1,0 +1,22 @@
+//! The calls of the program `seata_lab`, over any source, sink and shelf: one replay, one listing of frames, and what its words
+//! ask for.
+#![tactic(auto)]
+
+mod answers;
+mod frames;
+mod laws;
+mod listings;
+mod memory;
+mod standard;
+mod statuses;
+mod streams;
+mod tops;
+mod transfer;
+mod words;
+
+pub use laws::frames_have_their_lines;
+pub use memory::{MemSink, MemSource};
+pub use standard::{StdSink, StdSource};
+pub use statuses::MEMORY;
+pub use streams::{Failed, Sink, Source};
+pub use tops::{frames_once, replay_once, top};
