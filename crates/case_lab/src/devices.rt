@@ -81,15 +81,9 @@ impl FewDisks {
 impl Shelf for FewDisks {
     type D = MemDisk;
 
-    ghost use Rattle.std.specs.Prelude.{false};
+    ghost use Rattle.case_lab.specs.Few.{few_state};
 
-    ghost faults = { λ shelf. shelf.faults };
-
-    ghost tells = { λ _. false };
-
-    ghost has_place = { λ _ _. Unit {0} };
-
-    ghost given_back = { λ _ _ _. ⊥ };
+    ghost state = { few_state };
 
     fn take(&mut self, alloc: Global, name: &str, size: u64) -> Result<MemDisk, ShelfError> {
         if self.disks == 0 {

@@ -20,11 +20,11 @@ use Rattle.history_rules.specs.Devices.{is_down as down_by}
 use Rattle.history_rules.specs.CoordinatorMemory.{Times}
 use Rattle.history_rules.specs.Nodes.{Resource, Manager, happens}
 use Rattle.history_rules.specs.Nodes.{Coordinator as CoordinatorRole}
-use Rattle.history_text.specs.Promises.{Does, own_entry}
+use Rattle.node_steps.specs.Promises.{Does, own_entry}
 use Rattle.coordinator_core.specs.declared.nodes.Coordinator.{Coordinator}
 use Rattle.coordinator_core.specs.Knowledge.{knowledge, times_in}
 use Rattle.coordinator_core.specs.Moving.{ArmsPair, ArmsSessions, Arms}
-use Rattle.coordinator_core.specs.Standing.{StandsAs, StandsOver, course, pair_of, sessions_of, start_of, is_down, times_of}
+use Rattle.coordinator_core.specs.Standing.{node_state, StandsOver, course, pair_of, sessions_of, start_of, is_down, times_of}
 use Rattle.coordinator_core.specs.Stepping.{ArmsBy, CrashesBy}
 use Rattle.coordinator_core.specs.Tracks.{Follows}
 use Rattle.coordinator_core.proofs.Disks.{false_true, Moved, pair_on, same_kind, on_armed, on_crashed}
@@ -190,7 +190,7 @@ module _ {D : Type 0} (state : D → DiskState) where
       same_knowledge : knowledge c.table ≡ knowledge c'.table
       same_knowledge = λ i. record { retry = sym a.rest.retry i; forget = sym a.rest.forget i; memory = sym a.sessions.known i; moments = sym a.moments i }
 
-      arm_does : (now : ℕ) → Does (StandsAs state) c c' (Stopped calls) now (still act.Armed)
+      arm_does : (now : ℕ) → Does (node_state state c) (node_state state c') (Stopped calls) now (still act.Armed)
       arm_does now (CoordinatorRole times past) owns (same, s) = (
         armed_happens times past owns now calls (upon c past owns up s),
         (
@@ -221,7 +221,7 @@ module _ {D : Type 0} (state : D → DiskState) where
     -- its sessions fell, and nothing was in flight
     module _ (disks : SameDisks (sessions_of c) (sessions_of c')) (opening : SameOpening (sessions_of c) (sessions_of c')) (down : is_down c' ≡ true) where
       module _ (times : times_of c ≡ times_of c') (clock : start_of c' ≡ start_of c) (flight : c'.flight ≡ None) (count : c'.records ≡ (known (sessions_of c)).acts) where
-        crash_does : (now : ℕ) → Does (StandsAs state) c c' Crashed now (still (act.Down None None))
+        crash_does : (now : ℕ) → Does (node_state state c) (node_state state c') Crashed now (still (act.Down None None))
         crash_does now (CoordinatorRole role past) owns (same, s) =
             let keeps = s.disks.keeps (upon c past owns up s) in (
               crashed_happens role past owns now (upon c past owns up s),

@@ -22,8 +22,8 @@ use Rattle.session_store.specs.Keeping.{twin, is_down as sessions_down, managers
 use Rattle.history_rules.specs.Own.{Own, Given, Stopped, Crashed, still, added}
 use Rattle.history_rules.specs.Devices.{calls_left, fault_entries, is_short, may_stand, spent, is_down as down_by}
 use Rattle.history_rules.specs.CoordinatorMemory.{sessions_left, session_record}
-use Rattle.history_text.specs.Durable.{own_faults}
-use Rattle.history_text.specs.Promises.{own_entry, own_step, cut, DisksFail}
+use Rattle.node_steps.specs.Durable.{own_faults}
+use Rattle.node_steps.specs.Promises.{own_entry, own_step, cut, DisksFail}
 use Rattle.coordinator_core.specs.Moving.{ArmsSessions}
 use Rattle.coordinator_core.specs.Standing.{OnDisks, pair_of, active_of}
 

@@ -14,7 +14,7 @@ use Rattle.durable_records.specs.Progress.{may_decide, is_going, is_finished}
 use Rattle.durable_records.specs.SessionOrder.{Allowed, May, may, is_empty}
 use Rattle.history_rules.specs.Own.{Given, Own, added}
 use Rattle.history_rules.specs.CoordinatorMemory.{session_record, due_by_durable, rests_after}
-use Rattle.history_text.specs.Promises.{own_step}
+use Rattle.node_steps.specs.Promises.{own_step}
 use Rattle.retry_turns.specs.Plans.{moment_of, is_planned, with_plan}
 use Rattle.session_log.specs.declared.sessions.Snapshot.{Snapshot}
 use Rattle.session_log.specs.SnapshotOf.{snapshot_of}

@@ -26,15 +26,15 @@ use Rattle.history_rules.specs.Devices.{calls_left, in_flight, flight_after, may
 use Rattle.history_rules.specs.CoordinatorMemory.{Times, sessions_left, session_record}
 use Rattle.history_rules.specs.Nodes.{Role, Resource, Manager, happens}
 use Rattle.history_rules.specs.Nodes.{Coordinator as CoordinatorRole}
-use Rattle.history_text.specs.Durable.{keepable, own_faults}
-use Rattle.history_text.specs.Promises.{own_entry, AreTold, DisksFail, IsRestartError, Restarts, StandsAsBefore, StaysItself}
+use Rattle.node_steps.specs.Durable.{keepable, own_faults}
+use Rattle.node_steps.specs.Promises.{NodeState, own_entry, AreTold, DisksFail, IsRestartError, Restarts, StandsAsBefore, StaysItself}
 use Rattle.session_memory.proofs.Small.{none_some}
 use Rattle.coordinator_core.specs.declared.nodes.Coordinator.{Coordinator}
 use Rattle.coordinator_core.specs.Knowledge.{knowledge, memory}
 use Rattle.coordinator_core.specs.Moving.{ArmsPair, ArmsWith, FallsAgain, SameRest, StartsAgain, kept_of}
 use Rattle.coordinator_core.specs.Serving.{ServesInput}
-use Rattle.coordinator_core.specs.Standing.{StandsAs, StandsOver, OnDisks, IsFallen, StandsForEither, course, pair_of, active_of, disks_of, sessions_of, start_of, is_down, times_of, serves, size_of}
-use Rattle.coordinator_core.specs.Stepping.{RestartsBy, stands_at}
+use Rattle.coordinator_core.specs.Standing.{node_state, StandsOver, OnDisks, IsFallen, StandsForEither, course, pair_of, active_of, disks_of, sessions_of, start_of, is_down, times_of}
+use Rattle.coordinator_core.specs.Stepping.{RestartsBy}
 use Rattle.coordinator_core.specs.Starting.{started_on, no_moments}
 use Rattle.coordinator_core.specs.Tracks.{Tracks, Follows}
 use Rattle.coordinator_core.proofs.Arms.{same_pair}
@@ -242,7 +242,7 @@ module _ {D : Type 0} (state : D → DiskState) (ok : Bool) (pick : ℕ) (old ne
 
 -- what stays of a coordinator whose disks are of the same kind
 same_by : {D : Type 0} (state : D → DiskState) (c c' : Coordinator D) → SameOpening (sessions_of c) (sessions_of c') → SameKind (disks_of state c).first (disks_of state c').first
-    → SameKind (disks_of state c).second (disks_of state c').second → StaysItself stands_at serves (disks_of state) c c'
+    → SameKind (disks_of state c).second (disks_of state c').second → StaysItself (node_state state c) (node_state state c')
 same_by state c c' opening first second = record {
   same_place = refl;
   same_inputs = λ given s. subst (λ m. ServesInput m (resources_of (sessions_of c')) given) (sym opening.managers) (subst (λ k. ServesInput (managers_of (sessions_of c)) k given) (sym opening.resources) s);
@@ -270,27 +270,27 @@ module _ {D : Type 0} (state : D → DiskState) (law : (d : Stoppable D) → IsL
   some_list past owns a b (inl e) = ((sessions_left past owns).records, e)
   some_list past owns a b (inr (r, is, e)) = (r ∷ (sessions_left past owns).records, e)
 
-  cause_by : (times : Times) (past : List SessionRecord) (failed : Type 0) (pair : Pair) (size : ℕ) (error : OpenError) → IsNoDamage error → (error ≡ open_error.Failed → failed)
-      → IsRestartError (CoordinatorRole times past) failed pair size error
-  cause_by times past failed pair size open_error.Failed none fails = fails refl
-  cause_by times past failed pair size (open_error.Damaged second at) none fails = absurd none
-  cause_by times past failed pair size (open_error.Full full) none fails = absurd none
-  cause_by times past failed pair size open_error.NoMemory none fails = tt
+  cause_by : (role : Role) (old new : NodeState) (error : OpenError) → IsNoDamage error → (error ≡ open_error.Failed → DisksFail old.disks new.disks) → IsRestartError role old new error
+  cause_by role old new open_error.Failed none fails = fails refl
+  cause_by role old new (open_error.Damaged second at) none fails = absurd none
+  cause_by role old new (open_error.Full full) none fails = absurd none
+  cause_by role old new open_error.NoMemory none fails = tt
 
   -- bytes that it stands for are never damaged
-  pub restart_cause : (pair : Pair) (size : ℕ) (failed : Type 0) (error : OpenError) → AreTold (disks_of state c)
+  pub restart_cause : (c' : Coordinator D) (error : OpenError) → AreTold (disks_of state c)
       → SameKind (disks_of state c).first (pair_of state s').first → SameKind (disks_of state c).second (pair_of state s').second
       → ((a b : List ℕ) → present (pair_of state s').first ≡ Some a → present (pair_of state s').second ≡ Some b → IsDamage (meaning_of (managers_of (sessions_of c)) (resources_of (sessions_of c))) a b error)
-      → (error ≡ open_error.Failed → failed) → (role : Role) (owns : List Own) → StandsAs state c role owns → IsRestartError role failed pair size error
-  restart_cause pair size failed error told first second damaged fails (CoordinatorRole times past) owns (same, s) =
+      → (error ≡ open_error.Failed → DisksFail (disks_of state c) (disks_of state c')) → (role : Role) (owns : List Own) → (node_state state c).stands_for role owns
+      → IsRestartError role (node_state state c) (node_state state c') error
+  restart_cause c' error told first second damaged fails (CoordinatorRole times past) owns (same, s) =
       let one = told_bytes (pair_of state s').first.content (first.tells_images ∙ told.first) in
       let two = told_bytes (pair_of state s').second.content (second.tells_images ∙ told.second) in
       let from = go_on one.0 two.0 ((law (first_disk (twin s'))).present_may_stay one.0 one.1) ((law (second_disk (twin s'))).present_may_stay two.0 two.1) in
       let list = some_list past owns from.0 from.1 (s.disks.images from.0 from.1 from.2 from.3) in
-      cause_by times past failed pair size error
+      cause_by (CoordinatorRole times past) (node_state state c) (node_state state c') error
       (not_damaged (managers_of (sessions_of c)) (resources_of (sessions_of c)) one.0 two.0 error (damaged one.0 two.0 one.1 two.1) list.0 (from.4 list.0 list.1)) fails
-  restart_cause pair size failed error told first second damaged fails (Resource setup past) owns s = absurd s
-  restart_cause pair size failed error told first second damaged fails (Manager settings) owns s = absurd s
+  restart_cause c' error told first second damaged fails (Resource setup past) owns s = absurd s
+  restart_cause c' error told first second damaged fails (Manager settings) owns s = absurd s
 
 module _ {D : Type 0} (state : D → DiskState) (law : (d : Stoppable D) → IsLawful (state_of state d)) (c c' : Coordinator D) (down : is_down c ≡ true) (go_on : GoOn state (sessions_of c) (sessions_of c'))
     (grown : own_faults (disks_of state c) ≤ own_faults (disks_of state c')) (opening : SameOpening (sessions_of c) (sessions_of c')) (still_down : is_down c' ≡ true) (rest : SameRest c c') where
@@ -316,7 +316,7 @@ module _ {D : Type 0} (state : D → DiskState) (law : (d : Stoppable D) → IsL
         fallen = λ e. let f = s.fallen e in record { flight = rest.flight ∙ f.flight; count = rest.records ∙ f.count };
       }
 
-  pub after_error : StandsAsBefore (StandsAs state) c c'
+  pub after_error : StandsAsBefore (node_state state c) (node_state state c')
   after_error (CoordinatorRole times past) owns (same, s) = (same ∙ times_rest c c' rest, stands_fallen past owns s)
   after_error (Resource setup past) owns s = absurd s
   after_error (Manager settings) owns s = absurd s
@@ -345,9 +345,11 @@ module _ {D : Type 0} (state : D → DiskState) (law : (d : Stoppable D) → IsL
       → RestartsBy state c c' pick calls now (Err error)
   not_back c' error is rest fell up damaged not_full fails = record {
     restarts = λ told. tt;
-    after = λ told. after_error state law c c' down (subst (GoOn state (sessions_of c)) (sym is) go_on) (subst (λ q. own_faults (disks_of state c) ≤ own_faults (pair_of state q)) (sym is) (up_grown state false pick (sessions_of c) s1 up))
-        (subst (SameOpening (sessions_of c)) (sym is) opening) (ap sessions_down is ∙ fell) rest;
-    cause = λ told role owns s. restart_cause state law c s1 go_on (disks_of state c') (size_of state c') (DisksFail (disks_of state c) (disks_of state c')) error told up.first.kind up.second.kind damaged failing role owns s;
+    after = λ told role owns s. (
+      after_error state law c c' down (subst (GoOn state (sessions_of c)) (sym is) go_on) (subst (λ q. own_faults (disks_of state c) ≤ own_faults (pair_of state q)) (sym is) (up_grown state false pick (sessions_of c) s1 up))
+          (subst (SameOpening (sessions_of c)) (sym is) opening) (ap sessions_down is ∙ fell) rest role owns s,
+      restart_cause state law c s1 go_on c' error told up.first.kind up.second.kind damaged failing role owns s,
+    );
     not_full = not_full;
     not_due = subst (λ q. StaysWhereShort (state_of state) (twin (sessions_of c)) (twin q)) (sym is) stays;
     settles = λ told. tt;
@@ -371,9 +373,11 @@ module _ {D : Type 0} (state : D → DiskState) (law : (d : Stoppable D) → IsL
         let now_opening = over opening (subst (λ q. SameOpening q (sessions_of c')) is fell.opening) in
         let beside = then_rest c c1 c' rest fell.rest in record {
           restarts = λ told. tt;
-          after = λ told. after_error state law c c' down (λ x y first second. go_on x y (subst (λ (p : Pair). p.first.may_leave x) (sym pair) first) (subst (λ (p : Pair). p.second.may_leave y) (sym pair) second))
-              (subst (λ p. own_faults (disks_of state c) ≤ own_faults p) pair (up_grown state true pick (sessions_of c) s1 both)) now_opening fell.down beside;
-          cause = λ told role owns s. free role owns s;
+          after = λ told role owns s. (
+            after_error state law c c' down (λ x y first second. go_on x y (subst (λ (p : Pair). p.first.may_leave x) (sym pair) first) (subst (λ (p : Pair). p.second.may_leave y) (sym pair) second))
+                (subst (λ p. own_faults (disks_of state c) ≤ own_faults p) pair (up_grown state true pick (sessions_of c) s1 both)) now_opening fell.down beside role owns s,
+            tt,
+          );
           not_full = tt;
           not_due = λ short x y first second. stays short x y (subst (λ (p : Pair). p.first.may_leave x) (sym pair) first) (subst (λ (p : Pair). p.second.may_leave y) (sym pair) second);
           settles = λ told. tt;
@@ -398,11 +402,6 @@ module _ {D : Type 0} (state : D → DiskState) (law : (d : Stoppable D) → IsL
           left = two.left ∙ one.left;
         }
 
-        free : (role : Role) (owns : List Own) → StandsAs state c role owns → IsRestartError role (DisksFail (disks_of state c) (disks_of state c')) (disks_of state c') (size_of state c') open_error.NoMemory
-        free (CoordinatorRole times past) owns s = tt
-        free (Resource setup past) owns s = absurd s
-        free (Manager settings) owns s = absurd s
-
     -- it came back, and is armed where calls are given
     module _ (back : IsTold (disks_of state c).first → IsTold (disks_of state c).second → BringsBack (state_of state) pick (sessions_of c) s1) (in_time : now ≤ LATEST_MOMENT) where
       pub is_back : (c1 c2 c' : Coordinator D) → sessions_of c1 ≡ s1 → SameRest c c1 → StartsAgain now c1 c2 → ArmsWith state calls c2 c' → (kept : Option Durable) → kept ≡ kept_of c'
@@ -410,7 +409,6 @@ module _ {D : Type 0} (state : D → DiskState) (law : (d : Stoppable D) → IsL
       is_back c1 c2 c' is rest starts_again arms kept kept_is = subst (λ k. RestartsBy state c c' pick calls now (Ok (act.Restarted k))) (sym kept_is) (record {
         restarts = λ told. comes_back told;
         after = λ told. tt;
-        cause = λ told role owns s. tt;
         not_full = tt;
         not_due = tt;
         settles = λ told. armed.back pick (sessions_of c) (back told.first told.second);
@@ -475,7 +473,7 @@ module _ {D : Type 0} (state : D → DiskState) (law : (d : Stoppable D) → IsL
           content_second : last_pick (disks_of state c').second ≡ last_pick (pair_of state s1).second
           content_second = ap (option_map (λ (k : Content). k.last_pick)) armed.pair.second_content
 
-          comes_back : AreTold (disks_of state c) → Restarts (StandsAs state) (DisksFail (disks_of state c) (disks_of state c')) c c' pick calls now (act.Restarted (kept_of c'))
+          comes_back : AreTold (disks_of state c) → Restarts (node_state state c) (node_state state c') pick calls now (act.Restarted (kept_of c'))
           comes_back told (CoordinatorRole times past) owns (same, s) =
               let k = comes state law c c' s1 past owns s down pick now calls (back told.first told.second) opening up (up_grown state true pick (sessions_of c) s1 both) armed (omega (arith, in_time)) moments all_rest.start all_rest.flight all_rest.records in (
                 false,

@@ -9,13 +9,12 @@ use Rattle.durable_records.specs.declared.coordinators.SessionRecord.{SessionRec
 use Rattle.session_store.specs.declared.sessions.Sessions.{Sessions}
 use Rattle.session_store.specs.Keeping.{managers_of, resources_of, SameOpening, Adds, Loses}
 use Rattle.history_rules.specs.Own.{Event}
-use Rattle.history_text.specs.Durable.{SamePicks}
-use Rattle.history_text.specs.Promises.{StaysItself}
+use Rattle.node_steps.specs.Durable.{SamePicks}
+use Rattle.node_steps.specs.Promises.{StaysItself}
 use Rattle.coordinator_core.specs.declared.nodes.Coordinator.{Coordinator}
 use Rattle.coordinator_core.specs.Answers.{Puts}
 use Rattle.coordinator_core.specs.Serving.{ServesInput}
-use Rattle.coordinator_core.specs.Standing.{pair_of, disks_of, serves, sessions_of}
-use Rattle.coordinator_core.specs.Stepping.{stands_at}
+use Rattle.coordinator_core.specs.Standing.{node_state, pair_of, disks_of, sessions_of}
 use Rattle.coordinator_core.proofs.Disks.{Moved, moved_took, moved_fell, same_kind}
 
 -- the sessions are of the same scenario, with what their opening found, and their disks are what they were
@@ -49,7 +48,7 @@ module _ {D : Type 0} (state : D → DiskState) where
   remains_put event now (act.Durable done) old new p = remains_added p.0 old new p.2
   remains_put event now _ old new p = remains_same old new p
 
-  pub stays_itself : (old new : Coordinator D) → Remains state (sessions_of old) (sessions_of new) → StaysItself stands_at serves (disks_of state) old new
+  pub stays_itself : (old new : Coordinator D) → Remains state (sessions_of old) (sessions_of new) → StaysItself (node_state state old) (node_state state new)
   stays_itself old new r = record {
     same_place = refl;
     same_inputs = λ given s. subst (λ m. ServesInput m (resources_of (sessions_of new)) given) (sym r.opening.managers) (subst (λ k. ServesInput (managers_of (sessions_of old)) k given) (sym r.opening.resources) s);

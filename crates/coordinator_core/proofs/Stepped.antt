@@ -5,6 +5,7 @@ use Rattle.std.specs.Option.{option_and_then}
 use Rattle.disk_model.specs.Disk.{DiskState, IsLawful}
 use Rattle.disk_model.specs.Stop.{state_of}
 use Rattle.disk_model.specs.declared.stoppable.Stoppable.{Stoppable}
+use Rattle.journal_checkpoint.specs.Ends.{HasNoPlace}
 use Rattle.journal_checkpoint.proofs.Ends.{no_place}
 use Rattle.seata_types.specs.declared.acts.Act.{Act}
 use Rattle.seata_types.specs.declared.acts.Act.TheVariants as act
@@ -25,13 +26,13 @@ use Rattle.history_rules.specs.Devices.{calls_left, fails, fault_of, left_after,
 use Rattle.history_rules.specs.CoordinatorMemory.{Times, sessions_left, session_record, session_asked}
 use Rattle.history_rules.specs.Nodes.{Role, Resource, Manager, answer, happens, left_at}
 use Rattle.history_rules.specs.Nodes.{Coordinator as CoordinatorRole}
-use Rattle.history_text.specs.Promises.{TakesStep, FailsAt, StandsAsBefore, Overflows, Fits, own_step, DisksFail}
-use Rattle.history_text.proofs.Places.{has_place}
+use Rattle.node_steps.specs.Promises.{TakesStep, FailsAt, StandsAsBefore, Overflows, Fits, own_step}
+use Rattle.node_steps.proofs.Places.{has_place}
 use Rattle.coordinator_core.specs.declared.nodes.Coordinator.{Coordinator}
 use Rattle.coordinator_core.specs.Knowledge.{Knowledge, SameTimes, knowledge, times_in}
 use Rattle.coordinator_core.specs.Answers.{is_answer, IsWithin, IsUnanswered, IsCut, IsOver, Puts, AnswersWhere, Answers}
 use Rattle.coordinator_core.specs.Moving.{Misses}
-use Rattle.coordinator_core.specs.Standing.{StandsAs, StandsOver, OnDisks, course, active_of, disks_of, pair_of, sessions_of, start_of, is_down, needs, size_of, times_of}
+use Rattle.coordinator_core.specs.Standing.{node_state, StandsOver, OnDisks, course, active_of, pair_of, sessions_of, start_of, is_down, needs, size_of, times_of}
 use Rattle.coordinator_core.specs.Tracks.{with_own, rule_answer, Follows}
 use Rattle.coordinator_core.specs.NodeLaws.{on_same}
 use Rattle.coordinator_core.specs.Stepping.{HasRoom, StepsBy}
@@ -158,7 +159,7 @@ module _ {D : Type 0} (state : D → DiskState) (law : (d : Stoppable D) → IsL
         let puts = subst (λ k. Puts (state_of state) (Given given) now k (sessions_of c) (sessions_of c')) is a.1 in
         ap (λ b. written b step step.act) (long state law (sessions_of c) (sessions_of c') past owns s.disks up given now d puts.0 puts.1 puts.2) ∙ ap (written false step) is
 
-    pub takes_step : TakesStep (StandsAs state) c c' given now step
+    pub takes_step : TakesStep (node_state state c) (node_state state c') given now step
     takes_step (CoordinatorRole times past) owns (same, s) =
         let taken = a.0.takes (course past owns) (s.follows (upon past owns s)) (within past owns s) in
         let kind = answer_kind step.act taken.2 in (
@@ -190,7 +191,7 @@ module _ {D : Type 0} (state : D → DiskState) (law : (d : Stoppable D) → IsL
   asked_by a done r is asked = ap (λ k. option_and_then (session_record now (Given given)) (asked_act k)) is ∙ asked
 
   module _ (done : Durable) (i : IsCut (state_of state) (IsWithin c.table) c.table c'.table given now done) (flight : c'.flight ≡ Some done) (count : c'.records ≡ (known (sessions_of c)).acts) where
-    pub fails_at : FailsAt (StandsAs state) (DisksFail (disks_of state c) (disks_of state c')) c c' given now done
+    pub fails_at : FailsAt (node_state state c) (node_state state c') given now done
     fails_at (CoordinatorRole times past) owns (same, s) =
         let taken = i.due.answered.takes (course past owns) (s.follows (upon past owns s)) (within past owns s) in
         let kept = kept_now state law (sessions_of c) (sessions_of c') past owns s.disks up given now done i.r i.due.asked in (
@@ -216,7 +217,7 @@ module _ {D : Type 0} (state : D → DiskState) (law : (d : Stoppable D) → IsL
   -- ---- nothing changed
 
   module _ (u : IsUnanswered (knowledge c.table) (knowledge c'.table)) (same_sessions : sessions_of c' ≡ sessions_of c) where
-    pub stands_before : StandsAsBefore (StandsAs state) c c'
+    pub stands_before : StandsAsBefore (node_state state c) (node_state state c')
     stands_before (CoordinatorRole times past) owns (same, s) = (
       same ∙ sym (times_same (knowledge c.table) (knowledge c'.table) u.same),
       record {
@@ -230,14 +231,15 @@ module _ {D : Type 0} (state : D → DiskState) (law : (d : Stoppable D) → IsL
     stands_before (Resource setup past) owns s = absurd s
     stands_before (Manager settings) owns s = absurd s
 
-  pub overflows : (full : Full) → IsOver (state_of state) (IsWithin c.table) c.table c'.table given now full → Overflows (StandsAs state) (disks_of state c) (size_of state c) c given now full
+  pub overflows : (full : Full) → IsOver (state_of state) (IsWithin c.table) c.table c'.table given now full → Overflows (node_state state c) (node_state state c') given now full
   overflows full i (CoordinatorRole times past) owns (same, s) =
       let taken = i.due.answered.takes (course past owns) (s.follows (upon past owns s)) (within past owns s) in
       let kept = s.disks.keeps (upon past owns s) in
       let asked = asked_by i.due.step.act i.done i.r i.due.durable i.due.asked in (
         record_bytes i.r,
         ap (λ (k : Step). option_map record_bytes (session_asked (own_step given now k))) (sym (is_rule times past owns i.due.step same taken.0)) ∙ ap (option_map record_bytes) asked,
-        no_place (state_of state) law kept.found (twin (sessions_of c)) kept.store.pair (size_of state c) (length (record_bytes i.r)) full (i.no_room kept.found kept.store),
+        subst (λ s. HasNoPlace (pair_of state s) (active_of state s).size (length (record_bytes i.r)) full) (sym i.sessions)
+            (no_place (state_of state) law kept.found (twin (sessions_of c)) kept.store.pair (size_of state c) (length (record_bytes i.r)) full (i.no_room kept.found kept.store)),
       )
   overflows full i (Resource setup past) owns s = absurd s
   overflows full i (Manager settings) owns s = absurd s
@@ -279,7 +281,7 @@ module _ {D : Type 0} (state : D → DiskState) (law : (d : Stoppable D) → IsL
   room_cut done i (Manager settings) owns s bytes e = absurd s
 
   -- what fits has a place behind the records that the disks hold
-  pub placed : HasRoom state c given now → Fits (StandsAs state) (disks_of state c) (size_of state c) c given now
+  pub placed : HasRoom state c given now → Fits (node_state state c) given now
   placed room (CoordinatorRole times past) owns (same, s) bytes e =
       let kept = s.disks.keeps (upon past owns s) in
       has_place (state_of state) law kept.found (twin (sessions_of c)) kept.store.pair (size_of state c) (length bytes) (room (CoordinatorRole times past) owns (same, s) bytes e)
@@ -340,7 +342,7 @@ module _ {D : Type 0} (state : D → DiskState) (law : (d : Stoppable D) → IsL
         named = λ n. tt;
         after = (
           stands_before state law c c' given now up clock i.unanswered i.sessions,
-          subst (λ s. Overflows (StandsAs state) (pair_of state s) (active_of state s).size c given now full) (sym i.sessions) (overflows state law c c' given now up clock full i),
+          overflows state law c c' given now up clock full i,
         );
         room = tt;
         placed = tt;

@@ -26,7 +26,7 @@ use Rattle.durable_records.specs.SessionOrder.{Allowed, May}
 use Rattle.history_rules.specs.Own.{Given, sends}
 use Rattle.history_rules.specs.CoordinatorMemory.{session_record, is_past, due_by_durable, rests_after}
 use Rattle.history_rules.specs.CoordinatorRules.{begin_answer, commit_answer, commit_decides, rollback_answer, decided_status}
-use Rattle.history_text.specs.Promises.{own_step}
+use Rattle.node_steps.specs.Promises.{own_step}
 use Rattle.session_log.specs.declared.sessions.Snapshot.{Snapshot}
 use Rattle.session_log.specs.SnapshotOf.{session_now}
 use Rattle.session_memory.specs.Changes.{may_come, after}

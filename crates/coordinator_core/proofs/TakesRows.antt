@@ -34,7 +34,7 @@ use Rattle.frame_codec.specs.Limits.{IsKeyWithin}
 use Rattle.history_rules.specs.Own.{sends}
 use Rattle.history_rules.specs.CoordinatorMemory.{is_past}
 use Rattle.history_rules.specs.CoordinatorRules.{Request, register_answer, open_answer, timely_answer, hold_answer, query_answer}
-use Rattle.history_text.specs.Framing.{ComesFramable}
+use Rattle.node_steps.specs.Framing.{ComesFramable}
 use Rattle.lock_table.specs.Locks.{Locks, locked, if_other, first_locked, first_held, locks}
 use Rattle.session_log.specs.declared.sessions.RegisterPlace.{RegisterPlace}
 use Rattle.session_log.specs.declared.sessions.Snapshot.{Snapshot}

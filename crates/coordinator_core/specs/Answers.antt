@@ -17,8 +17,8 @@ use Rattle.durable_records.specs.declared.coordinators.SessionRecord.{SessionRec
 use Rattle.durable_records.specs.SessionOrder.{is_within}
 use Rattle.history_rules.specs.Own.{Event, Given}
 use Rattle.history_rules.specs.CoordinatorMemory.{Times, session_record, late_one, due_one, old_one}
-use Rattle.history_text.specs.Framing.{ComesFramable, SendsFramable}
-use Rattle.history_text.specs.Promises.{own_step}
+use Rattle.node_steps.specs.Framing.{ComesFramable, SendsFramable}
+use Rattle.node_steps.specs.Promises.{own_step}
 use Rattle.session_memory.specs.Changes.{may_come}
 use Rattle.session_store.specs.declared.sessions.Sessions.{Sessions}
 use Rattle.session_store.specs.Keeping.{managers_of, resources_of, Adds, Loses, HasNoRoom}

@@ -13,7 +13,7 @@ use Rattle.session_store.specs.declared.sessions.Sessions.{Sessions}
 use Rattle.disk_model.specs.declared.stoppable.Stoppable.{Stoppable}
 use Rattle.disk_model.specs.contracts.stoppable.Stoppable.{the_row as stoppable_row}
 use Rattle.session_store.specs.Keeping.{BringsBack, KeepsRecords, SameOpening, SameDisks, known, is_down as sessions_down, with_disk as sessions_with}
-use Rattle.history_text.specs.Durable.{own_faults}
+use Rattle.node_steps.specs.Durable.{own_faults}
 use Rattle.coordinator_core.specs.declared.nodes.Coordinator.{Coordinator}
 use Rattle.coordinator_core.specs.contracts.nodes.Coordinator.{the_row}
 use Rattle.coordinator_core.specs.Knowledge.{memory}

@@ -3,7 +3,6 @@ use Rattle.std.proofs.Common.{◌≡◌, inl, inr, ◌-◌, ◌≤◌, ◌^◌, 
 use Rattle.disk_model.specs.Disk.{DiskState}
 use Rattle.seata_types.specs.declared.acts.Act.TheVariants as act
 use Rattle.seata_types.specs.declared.ids.Place.TheVariants as place
-use Rattle.seata_types.specs.declared.messages.Input.{Input}
 use Rattle.durable_records.specs.declared.coordinators.SessionRecord.{SessionRecord}
 use Rattle.disk_model.specs.Stop.{state_of}
 use Rattle.disk_model.specs.declared.stoppable.Stoppable.{Stoppable}
@@ -12,15 +11,15 @@ use Rattle.session_store.specs.Keeping.{KeepsRecords}
 use Rattle.session_store.specs.Standing.{StandsForSessions}
 use Rattle.history_rules.specs.Own.{Own, Left, Given, Stopped, Crashed, Restarted, still}
 use Rattle.history_rules.specs.Devices.{calls_left, fault_entries, in_flight, may_stand, is_down as down_by}
-use Rattle.history_rules.specs.CoordinatorMemory.{sessions_left}
+use Rattle.history_rules.specs.CoordinatorMemory.{Times, sessions_left}
 use Rattle.history_rules.specs.Nodes.{Role, Resource, Manager}
 use Rattle.history_rules.specs.Nodes.{Coordinator as CoordinatorRole}
-use Rattle.history_text.specs.Durable.{StandsForRecords, StandsForLeft, of_coordinator, keepable, own_faults, AreNodeDisks}
-use Rattle.history_text.specs.Promises.{place_of, has_disks, own_entry}
+use Rattle.node_steps.specs.Durable.{StandsForRecords, StandsForLeft, of_coordinator, keepable, own_faults, AreNodeDisks}
+use Rattle.node_steps.specs.Nodes.{IsLawful, KeepsStill, Tells, place_of, has_disks, own_entry, lost}
 use Rattle.coordinator_core.specs.declared.nodes.Coordinator.{Coordinator}
 use Rattle.coordinator_core.specs.Knowledge.{knowledge}
 use Rattle.coordinator_core.specs.Tracks.{Follows}
-use Rattle.coordinator_core.specs.Standing.{StandsAs, StandsOver, OnDisks, StandsForEither, course, is_down, disks_of, managers, resources, pair_of, sessions_of}
+use Rattle.coordinator_core.specs.Standing.{StandsAs, StandsOver, OnDisks, StandsForEither, node_state, course, is_down, disks_of, managers, resources, pair_of, sessions_of, times_of}
 
 -- ---- what disks stand for, in the words of histories
 
@@ -28,37 +27,9 @@ pub stands_for_records : (managers resources : ℕ) (rs : List SessionRecord) (a
 stands_for_records managers resources rs a b s =
     record { found = s.found; pair = s.pair; records = s.list.records }
 
--- ---- laws
+-- ---- an entry at which nothing changes
 
 module _ {D : Type 0} (state : D → DiskState) where
-  pub places : (c : Coordinator D) (role : Role) (owns : List Own) → StandsAs state c role owns → place.Tc ≡ place_of role
-  places c (CoordinatorRole times past) owns s = refl
-  places c (Resource setup past) owns s = absurd s
-  places c (Manager settings) owns s = absurd s
-
-  pub with_disks : (c : Coordinator D) (role : Role) (owns : List Own) → StandsAs state c role owns → true ≡ has_disks role
-  with_disks c (CoordinatorRole times past) owns s = refl
-  with_disks c (Resource setup past) owns s = absurd s
-  with_disks c (Manager settings) owns s = absurd s
-
-  pub downs : (c : Coordinator D) (role : Role) (owns : List Own) → StandsAs state c role owns → is_down c ≡ down_by owns
-  downs c (CoordinatorRole times past) owns s = s.1.disks.down
-  downs c (Resource setup past) owns s = absurd s
-  downs c (Manager settings) owns s = absurd s
-
-  pub device : (c : Coordinator D) (role : Role) (owns : List Own) → StandsAs state c role owns → AreNodeDisks role owns (disks_of state c)
-  device c (CoordinatorRole times past) owns s = record {
-    images = λ a b first second. either a b (s.1.disks.images a b first second);
-    counted = s.1.disks.counted;
-  }
-    where
-      either : (a b : List ℕ) → StandsForEither (sessions_of c) (sessions_left past owns) (keepable false owns (sessions_left past owns)) a b
-          → StandsForLeft of_coordinator (sessions_left past owns) (keepable false owns (sessions_left past owns)) a b
-      either a b (inl e) = inl (stands_for_records (managers c) (resources c) (sessions_left past owns).records a b e)
-      either a b (inr (r, is, e)) = inr (r, is, stands_for_records (managers c) (resources c) (r ∷ (sessions_left past owns).records) a b e)
-  device c (Resource setup past) owns s = absurd s
-  device c (Manager settings) owns s = absurd s
-
   -- what sessions are after an entry at which nothing of them changes
   pub on_same : (s : Sessions (Stoppable D)) (past : List SessionRecord) (os os' : List Own) → down_by os' ≡ down_by os → sessions_left past os' ≡ sessions_left past os
       → calls_left false os' ≡ calls_left false os → fault_entries false os' ≡ fault_entries false os → OnDisks state s past os → OnDisks state s past os'
@@ -86,21 +57,52 @@ module _ {D : Type 0} (state : D → DiskState) where
     };
   }
 
-  pub loses : (c : Coordinator D) (role : Role) (owns : List Own) (now : ℕ) → StandsAs state c role owns → is_down c ≡ true →
-      ((input : Input) → StandsAs state c role (own_entry (Given input) now (still act.Lost) ∷ owns))
-      × ((calls : ℕ) → StandsAs state c role (own_entry (Stopped calls) now (still act.Lost) ∷ owns))
-      × StandsAs state c role (own_entry Crashed now (still act.Lost) ∷ owns)
-  loses c (CoordinatorRole times past) owns now s down = (
-    (λ input. (s.0, stands_same c past owns (own_entry (Given input) now (still act.Lost) ∷ owns) refl refl refl (omega arith) refl (λ f. record { tracks = f.tracks }) s.1)),
-    (λ calls. (s.0, stands_same c past owns (own_entry (Stopped calls) now (still act.Lost) ∷ owns) refl refl refl (omega arith) refl (λ f. record { tracks = f.tracks }) s.1)),
-    (s.0, stands_same c past owns (own_entry Crashed now (still act.Lost) ∷ owns) refl refl refl (omega arith) refl (λ f. record { tracks = f.tracks }) s.1),
-  )
-  loses c (Resource setup past) owns now s down = absurd s
-  loses c (Manager settings) owns now s down = absurd s
+-- ---- laws
 
-  pub stays : (c : Coordinator D) (role : Role) (owns : List Own) (now pick : ℕ) (calls : Option ℕ) → true ≡ true → StandsAs state c role owns → is_down c ≡ false →
-      StandsAs state c role (own_entry (Restarted pick calls) now (still act.Nothing) ∷ owns)
-  stays c (CoordinatorRole times past) owns now pick calls stops s up =
-      (s.0, stands_same c past owns (own_entry (Restarted pick calls) now (still act.Nothing) ∷ owns) refl refl refl (omega arith) refl (λ f. record { tracks = f.tracks }) s.1)
-  stays c (Resource setup past) owns now pick calls stops s up = absurd s
-  stays c (Manager settings) owns now pick calls stops s up = absurd s
+module _ {D : Type 0} (state : D → DiskState) (c : Coordinator D) where
+  -- what holds of a coordinator's role holds of each that it has
+  by_role : (P : Role → List Own → Type 0) → ((times : Times) (past : List SessionRecord) (owns : List Own) → times ≡ times_of c → StandsOver state c past owns → P (CoordinatorRole times past) owns)
+      → (role : Role) (owns : List Own) → StandsAs state c role owns → P role owns
+  by_role P f (CoordinatorRole times past) owns s = f times past owns s.0 s.1
+  by_role P f (Resource setup past) owns s = absurd s
+  by_role P f (Manager settings) owns s = absurd s
+
+  tells : Tells (node_state state c)
+  tells = record {
+    places = by_role (λ role owns. place.Tc ≡ place_of role) (λ times past owns same s. refl);
+    with_disks = by_role (λ role owns. true ≡ has_disks role) (λ times past owns same s. refl);
+    downs = by_role (λ role owns. is_down c ≡ down_by owns) (λ times past owns same s. s.disks.down);
+  }
+
+  -- it stands for the list with an entry at which nothing changes
+  with_entry : (o : Own) → ((past : List SessionRecord) (owns : List Own) → StandsOver state c past owns → StandsOver state c past (o ∷ owns))
+      → (role : Role) (owns : List Own) → StandsAs state c role owns → StandsAs state c role (o ∷ owns)
+  with_entry o stays = by_role (λ role owns. StandsAs state c role (o ∷ owns)) (λ times past owns same s. (same, stays past owns s))
+
+  keeps : KeepsStill (node_state state c)
+  keeps = record {
+    given = λ down input now. with_entry (lost (Given input) now)
+        (λ past owns. stands_same state c past owns (lost (Given input) now ∷ owns) refl refl refl (omega arith) refl (λ f. record { tracks = f.tracks }));
+    stopped = λ down calls now. with_entry (lost (Stopped calls) now)
+        (λ past owns. stands_same state c past owns (lost (Stopped calls) now ∷ owns) refl refl refl (omega arith) refl (λ f. record { tracks = f.tracks }));
+    crashed = λ down now. with_entry (lost Crashed now)
+        (λ past owns. stands_same state c past owns (lost Crashed now ∷ owns) refl refl refl (omega arith) refl (λ f. record { tracks = f.tracks }));
+    restarted = λ stops up pick calls now. let o = own_entry (Restarted pick calls) now (still act.Nothing) in
+        with_entry o (λ past owns. stands_same state c past owns (o ∷ owns) refl refl refl (omega arith) refl (λ f. record { tracks = f.tracks }));
+  }
+
+  -- a pair of images stands for the same in the words of histories
+  either : (left : Left SessionRecord) (kept : Option SessionRecord) (a b : List ℕ) → StandsForEither (sessions_of c) left kept a b → StandsForLeft of_coordinator left kept a b
+  either left kept a b (inl e) = inl (stands_for_records (managers c) (resources c) left.records a b e)
+  either left kept a b (inr (r, is, e)) = inr (r, is, stands_for_records (managers c) (resources c) (r ∷ left.records) a b e)
+
+  pub lawful : IsLawful (node_state state c)
+  lawful = record {
+    tells = tells;
+    keeps = keeps;
+    falls = λ down. refl;
+    device = by_role (λ role owns. AreNodeDisks role owns (disks_of state c)) (λ times past owns same s. record {
+      images = λ a b first second. either (sessions_left past owns) (keepable false owns (sessions_left past owns)) a b (s.disks.images a b first second);
+      counted = s.disks.counted;
+    });
+  }

@@ -7,7 +7,7 @@ use Rattle.seata_types.specs.declared.ids.BranchId.{BranchId}
 use Rattle.seata_types.specs.declared.ids.Xid.{Xid}
 use Rattle.seata_types.specs.declared.messages.Step.{Step}
 use Rattle.seata_types.specs.declared.rows.RowKey.{RowKey}
-use Rattle.history_text.specs.Framing.{SendsFramable}
+use Rattle.node_steps.specs.Framing.{SendsFramable}
 use Rattle.session_log.specs.declared.sessions.RegisterPlace.{RegisterPlace}
 use Rattle.session_log.specs.declared.sessions.Snapshot.{Snapshot}
 use Rattle.session_memory.specs.Lookups.{status_in}

@@ -5,6 +5,7 @@ use Rattle.disk_model.specs.Stop.{state_of}
 use Rattle.disk_model.specs.declared.stoppable.Stoppable.{Stoppable}
 use Rattle.journal_checkpoint.specs.Images.{Pair}
 use Rattle.journal_checkpoint.specs.Keeping.{active_disk, first_disk, second_disk, needed_for}
+use Rattle.seata_types.specs.declared.ids.Place.TheVariants as place
 use Rattle.seata_types.specs.declared.limits.TheConstants.{MANAGERS}
 use Rattle.seata_types.specs.declared.messages.Input.{Input}
 use Rattle.durable_records.specs.declared.coordinators.SessionRecord.{SessionRecord}
@@ -17,7 +18,8 @@ use Rattle.history_rules.specs.Devices.{calls_left, fault_entries, in_flight, is
 use Rattle.history_rules.specs.CoordinatorMemory.{Times, sessions_left, start}
 use Rattle.history_rules.specs.Nodes.{Role, Resource, Manager}
 use Rattle.history_rules.specs.Nodes.{Coordinator as CoordinatorRole}
-use Rattle.history_text.specs.Durable.{keepable, own_faults}
+use Rattle.node_steps.specs.Durable.{keepable, own_faults}
+use Rattle.node_steps.specs.Nodes.{NodeState}
 use Rattle.coordinator_core.specs.declared.nodes.Coordinator.{Coordinator}
 use Rattle.coordinator_core.specs.Knowledge.{knowledge, times_of as times_kept}
 use Rattle.coordinator_core.specs.Serving.{ServesInput}
@@ -109,6 +111,19 @@ abbrev pub StandsAs : {D : Type 0} → (D → DiskState) → Coordinator D → R
 StandsAs state c (CoordinatorRole times past) os = (times ≡ times_of c) × StandsOver state c past os
 StandsAs state c (Resource setup past) os = ⊥
 StandsAs state c (Manager settings) os = ⊥
+
+-- as a node: it stands where the coordinator does, and has disks
+abbrev pub node_state : {D : Type 0} → (D → DiskState) → Coordinator D → NodeState
+node_state state c = record {
+  stands_for = StandsAs state c;
+  place = place.Tc;
+  serves = serves c;
+  left = steps_left c;
+  stops = true;
+  down = is_down c;
+  disks = disks_of state c;
+  size = size_of state c;
+}
 
 -- ---- how many transactions are under way
 

@@ -9,8 +9,6 @@ use Rattle.seata_types.specs.declared.errors.NodeError.{NodeError}
 use Rattle.seata_types.specs.declared.errors.NodeError.TheVariants as error
 use Rattle.seata_types.specs.declared.errors.OpenError.{OpenError}
 use Rattle.seata_types.specs.declared.errors.OpenError.TheVariants as open_error
-use Rattle.seata_types.specs.declared.ids.Place.{Place}
-use Rattle.seata_types.specs.declared.ids.Place.TheVariants as place
 use Rattle.seata_types.specs.declared.limits.TheConstants.{LATEST_MOMENT}
 use Rattle.seata_types.specs.declared.messages.Input.{Input}
 use Rattle.seata_types.specs.declared.messages.Step.{Step}
@@ -18,17 +16,13 @@ use Rattle.memory_store.specs.Keeping.{IsNotFull, StaysWhereShort}
 use Rattle.session_store.specs.Keeping.{BringsBack, SameOpening, known, twin}
 use Rattle.history_rules.specs.Own.{Own, Stopped, Crashed, still}
 use Rattle.history_rules.specs.Nodes.{Role}
-use Rattle.history_text.specs.Durable.{SamePicks, HavePick}
-use Rattle.history_text.specs.Framing.{ComesFramable, SendsFramable}
-use Rattle.history_text.specs.Promises.{Does, TakesStep, AfterError, HadPlace, DisksFail, StaysItself, goes_down, steps_of, AreTold, StandsAsBefore, asked_bytes, Restarts, IsRestartError, stays_down}
+use Rattle.node_steps.specs.Durable.{SamePicks, HavePick}
+use Rattle.node_steps.specs.Framing.{ComesFramable, SendsFramable}
+use Rattle.node_steps.specs.Promises.{Does, TakesStep, AfterError, HadPlace, DisksFail, StaysItself, goes_down, steps_of, AreTold, asked_bytes, Restarts, FailsRestart, stays_down}
 use Rattle.coordinator_core.specs.declared.nodes.Coordinator.{Coordinator}
 use Rattle.coordinator_core.specs.Costs.{InputCosts}
 use Rattle.coordinator_core.specs.Naming.{ComesNamed, IsNamed}
-use Rattle.coordinator_core.specs.Standing.{StandsAs, serves, sessions_of, disks_of, managers, resources, needs, size_of, start_of, steps_left, is_down}
-
--- where it stands
-abbrev pub stands_at : {D : Type 0} → Coordinator D → Place
-stands_at c = place.Tc
+use Rattle.coordinator_core.specs.Standing.{StandsAs, node_state, serves, sessions_of, disks_of, managers, resources, needs, size_of, start_of, steps_left, is_down}
 
 -- the record that the rule's answer asks for, if it asks for one, ends within the active disk
 abbrev pub HasRoom : {D : Type 0} → (D → DiskState) → Coordinator D → Input → ℕ → Type 0
@@ -49,15 +43,16 @@ pub record MayStep {D : Type 0} (c : Coordinator D) (given : Input) (now : ℕ) 
   pub moment : now ≤ LATEST_MOMENT
   pub served : serves c given
 
+-- a step
 pub record StepsBy {D : Type 0} (state : D → DiskState) (old new : Coordinator D) (given : Input) (now : ℕ) (result : Result Step NodeError) : Type 0 where
-  pub answers : IfOk result (TakesStep (StandsAs state) old new given now)
+  pub answers : IfOk result (TakesStep (node_state state old) (node_state state new) given now)
   pub framable : ComesFramable given → IfOk result SendsFramable
   -- where the input's numbers name nodes of the scenario, whatever the disks hold, so do those of the step, and its message has a receiver
   pub named : ComesNamed (managers old) (resources old) given → IfOk result (IsNamed (managers old) (resources old))
-  pub after : IfErr result (AfterError (StandsAs state) (DisksFail (disks_of state old) (disks_of state new)) (disks_of state new) (size_of state new) old new given now)
+  pub after : IfErr result (AfterError (node_state state old) (node_state state new) given now)
   pub room : HadRoom state old given now result
-  pub placed : HadPlace (StandsAs state) (disks_of state old) (size_of state old) old given now result
-  pub same : StaysItself stands_at serves (disks_of state) old new
+  pub placed : HadPlace (node_state state old) given now result
+  pub same : StaysItself (node_state state old) (node_state state new)
   pub picks : SamePicks (disks_of state old) (disks_of state new)
   pub counted : steps_left new + steps_of result ≡ steps_left old
   pub down : is_down new ≡ goes_down result
@@ -69,27 +64,28 @@ pub record CountsStep {D : Type 0} (state : D → DiskState) (old new : Coordina
   pub start : start_of new ≡ start_of old
   pub cost : InputCosts given (known (sessions_of old)) before after
 
+-- a stop
 pub record ArmsBy {D : Type 0} (state : D → DiskState) (old new : Coordinator D) (calls : ℕ) : Type 0 where
-  pub does : (now : ℕ) → Does (StandsAs state) old new (Stopped calls) now (still act.Armed)
-  pub same : StaysItself stands_at serves (disks_of state) old new
+  pub does : (now : ℕ) → Does (node_state state old) (node_state state new) (Stopped calls) now (still act.Armed)
+  pub same : StaysItself (node_state state old) (node_state state new)
   pub picks : SamePicks (disks_of state old) (disks_of state new)
   pub counted : steps_left new ≡ steps_left old
   pub up : is_down new ≡ false
   pub opening : SameOpening (sessions_of old) (sessions_of new)
 
+-- a crash
 pub record CrashesBy {D : Type 0} (state : D → DiskState) (old new : Coordinator D) : Type 0 where
-  pub does : (now : ℕ) → Does (StandsAs state) old new Crashed now (still (act.Down None None))
-  pub same : StaysItself stands_at serves (disks_of state) old new
+  pub does : (now : ℕ) → Does (node_state state old) (node_state state new) Crashed now (still (act.Down None None))
+  pub same : StaysItself (node_state state old) (node_state state new)
   pub picks : SamePicks (disks_of state old) (disks_of state new)
   pub counted : steps_left new ≡ steps_left old
   pub down : is_down new ≡ true
   pub opening : SameOpening (sessions_of old) (sessions_of new)
 
+-- a restart
 pub record RestartsBy {D : Type 0} (state : D → DiskState) (old new : Coordinator D) (pick : ℕ) (calls : Option ℕ) (now : ℕ) (result : Result Act OpenError) : Type 0 where
-  pub restarts : AreTold (disks_of state old) → IfOk result (Restarts (StandsAs state) (DisksFail (disks_of state old) (disks_of state new)) old new pick calls now)
-  pub after : AreTold (disks_of state old) → OnErr result (StandsAsBefore (StandsAs state) old new)
-  pub cause : AreTold (disks_of state old) → (role : Role) (owns : List Own) → StandsAs state old role owns →
-      IfErr result (IsRestartError role (DisksFail (disks_of state old) (disks_of state new)) (disks_of state new) (size_of state new))
+  pub restarts : AreTold (disks_of state old) → IfOk result (Restarts (node_state state old) (node_state state new) pick calls now)
+  pub after : AreTold (disks_of state old) → IfErr result (FailsRestart (node_state state old) (node_state state new))
   pub not_full : IfErr result IsNotFull
   -- one that fails changes no byte where the records are short
   pub not_due : OnErr result (StaysWhereShort (state_of state) (twin (sessions_of old)) (twin (sessions_of new)))
@@ -97,7 +93,7 @@ pub record RestartsBy {D : Type 0} (state : D → DiskState) (old new : Coordina
   pub settles : AreTold (disks_of state old) → OnOk result (BringsBack (state_of state) pick (sessions_of old) (sessions_of new))
   pub picked : OnOk result (HavePick pick (disks_of state new))
   pub failed : result ≡ Err open_error.Failed → DisksFail (disks_of state old) (disks_of state new)
-  pub same : StaysItself stands_at serves (disks_of state) old new
+  pub same : StaysItself (node_state state old) (node_state state new)
   pub counted : steps_left new ≡ steps_left old
   pub down : is_down new ≡ stays_down result
   pub opening : SameOpening (sessions_of old) (sessions_of new)

@@ -3,7 +3,7 @@ use crate::kinds;
 use crate::table::{Table, node_error};
 use disk_model::Disk;
 use durable_records::SessionRecord;
-use history_text::still;
+use node_steps::still;
 use seata_types::{Act, BranchStatus, Durable, Leg, NoMemory, NodeError, Place, Step};
 use session_memory::uncounted::allows;
 use std::alloc::Global;

@@ -6,14 +6,14 @@ ghost use Rattle.seata_types.specs.declared.ids.Place.TheVariants as place;
 ghost use Rattle.seata_types.specs.declared.messages.Message.TheVariants as message;
 ghost use Rattle.seata_types.specs.declared.statuses.Decision.TheVariants as decision;
 ghost use Rattle.history_rules.specs.Own as own;
-ghost use Rattle.history_text.specs.Framing.{SendsFramable};
+ghost use Rattle.node_steps.specs.Framing.{SendsFramable};
 ghost use Rattle.durable_records.specs.SessionOrder.{is_counted};
 ghost use Rattle.coordinator_core.specs.Naming.{ActNames, IsNamed};
 
 use crate::table::{Table, node_error};
 use disk_model::Disk;
 use durable_records::SessionRecord;
-use history_text::{sends, still};
+use node_steps::{sends, still};
 use seata_types::{
     Act, Decision, Durable, GlobalStatus, Message, NoMemory, NodeError, Place, Step, Xid,
 };

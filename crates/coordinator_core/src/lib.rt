@@ -1,5 +1,5 @@
 //! The transaction coordinator: it begins, decides and finishes global transactions, registers their branches and has them
-//! committed or rolled back. `Coordinator` is a node of `history_text`; its rules stand in `history_rules`.
+//! committed or rolled back. `Coordinator` is a node of `node_steps`; its rules stand in `history_rules`.
 #![tactic(auto)]
 
 mod answering;

@@ -5,8 +5,8 @@ ghost use Rattle.disk_model.specs.Stop.{below};
 use crate::table::Table;
 use crate::{choosing, starting};
 use disk_model::{Disk, Stoppable};
-use history_text::Node;
 use lock_table::Steps;
+use node_steps::Node;
 use seata_types::limits::NODE_STEPS;
 use seata_types::{Act, Durable, Input, NoMemory, NodeError, OpenError, Place, Step};
 use session_store::Sessions;
@@ -108,7 +108,9 @@ impl<D: Disk> Coordinator<D> {
     pub fn sessions(&self) -> &Sessions<Stoppable<D>>
         requires up { is_down self.now ≡ false }
         ensures value { result.now ≡ sessions_of self.now }
-        ensures known { (past : List SessionRecord) (owns : List Own) → StandsOver D.state self.now past owns → known result.now ≡ snapshot_of (records (course past owns)) }
+        ensures known { (past : List SessionRecord) (owns : List Own) →
+            StandsOver D.state self.now past owns →
+            known result.now ≡ snapshot_of (records (course past owns)) }
     {
         &self.table.sessions
     }
@@ -117,7 +119,8 @@ impl<D: Disk> Coordinator<D> {
     /// at the opening, and at most 2^62.
     pub fn start(&self) -> u64
         ensures value { result ≡ start_of self.now }
-        ensures told { (past : List SessionRecord) (owns : List Own) → StandsOver D.state self.now past owns → result ≡ start past }
+        ensures told { (past : List SessionRecord) (owns : List Own) →
+            StandsOver D.state self.now past owns → result ≡ start past }
     {
         self.start
     }
@@ -125,7 +128,9 @@ impl<D: Disk> Coordinator<D> {
     /// How many transactions began and are neither finished nor failed; takes no memory.
     pub fn unended(&self) -> usize
         requires up { is_down self.now ≡ false }
-        ensures { (past : List SessionRecord) (owns : List Own) → StandsOver D.state self.now past owns → result ≡ unended_sessions (records (course past owns)) }
+        ensures { (past : List SessionRecord) (owns : List Own) →
+            StandsOver D.state self.now past owns →
+            result ≡ unended_sessions (records (course past owns)) }
     {
         choosing::unended(self.table.entries())
     }
@@ -300,25 +305,11 @@ impl<D: Disk> Node for Coordinator<D> {
     ghost use Rattle.std.specs.Prelude.{◌≡◌, ◌<◌, ◌≤◌, ◌^◌, true, false};
     ghost use Rattle.seata_types.specs.declared.limits.TheConstants.{LATEST_MOMENT};
     ghost use Rattle.disk_model.specs.declared.disk.TheConstants.{LAST_PICK};
-    ghost use Rattle.coordinator_core.specs.Standing.{StandsAs, serves, steps_left, is_down, disks_of, size_of};
-    ghost use Rattle.coordinator_core.specs.Stepping.{stands_at, StepsBy, ArmsBy, CrashesBy, RestartsBy};
+    ghost use Rattle.coordinator_core.specs.Standing.{node_state, serves, steps_left, is_down};
+    ghost use Rattle.coordinator_core.specs.Stepping.{StepsBy, ArmsBy, CrashesBy, RestartsBy};
     ghost use Rattle.coordinator_core.specs.NodeLaws as laws;
 
-    ghost stands_for = { StandsAs D.state };
-
-    ghost stands_at = { stands_at };
-
-    ghost serves = { serves };
-
-    ghost left = { steps_left };
-
-    ghost stops = { λ _. true };
-
-    ghost down = { is_down };
-
-    ghost disks = { disks_of D.state };
-
-    ghost size = { size_of D.state };
+    ghost state = { node_state D.state };
 
     fn place(&self) -> Place {
         Place::Tc
@@ -383,15 +374,5 @@ impl<D: Disk> Node for Coordinator<D> {
         Ok(Act::Restarted { kept })
     }
 
-    ghost places = { laws.places D.state };
-
-    ghost with_disks = { laws.with_disks D.state };
-
-    ghost downs = { laws.downs D.state };
-
-    ghost loses = { laws.loses D.state };
-
-    ghost stays = { laws.stays D.state };
-
-    ghost device = { laws.device D.state };
+    ghost lawful = { laws.lawful D.state };
 }

@@ -1,6 +1,6 @@
 //! Branches are registered, and rows are asked for.
 ghost use Rattle.std.specs.Prelude.{◌≡◌, IfOk, IfSome};
-ghost use Rattle.history_text.specs.Framing.{SendsFramable};
+ghost use Rattle.node_steps.specs.Framing.{SendsFramable};
 ghost use Rattle.coordinator_core.specs.Naming.{NamesResource};
 ghost use Rattle.coordinator_core.specs.Steps.{regranted_step, closed_step, late_step, granted_step, conflict_step, held_step, IsFramableKey, IsFramableRow};
 
@@ -8,8 +8,8 @@ use crate::table::{Table, node_error};
 use crate::{choosing, kinds};
 use disk_model::Disk;
 use durable_records::SessionRecord;
-use history_text::{sends, still};
 use lock_table::Steps;
+use node_steps::{sends, still};
 use seata_types::{
     Act, BranchId, BranchKind, Decision, Duplicate, Durable, GlobalStatus, Leg, Message, NoMemory,
     NodeError, Place, Registered, RowKey, Step, Ticket, Xid,
@@ -35,7 +35,7 @@ impl<D: Disk> Table<D> {
     ghost use Rattle.coordinator_core.specs.Serving.{ServesMessage};
     ghost use Rattle.coordinator_core.specs.Steps.{held_step, IsFramableRow};
     ghost use Rattle.coordinator_core.specs.Refusing.{Refuses};
-    ghost use Rattle.history_text.specs.Framing.{SendsFramable};
+    ghost use Rattle.node_steps.specs.Framing.{SendsFramable};
     ghost use Rattle.coordinator_core.specs.Answers.{Always, Answers};
 
     /// Answers a registration. It looks for the branch that was registered for it, and looks up its transaction's status and

@@ -9,8 +9,8 @@ use crate::choosing;
 use crate::moments::Moments;
 use disk_model::Disk;
 use durable_records::SessionRecord;
-use history_text::still;
 use lock_table::Steps;
+use node_steps::still;
 use seata_types::{
     Act, BranchId, Durable, GlobalStatus, Input, Leg, Message, NoMemory, NodeError, Place, Step,
     StoreError, Xid,

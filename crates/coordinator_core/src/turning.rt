@@ -2,7 +2,7 @@
 ghost use Rattle.std.specs.Prelude.{◌≡◌, ℕ, true};
 ghost use Rattle.std.specs.Option.{option_copied};
 ghost use Rattle.seata_types.specs.declared.limits.TheConstants.{MANAGERS, CALLS};
-ghost use Rattle.history_text.specs.Framing.{SendsFramable};
+ghost use Rattle.node_steps.specs.Framing.{SendsFramable};
 ghost use Rattle.coordinator_core.specs.Choices.{next_open, names_nodes, is_sendable, question_of, question_to};
 ghost use Rattle.coordinator_core.specs.Naming.{IsNamed};
 ghost use Rattle.coordinator_core.specs.Steps.{asked_step};
@@ -12,7 +12,7 @@ use crate::table::{Table, node_error};
 use crate::{choosing, kinds};
 use disk_model::Disk;
 use durable_records::{SessionRecord, is_counted};
-use history_text::{sends, still};
+use node_steps::{sends, still};
 use seata_types::limits::{CALLS, MANAGERS};
 use seata_types::{Act, Decision, Durable, Message, NoMemory, NodeError, Place, Step, Xid};
 use session_log::{Branch, Session};

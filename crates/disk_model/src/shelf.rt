@@ -1,6 +1,6 @@
-ghost use Rattle.std.specs.Prelude.{◌≡◌, ◌≢◌, ◌⊎◌, ◌^◌, ◌<◌, ◌≤◌, ◌↔◌, ℕ, Bool, List, IsTrue, IsSome, Some, None, true, IfOk, OnOk, OnErr, IsErrOf};
+ghost use Rattle.std.specs.Prelude.{◌≡◌, ◌⊎◌, ◌^◌, ◌<◌, ◌↔◌, ℕ, List, IsSome, Some, None, IfOk, OnOk, OnErr, IsErrOf};
 ghost use Rattle.disk_model.specs.Disk.{Rose};
-ghost use Rattle.disk_model.specs.Shelf.{IsBlank, SameUnder};
+ghost use Rattle.disk_model.specs.Shelf.{IsBlank, IsGivenBack, KeepsOthers, SamePlaces, SameUnder, ShelfState};
 
 use crate::disk::Disk;
 use crate::errors::{NoMemory, ShelfError};
@@ -12,17 +12,8 @@ use std::collections::BTreeMap;
 pub trait Shelf {
     type D: Disk + Send + Drop;
 
-    /// How often a `take` failed by a fault.
-    ghost faults: { Self → ℕ };
-
-    /// Whether it tells which disks were given back. Where it doesn't, `given_back` holds of no disk.
-    ghost tells: { Self → Bool };
-
-    /// A disk was taken under this name.
-    ghost has_place: { Self → List ℕ → Type 0 };
-
-    /// This disk is the one last given back under this name.
-    ghost given_back: { Self → List ℕ → Self.D → Type 0 };
+    /// Which names were taken, which disks were given back under them, and its faults.
+    ghost state: { Self → ShelfState Self.D };
 
     /// A new disk under this name, of this size in bytes. It makes the place for the disk to be given back to, and no other;
     /// none where it fails. A disk that was given back before, under this name or another, stays the one last given back
@@ -30,24 +21,18 @@ pub trait Shelf {
     fn take(&mut self, alloc: Global, name: &str, size: u64) -> Result<Self::D, ShelfError>
         requires { size < 2 ^ 32 }
         ensures blank { IfOk result (λ disk. IsBlank size (Self.D.state disk)) }
-        ensures place { OnOk result (has_place self.new name.now) }
-        ensures places { (n : List ℕ) → has_place self.old n → has_place self.new n }
-        ensures made { (n : List ℕ) → has_place self.new n → has_place self.old n ⊎ (n ≡ name.now) }
-        ensures none { OnErr result ((n : List ℕ) → has_place self.new n → has_place self.old n) }
-        ensures given { (n : List ℕ) → SameUnder n (given_back self.old) (given_back self.new) }
-        ensures failed { IsErrOf result ShelfError.Failed → Rose (faults self.old) (faults self.new) }
-        ensures faults { faults self.old ≤ faults self.new }
-        ensures tells { tells self.new ≡ tells self.old };
+        ensures place { OnOk result ((state self.new).has_place name.now) }
+        ensures none { OnErr result (SamePlaces (state self.old) (state self.new)) }
+        ensures given { SameUnder name.now (state self.old) (state self.new) }
+        ensures keeps { KeepsOthers (λ n. n ≡ name.now) (state self.old) (state self.new) }
+        ensures failed { IsErrOf result ShelfError.Failed → Rose (state self.old).faults (state self.new).faults };
 
     /// Takes a disk back, into the place that the `take` under this name made. It takes no memory.
     fn give(&mut self, name: &str, disk: Self::D)
-        ensures given { IsTrue (tells self.old) → has_place self.old name.now → given_back self.new name.now disk }
-        ensures only { (d : Self.D) → given_back self.new name.now d → d ≡ disk }
-        ensures places { (n : List ℕ) → has_place self.old n → has_place self.new n }
-        ensures none { (n : List ℕ) → has_place self.new n → has_place self.old n }
-        ensures others { (n : List ℕ) → n ≢ name.now → SameUnder n (given_back self.old) (given_back self.new) }
-        ensures faults { faults self.old ≤ faults self.new }
-        ensures tells { tells self.new ≡ tells self.old };
+        ensures back { (state self.old).has_place name.now → IsGivenBack (state self.new) name.now disk }
+        ensures only { (d : Self.D) → (state self.new).given_back name.now d → d ≡ disk }
+        ensures places { SamePlaces (state self.old) (state self.new) }
+        ensures keeps { KeepsOthers (λ n. n ≡ name.now) (state self.old) (state self.new) };
 }
 
 /// A shelf of disks in memory, which keeps those given back. It never fails by a fault.
@@ -91,15 +76,9 @@ impl MemShelf {
 impl Shelf for MemShelf {
     type D = MemDisk;
 
-    ghost use Rattle.disk_model.specs.Places.{place};
+    ghost use Rattle.disk_model.specs.Places.{shelf_state};
 
-    ghost faults = { λ _. 0 };
-
-    ghost tells = { λ _. true };
-
-    ghost has_place = { λ shelf name. IsSome (place name shelf) };
-
-    ghost given_back = { λ shelf name disk. place name shelf ≡ Some (Some disk) };
+    ghost state = { shelf_state };
 
     fn take(&mut self, alloc: Global, name: &str, size: u64) -> Result<MemDisk, ShelfError> {
         let disk = MemDisk::new(alloc, size)?;

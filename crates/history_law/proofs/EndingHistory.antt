@@ -31,7 +31,7 @@ use Rattle.history_law.specs.Points.{In}
 use Rattle.history_law.specs.Network.{OnSent}
 use Rattle.history_law.specs.Cover.{all_of, memory_of, CoversAt, Covers}
 use Rattle.history_law.specs.TicketSafety.{AreNumbered}
-use Rattle.history_law.specs.EndingSafety.{how_many, is_committed, is_undone, IsKept, IsStruck, EndsAs, EndingsAreSafe, EndingsStaySafe, EndingsLaw, EndingsOfChains}
+use Rattle.history_law.specs.EndingSafety.{how_many, is_committed, is_undone, IsKeptBy, IsStruckBy, EndsAs, EndingsAreSafe, EndingsStaySafe, EndingsLaw, EndingsOfChains}
 use Rattle.history_law.proofs.Tests.{false_true, true_false, and_left, and_right, same_nat, nat_same, in_filter}
 use Rattle.history_law.proofs.Transactions.{known, decide_none}
 use Rattle.history_law.proofs.Branches.{one_branch, decided_in_all}
@@ -196,11 +196,11 @@ module _ (w : World) (past : Past) (ms : List Moment) (c : Covers w past ms) (e 
       by (inl commit) = absurd (both_decided (decided (coordinator_left past ms).records g.xid) commit rollback)
       by (inr none) = none
 
-  kept_as : (k : BranchKind) → g.kind ≡ k → is_commit (decided rs g.xid) ≡ true → IsKept k records g.xid g.branch
+  kept_as : (k : BranchKind) → g.kind ≡ k → is_commit (decided rs g.xid) ≡ true → IsKeptBy k records g.xid g.branch
   kept_as kind.At is_kind commit = never_undone commit
   kept_as kind.Tcc is_kind commit = kept g.xid g.branch records here.order.0 (confirmed commit (settled is_kind))
 
-  struck_as : (k : BranchKind) → g.kind ≡ k → is_rollback (decided rs g.xid) ≡ true → IsStruck k records g.xid g.branch
+  struck_as : (k : BranchKind) → g.kind ≡ k → is_rollback (decided rs g.xid) ≡ true → IsStruckBy k records g.xid g.branch
   struck_as kind.At is_kind rollback =
       balanced_none (is_some (undo_of records g.xid g.branch)) (how_many (is_committed g.xid g.branch) records) (how_many (is_undone g.xid g.branch) records) (how_many (is_cleared g.xid g.branch) records)
       (here.balanced.0 g.xid g.branch) (ap (λ o. is_some o) (no_undo is_kind rollback)) (never_cleared rollback)

@@ -7,7 +7,7 @@ use Rattle.durable_records.specs.Fences.{Fence, IsTried, IsCommitted, IsRollback
 use Rattle.seata_types.specs.declared.statuses.BranchKind.TheVariants as kind
 use Rattle.history_rules.specs.Own.{added}
 use Rattle.history_law.specs.Points.{In}
-use Rattle.history_law.specs.EndingSafety.{how_many, is_committed, is_undone, is_tried, is_confirmed, is_cancelled, is_suspended, IsKept, IsStruck}
+use Rattle.history_law.specs.EndingSafety.{how_many, is_committed, is_undone, is_tried, is_confirmed, is_cancelled, is_suspended, IsKeptBy, IsStruckBy}
 use Rattle.history_law.proofs.Tests.{false_true, true_false, and_left, and_right, and_both, same_nat, nat_same}
 use Rattle.history_law.proofs.UndoRecords.{leg_parts, undone_has_none}
 
@@ -132,10 +132,10 @@ module _ (x b : ℕ) where
   struck_by (Some IsRollbacked) t c k s n e = let p = n.2 in let q = n.3 in (omega arith, n.1, λ one. absurd (omega arith))
   struck_by (Some IsSuspended) t c k s n e = let p = n.2 in let q = n.3 in (omega arith, n.1, λ one. n.0)
 
-  pub kept : (rs : List ResourceRecord) → FenceOrder rs → on_confirm (fence rs x b) ≡ WasDone → IsKept kind.Tcc rs x b
+  pub kept : (rs : List ResourceRecord) → FenceOrder rs → on_confirm (fence rs x b) ≡ WasDone → IsKeptBy kind.Tcc rs x b
   kept rs o e = kept_by (fence rs x b) (tries rs) (confirms rs) (cancels rs) (suspensions rs) (counted rs o) e
 
-  pub struck : (rs : List ResourceRecord) → FenceOrder rs → on_cancel (fence rs x b) ≡ WasDone → IsStruck kind.Tcc rs x b
+  pub struck : (rs : List ResourceRecord) → FenceOrder rs → on_cancel (fence rs x b) ≡ WasDone → IsStruckBy kind.Tcc rs x b
   struck rs o e = struck_by (fence rs x b) (tries rs) (confirms rs) (cancels rs) (suspensions rs) (counted rs o) e
 
 -- ---- a fence that is done stays so

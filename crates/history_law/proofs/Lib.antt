@@ -50,3 +50,12 @@ pub mod SafetyHistory
 pub mod Finishes
 pub mod ResourceSends
 pub mod MessageHistory
+pub mod RecordNames
+pub mod ShownMoments
+pub mod DoneCalls
+pub mod OpenedGrants
+pub mod BranchRecords
+pub mod OpenEntries
+pub mod LeastRows
+pub mod PlayedRuns
+pub mod WorkedRuns

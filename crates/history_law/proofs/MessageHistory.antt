@@ -1,4 +1,4 @@
--- Messages in all legal histories over disks without records: each goes from a node to a node, and names nodes.
+-- Messages in all legal histories, over records whose branches are of resources: each goes from a node to a node, and names nodes.
 use Rattle.std.proofs.Common.{◌≡◌, inl, inr, ◌<◌, ℕ, zero, suc, true, List, [], ◌∷◌, length, slice_get, Option, Some, None, option_map, refl, ap, sym, subst, ◌∙◌, arith}
 use Rattle.std.proofs.lemmas.Bool.Decides.{nat_tests}
 use Rattle.seata_types.specs.declared.ids.Place.{Place}
@@ -23,16 +23,14 @@ use Rattle.history_rules.specs.ResourceMemory.{Setup, Open, Memory, local_of, or
 use Rattle.history_rules.specs.ManagerRules.{Settings, last_sent, sent_after, receiver}
 use Rattle.history_rules.specs.Nodes.{World, Past, Resource, Manager, Ran, counted_at}
 use Rattle.history_rules.specs.Histories.{Moment, own, coordinator_left}
-use Rattle.history_rules.specs.Chains.{IsBlankPast}
 use Rattle.history_law.specs.Points.{In}
 use Rattle.history_law.specs.Network.{OnSent, EachSent}
 use Rattle.history_law.specs.Cover.{all_of, memory_of}
-use Rattle.history_law.specs.MessageSafety.{IsNode, ReachesNode, NamesItsNodes, MessagesLaw}
+use Rattle.history_law.specs.MessageSafety.{IsNode, ReachesNode, NamesItsNodes, AreOfResources, MessagesLaw, MessagesOverAnyRecords}
 use Rattle.history_law.proofs.Tests.{none_some}
 use Rattle.history_law.proofs.Deliveries.{each_grows}
 use Rattle.history_law.proofs.CallBranches.{slot_low}
 use Rattle.history_law.proofs.CoordinatorCauses.{Tells, TellsOf, TellsResource, TellsSender}
-use Rattle.history_law.proofs.CoverChains.{covers_first}
 use Rattle.history_law.proofs.CoverCoordinator.{MayCaused}
 use Rattle.history_law.proofs.ManagerSteps.{IsManagers, SendsManagers}
 use Rattle.history_law.proofs.ManagerOwn.{ManagerIs, SentIs, LastIs, manager_is}
@@ -41,7 +39,7 @@ use Rattle.history_law.proofs.ResourceRows.{each_memory}
 use Rattle.history_law.proofs.ResourceSends.{CallIs, Goes, SentGoes, OpenIs, AreRowsOf, at_tc, effect_on_named, tables_counted, happens_sends, resource_goes}
 use Rattle.history_law.proofs.ResourceSteps.{OpenFrom}
 use Rattle.history_law.proofs.TicketSteps.{memory_by}
-use Rattle.history_law.proofs.Steps.{TcStep, ResStep, ManStep, Keeps, by_entries}
+use Rattle.history_law.proofs.Steps.{TcStep, ResStep, ManStep, HaveTickets, KeepsOver, over_any}
 
 -- ---- numbers
 
@@ -54,7 +52,7 @@ slot_there [] n low = absurd (omega arith)
 slot_there (x ∷ xs) zero low = (x, refl)
 slot_there (x ∷ xs) (suc n) low = slot_there xs n (omega arith)
 
-counted_there : {A : Type 0} (xs : List A) (n : ℕ) → is_counted (length xs) n ≡ true → (a : A) × (counted_at xs n ≡ Some a)
+pub counted_there : {A : Type 0} (xs : List A) (n : ℕ) → is_counted (length xs) n ≡ true → (a : A) × (counted_at xs n ≡ Some a)
 counted_there xs zero e = absurd (grind (arith, nat_tests))
 counted_there xs (suc n) e = slot_there xs n (grind (arith, nat_tests))
 
@@ -263,7 +261,7 @@ module _ (w : World) (past : Past) (names : NamesItsNodes w) (ms : List Moment) 
 -- ---- the induction
 
 module _ (w : World) (past : Past) (names : NamesItsNodes w) where
-  posts_keep : Keeps w past (PostsBy w past)
+  posts_keep : KeepsOver w past (HaveTickets w past) (PostsBy w past)
   posts_keep = record {
     at_tc = λ ms m c i t. posts_at_tc w past ms m i t;
     at_res = λ ms m c i r. posts_at_res w past ms m i r;
@@ -275,14 +273,18 @@ module _ (w : World) (past : Past) (names : NamesItsNodes w) where
     };
   }
 
-posts_first : (w : World) (past : Past) → IsBlankPast past → PostsBy w past (coordinator_left past []) (memory_of past []) []
-posts_first w past bare = record {
+posts_first : (w : World) (past : Past) → AreOfResources w past.sessions → PostsBy w past (coordinator_left past []) (memory_of past []) []
+posts_first w past of = record {
   said = tt;
-  granted = subst (λ (rs : List SessionRecord). GrantsReach w past rs × GrantsReach w past rs) (sym bare.sessions) (λ g i. absurd i, λ g i. absurd i);
+  granted = (λ g i. resource_there w past g.resource (of g i), λ g i. resource_there w past g.resource (of g i));
   opens = λ n s is o i. absurd i;
 }
 
-pub messages_law : MessagesLaw
-messages_law w past ms names bare legal =
-    let posts = by_entries w past names.numbered (PostsBy w past) (posts_keep w past names) (covers_first w past bare) (posts_first w past bare) ms legal in
+pub messages_over_any : MessagesOverAnyRecords
+messages_over_any w past ms names of legal =
+    let posts = over_any w past names.numbered (PostsBy w past) (posts_keep w past names) (posts_first w past of) ms legal in
     each_grows (Posted w past) (ReachesNode w past) (λ p out said. said.0) ms posts.said
+
+-- disks without records name no branch
+pub messages_law : MessagesLaw
+messages_law w past ms names bare legal = messages_over_any w past ms names (subst (AreOfResources w) (sym bare.sessions) (λ g i. absurd i)) legal

@@ -60,12 +60,12 @@ IsNewTicket m (Some n) = IsNew m n.owner
 
 -- the ticket is opened for call c of x
 abbrev pub IsForCall : (x c : ℕ) → Option Open → Type 0
-IsForCall x c None = Unit {0}
+IsForCall x c None = ⊥
 IsForCall x c (Some n) = (manager : ℕ) × (wk : Work) × (n.owner ≡ OfCall manager x c wk)
 
 -- or for local transaction k
 abbrev pub IsForLocal : ℕ → Option Open → Type 0
-IsForLocal k None = Unit {0}
+IsForLocal k None = ⊥
 IsForLocal k (Some n) = n.owner ≡ OfLocal k
 
 -- no open ticket has a row of these images

@@ -295,7 +295,7 @@ abbrev pub ActFinds : Setup → Memory → Event → Act → Type 0
 ActFinds s m event (act.Dirty xid b key after now) = IsDirty s m event xid.0 b.0 key
 ActFinds s m event (act.Unfenced xid b) = IsUnfenced m event xid.0 b.0
 ActFinds s m event (act.Opened xid c t) = (t ≡ next_ticket m) × IsForCall xid.0 c (opened_for s (tables_now s m) t event)
-ActFinds s m event (act.OpenedLocal k t) = IsForLocal k (opened_for s (tables_now s m) t event)
+ActFinds s m event (act.OpenedLocal k t) = (t ≡ next_ticket m) × IsForLocal k (opened_for s (tables_now s m) t event)
 ActFinds s m event _ = Unit {0}
 
 -- what is sent, and what the act found
@@ -309,7 +309,7 @@ module _ (s : Setup) (m : Memory) (event : Event) where
   written_says (act.Dirty xid b key after now) failed sent f g = (inl (f, g), f)
   written_says (act.Unfenced xid b) failed sent f g = (inl (f, g), f)
   written_says (act.Opened xid c t) failed sent f g = (inl (f, g), (f.0, f.3))
-  written_says (act.OpenedLocal k t) failed sent f g = (inl (f, g), f.3)
+  written_says (act.OpenedLocal k t) failed sent f g = (inl (f, g), (f.0, f.3))
   written_says _ failed sent f g = (inl (f, g), tt)
 
   reopens_says : (b : Bool) (kept : Option Durable) → Says (restarted true b kept)

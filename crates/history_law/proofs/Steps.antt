@@ -1,4 +1,5 @@
--- An induction over the entries of a legal history, by the node of each entry, where cover is known.
+-- An induction over the entries of a legal history, by the node of each entry, where something is known of the tickets at each point: cover,
+-- or, over disks with any records, that of the tickets alone.
 use Rattle.std.proofs.Common.{◌≡◌, ◌==◌, ℕ, false, List, [], ◌∷◌, Option, Some, None, option_map, refl, ap, sym, subst, ◌∙◌}
 use Rattle.std.specs.Option.{option_and_then}
 use Rattle.seata_types.specs.declared.acts.Act.TheVariants as act
@@ -10,8 +11,9 @@ use Rattle.seata_types.specs.declared.messages.Message.{Message}
 use Rattle.seata_types.specs.declared.messages.Outgoing.{Outgoing}
 use Rattle.seata_types.specs.declared.messages.Step.{Step}
 use Rattle.durable_records.specs.declared.coordinators.SessionRecord.{SessionRecord}
+use Rattle.durable_records.specs.declared.resources.ResourceRecord.{ResourceRecord}
 use Rattle.durable_records.specs.SessionOrder.{May}
-use Rattle.history_rules.specs.Own.{Event, Given, Left, asked_act, added, still}
+use Rattle.history_rules.specs.Own.{Event, Given, Left, Own, asked_act, added, still}
 use Rattle.history_rules.specs.CoordinatorMemory.{session_record, sessions_left}
 use Rattle.history_rules.specs.CoordinatorRules.{coordinator_answer}
 use Rattle.history_rules.specs.ResourceMemory.{Setup, Memory, memory}
@@ -19,6 +21,7 @@ use Rattle.history_rules.specs.ManagerRules.{Settings}
 use Rattle.history_rules.specs.Nodes.{World, Past, Coordinator, Resource, Manager, Happens, Ran, role_at, counted_at}
 use Rattle.history_rules.specs.Histories.{Moment, own, own_if, same_place, brings, Legal, Stands, IsDone, HappensAt, ComesToNone, coordinator_left}
 use Rattle.history_law.specs.Network.{EachSent}
+use Rattle.history_law.specs.Tickets.{Tickets}
 use Rattle.history_law.specs.Cover.{memory_of, Covers}
 use Rattle.history_law.specs.TicketSafety.{AreNumbered}
 use Rattle.history_law.proofs.Tests.{nat_same}
@@ -32,6 +35,20 @@ use Rattle.history_law.proofs.ResourceSteps.{ResourceMoves, resource_moves}
 use Rattle.history_law.proofs.TicketSteps.{memory_by}
 use Rattle.history_law.proofs.CoverCoordinator.{MayCaused}
 use Rattle.history_law.proofs.CoverHistory.{both_acts, covers}
+
+-- the tickets of a resource alone, over any records
+tickets_own : (s : Setup) (past : List ResourceRecord) (os : List Own) → Ran (Resource s past) os → Tickets (memory s past os)
+tickets_own s past [] r = record { given = λ o i. absurd i; distinct = λ o p i. absurd i; disjoint = λ o p i. absurd i }
+tickets_own s past (o ∷ os) r = (resource_moves s past os o.event o.now o.step (tickets_own s past os r.0) r.1).tickets
+
+-- those of each resource, after a history
+abbrev pub HaveTickets : World → Past → List Moment → Type 0
+HaveTickets w past ms = (k : ℕ) (s : Setup) → counted_at w.resources k ≡ Some s → Tickets (memory_of past ms k s)
+
+pub have_tickets : (w : World) (past : Past) (ms : List Moment) → Legal w past ms → HaveTickets w past ms
+have_tickets w past ms legal k s known =
+    let role : role_at w past (place.Res k) ≡ Some (Resource s (past.resource k)) = ap (option_map (λ q. Resource q (past.resource k))) known in
+    tickets_own s (past.resource k) (own (place.Res k) ms) (ran w past (place.Res k) (Resource s (past.resource k)) role ms legal)
 
 -- a message that comes has what every message has that was sent
 abbrev pub Heard : List Moment → Place → Event → Type 1
@@ -74,15 +91,20 @@ module _ (w : World) (past : Past) (ms : List Moment) (m : Moment) where
     pub happens : Happens (Manager settings) (own (place.Man k) ms) m.now event m.step
     pub sends : SendsManagers m.step.sent
 
--- what an induction shows of each kind of entry
-pub record Keeps (w : World) (past : Past) (I : Left SessionRecord → (ℕ → Setup → Memory) → List Moment → Type 0) : Type 1 where
-  pub at_tc : (ms : List Moment) (m : Moment) → Covers w past ms → I (coordinator_left past ms) (memory_of past ms) ms → (t : TcStep w past ms m) → I t.after (memory_of past ms) (m ∷ ms)
-  pub at_res : (ms : List Moment) (m : Moment) → Covers w past ms → I (coordinator_left past ms) (memory_of past ms) ms → (r : ResStep w past ms m) → I (coordinator_left past ms) r.after (m ∷ ms)
-  pub at_man : (ms : List Moment) (m : Moment) → Covers w past ms → I (coordinator_left past ms) (memory_of past ms) ms → ManStep w past ms m → I (coordinator_left past ms) (memory_of past ms) (m ∷ ms)
+-- what an induction shows of each kind of entry, where C is known of the entries before
+pub record KeepsOver (w : World) (past : Past) (C : List Moment → Type 0) (I : Left SessionRecord → (ℕ → Setup → Memory) → List Moment → Type 0) : Type 1 where
+  pub at_tc : (ms : List Moment) (m : Moment) → C ms → I (coordinator_left past ms) (memory_of past ms) ms → (t : TcStep w past ms m) → I t.after (memory_of past ms) (m ∷ ms)
+  pub at_res : (ms : List Moment) (m : Moment) → C ms → I (coordinator_left past ms) (memory_of past ms) ms → (r : ResStep w past ms m) → I (coordinator_left past ms) r.after (m ∷ ms)
+  pub at_man : (ms : List Moment) (m : Moment) → C ms → I (coordinator_left past ms) (memory_of past ms) ms → ManStep w past ms m → I (coordinator_left past ms) (memory_of past ms) (m ∷ ms)
   pub quiet : (ms : List Moment) (m : Moment) → I (coordinator_left past ms) (memory_of past ms) ms → m.step ≡ still act.Nothing → I (coordinator_left past ms) (memory_of past ms) (m ∷ ms)
 
-module _ (w : World) (past : Past) (numbered : AreNumbered w) (I : Left SessionRecord → (ℕ → Setup → Memory) → List Moment → Type 0) (keeps : Keeps w past I) where
-  module _ (ms : List Moment) (m : Moment) (legal : Legal w past ms) (stands : Stands w past ms m) (c : Covers w past ms) (before : I (coordinator_left past ms) (memory_of past ms) ms) where
+-- the same where cover is known
+abbrev pub Keeps : World → Past → (Left SessionRecord → (ℕ → Setup → Memory) → List Moment → Type 0) → Type 1
+Keeps w past I = KeepsOver w past (Covers w past) I
+
+module _ (w : World) (past : Past) (numbered : AreNumbered w) (C : List Moment → Type 0) (have : (ms : List Moment) → C ms → HaveTickets w past ms)
+    (I : Left SessionRecord → (ℕ → Setup → Memory) → List Moment → Type 0) (keeps : KeepsOver w past C I) where
+  module _ (ms : List Moment) (m : Moment) (legal : Legal w past ms) (stands : Stands w past ms m) (c : C ms) (before : I (coordinator_left past ms) (memory_of past ms) ms) where
     abbrev tc_by : Place → Option Event → Left SessionRecord
     tc_by p event = sessions_left past.sessions (own_if (same_place place.Tc p) event m (own place.Tc ms))
 
@@ -128,7 +150,7 @@ module _ (w : World) (past : Past) (numbered : AreNumbered w) (I : Left SessionR
           at = sym at;
           heard = heard_at (place.Res k) event at same;
           happens = d;
-          moves = resource_moves s (past.resource k) (own (place.Res k) ms) event m.now m.step (c.at k s known).tickets d;
+          moves = resource_moves s (past.resource k) (own (place.Res k) ms) event m.now m.step (have ms c k s known) d;
           after = mem_by (place.Res k) (Some event);
           here = ap (λ b. memory s (past.resource k) (own_if b (Some event) m (own (place.Res k) ms))) (nat_same k k refl);
           there = λ j q e. ap (λ b. memory q (past.resource j) (own_if b (Some event) m (own (place.Res j) ms))) e;
@@ -165,10 +187,25 @@ module _ (w : World) (past : Past) (numbered : AreNumbered w) (I : Left SessionR
     at_place place.Net None at same done = keeps.quiet ms m before done.1
 
   -- one entry
+  entry_over : (ms : List Moment) (m : Moment) → Legal w past (m ∷ ms) → C ms → I (coordinator_left past ms) (memory_of past ms) ms → I (coordinator_left past (m ∷ ms)) (memory_of past (m ∷ ms)) (m ∷ ms)
+  entry_over ms m legal c before = at_place ms m legal.0 legal.1 c before m.place m.event refl refl legal.1.done
+
+  entries_over : ((ms : List Moment) → Legal w past ms → C ms) → I (coordinator_left past []) (memory_of past []) [] → (ms : List Moment) → Legal w past ms → I (coordinator_left past ms) (memory_of past ms) ms
+  entries_over always first [] legal = first
+  entries_over always first (m ∷ ms) legal = entry_over ms m legal (always ms legal.0) (entries_over always first ms legal.0)
+
+-- over disks with any records
+pub over_any : (w : World) (past : Past) → AreNumbered w → (I : Left SessionRecord → (ℕ → Setup → Memory) → List Moment → Type 0) → KeepsOver w past (HaveTickets w past) I
+    → I (coordinator_left past []) (memory_of past []) [] → (ms : List Moment) → Legal w past ms → I (coordinator_left past ms) (memory_of past ms) ms
+over_any w past numbered I keeps first ms legal = entries_over w past numbered (HaveTickets w past) (λ ms have. have) I keeps (have_tickets w past) first ms legal
+
+-- where cover is known
+module _ (w : World) (past : Past) (numbered : AreNumbered w) (I : Left SessionRecord → (ℕ → Setup → Memory) → List Moment → Type 0) (keeps : Keeps w past I) where
+  covered_tickets : (ms : List Moment) → Covers w past ms → HaveTickets w past ms
+  covered_tickets ms c k s known = (c.at k s known).tickets
+
   pub by_entry : (ms : List Moment) (m : Moment) → Legal w past (m ∷ ms) → Covers w past ms → I (coordinator_left past ms) (memory_of past ms) ms → I (coordinator_left past (m ∷ ms)) (memory_of past (m ∷ ms)) (m ∷ ms)
-  by_entry ms m legal c before = at_place ms m legal.0 legal.1 c before m.place m.event refl refl legal.1.done
+  by_entry ms m legal c before = entry_over w past numbered (Covers w past) covered_tickets I keeps ms m legal c before
 
   pub by_entries : Covers w past [] → I (coordinator_left past []) (memory_of past []) [] → (ms : List Moment) → Legal w past ms → I (coordinator_left past ms) (memory_of past ms) ms
-  by_entries start first [] legal = first
-  by_entries start first (m ∷ ms) legal =
-      by_entry ms m legal (covers w past numbered start ms legal.0) (by_entries start first ms legal.0)
+  by_entries start first ms legal = entries_over w past numbered (Covers w past) covered_tickets I keeps (covers w past numbered start) first ms legal

@@ -62,7 +62,7 @@ use Rattle.history_law.proofs.CoverResource.{one_number, in_added, same_owner, g
 use Rattle.history_law.proofs.ResourceFits.{AreFree, IsRollback, IsCommit, IsDirty}
 use Rattle.history_law.proofs.ResourceSteps.{CommitFits, TryFits, RecordFits, NewOpen, OpenFrom, ActFinds}
 use Rattle.history_law.proofs.TicketSteps.{memory_by}
-use Rattle.history_law.proofs.Openings.{opened_by}
+use Rattle.history_law.proofs.Openings.{at_of, opened_by}
 use Rattle.history_law.proofs.BranchOrder.{RollsTo}
 use Rattle.history_law.proofs.RowHolders.{HeldBy, holder}
 use Rattle.history_law.proofs.RowMessages.{SaysRows, rollback_no_commit}
@@ -347,7 +347,7 @@ module _ (w : World) (modes : HasModes w) (past : Past) (ms : List Moment) (m : 
   -- this entry opened it
   opened_now : (o : Open) → In o ne.opens → NewOpen s me r.event ne o → (x : ℕ) → IsAtOf x o.owner → IsOpenedAt past (m ∷ ms) r.k s o.ticket x (call_of o.owner) rs
   opened_now o io new x e =
-      let k = opened_by s me (c.at r.k r.s r.known).tickets r.event o new.ticket m.step.act r.moves.finds io x e in
+      let k = opened_by s me (c.at r.k r.s r.known).tickets r.event o new.ticket m.step.act r.moves.finds io x (at_of x o.owner e) in
       record { later = []; entry = m; before = ms; splits = refl; at = r.at; xid = k.xid; of = k.of; opened = k.is; stood = refl }
 
   -- an AT call or a local transaction: the effect on the tables as they are

@@ -54,26 +54,26 @@ module _ (x b : ℕ) where
 
 -- ---- endings
 
--- a branch of a transaction that is recorded committed: an AT branch isn't undone; a TCC branch is confirmed once, and never
--- cancelled or suspended
-abbrev pub IsKept : BranchKind → List ResourceRecord → ℕ → ℕ → Type 0
-IsKept kind.At rs x b = how_many (is_undone x b) rs ≡ 0
-IsKept kind.Tcc rs x b =
+-- by the records of its resource, a branch of a transaction that is recorded committed: an AT branch isn't undone; a TCC branch is
+-- confirmed once, and never cancelled or suspended
+abbrev pub IsKeptBy : BranchKind → List ResourceRecord → ℕ → ℕ → Type 0
+IsKeptBy kind.At rs x b = how_many (is_undone x b) rs ≡ 0
+IsKeptBy kind.Tcc rs x b =
     (how_many (is_confirmed x b) rs ≡ 1) × (how_many (is_cancelled x b) rs ≡ 0) × (how_many (is_suspended x b) rs ≡ 0)
 
--- a branch of a transaction that is recorded rolled back: an AT branch committed at most once, and was undone as often; a TCC
--- branch is cancelled or suspended once, was never tried where it is suspended, and is never confirmed
-abbrev pub IsStruck : BranchKind → List ResourceRecord → ℕ → ℕ → Type 0
-IsStruck kind.At rs x b =
+-- by the same, a branch of a transaction that is recorded rolled back: an AT branch committed at most once, and was undone as often;
+-- a TCC branch is cancelled or suspended once, was never tried where it is suspended, and is never confirmed
+abbrev pub IsStruckBy : BranchKind → List ResourceRecord → ℕ → ℕ → Type 0
+IsStruckBy kind.At rs x b =
     (how_many (is_committed x b) rs ≤ 1) × (how_many (is_undone x b) rs ≡ how_many (is_committed x b) rs)
-IsStruck kind.Tcc rs x b =
+IsStruckBy kind.Tcc rs x b =
     (how_many (is_cancelled x b) rs + how_many (is_suspended x b) rs ≡ 1) × (how_many (is_confirmed x b) rs ≡ 0)
     × (how_many (is_suspended x b) rs ≡ 1 → how_many (is_tried x b) rs ≡ 0)
 
 -- of a branch of a transaction that is finished, by the records of its resource
 pub record EndsAs (rs : List SessionRecord) (g : Grant) (records : List ResourceRecord) : Type 0 where
-  pub kept : is_commit (decided rs g.xid) ≡ true → IsKept g.kind records g.xid g.branch
-  pub struck : is_rollback (decided rs g.xid) ≡ true → IsStruck g.kind records g.xid g.branch
+  pub kept : is_commit (decided rs g.xid) ≡ true → IsKeptBy g.kind records g.xid g.branch
+  pub struck : is_rollback (decided rs g.xid) ≡ true → IsStruckBy g.kind records g.xid g.branch
 
 -- a branch is confirmed only after a commit, and cancelled or suspended only after a rollback or timeout
 abbrev pub IsFencedAs : Option Decision → Option Fence → Type 0

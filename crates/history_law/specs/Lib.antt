@@ -1,4 +1,5 @@
 pub mod Points
+pub mod EntrySafety
 pub mod SessionSafety
 pub mod Network
 pub mod Tickets
@@ -9,7 +10,13 @@ pub mod WorkSafety
 pub mod CallSafety
 pub mod OrderSafety
 pub mod FinishSafety
+pub mod AskSafety
+pub mod GrantSafety
+pub mod BranchSafety
+pub mod OpenSafety
+pub mod LeastSafety
 pub mod MessageSafety
 pub mod ValueSafety
 pub mod OnceSafety
 pub mod Safety
+pub mod PlaySafety

@@ -14,7 +14,8 @@ use Rattle.history_law.specs.Points.{In, AtEachPoint, InEachHistory}
 use Rattle.history_law.specs.SessionSafety.{session_records, HasOneHolder}
 use Rattle.history_law.specs.Cover.{all_of, memory_of}
 use Rattle.history_law.specs.TicketSafety.{AreNumbered, IsCovered}
-use Rattle.history_law.specs.EndingSafety.{IsKept, IsStruck}
+use Rattle.history_law.specs.BranchSafety.{AreOfBranches, StandsAlone}
+use Rattle.history_law.specs.EndingSafety.{IsKeptBy, IsStruckBy}
 use Rattle.history_law.specs.CallSafety.{NoneIsUnfenced}
 use Rattle.history_law.specs.OnceSafety.{WorkedOnce}
 use Rattle.history_law.specs.OrderSafety.{CommitsLie, UndosFollow, AreFreeSinceGrants}
@@ -29,15 +30,24 @@ pub record IsScenario (w : World) : Type 0 where
 
 -- ---- one point
 
--- a transaction that is finished after a commit: no AT branch was undone, and each TCC branch was confirmed once and never cancelled
--- or suspended
-abbrev pub EndsCommitted : World → List SessionRecord → (ℕ → Setup → Memory) → ℕ → Type 0
-EndsCommitted w rs mem x = (g : Grant) → In g (grants rs) → g.xid ≡ x → (s : Setup) → counted_at w.resources g.resource ≡ Some s → IsKept g.kind (mem g.resource s).left.records x g.branch
+-- a branch of a transaction that is finished after a commit: all its records stand at its own resource and are of its mode; an AT
+-- branch was not undone, and a TCC branch was confirmed once and never cancelled or suspended
+pub record IsKept (w : World) (mem : ℕ → Setup → Memory) (g : Grant) : Type 0 where
+  pub alone : StandsAlone w mem g
+  pub by_records : (s : Setup) → counted_at w.resources g.resource ≡ Some s → IsKeptBy g.kind (mem g.resource s).left.records g.xid g.branch
 
--- one that is finished after a rollback or timeout: each AT branch committed at most once and was undone as often, each TCC
--- branch was cancelled or suspended once, was not tried where it is suspended, and never confirmed
+-- one of a transaction that is finished after a rollback or timeout: the same of its records; an AT branch committed at most once and
+-- was undone as often, a TCC branch was cancelled or suspended once, was not tried where it is suspended, and never confirmed
+pub record IsStruck (w : World) (mem : ℕ → Setup → Memory) (g : Grant) : Type 0 where
+  pub alone : StandsAlone w mem g
+  pub by_records : (s : Setup) → counted_at w.resources g.resource ≡ Some s → IsStruckBy g.kind (mem g.resource s).left.records g.xid g.branch
+
+-- all branches of x are kept, and all are struck
+abbrev pub EndsCommitted : World → List SessionRecord → (ℕ → Setup → Memory) → ℕ → Type 0
+EndsCommitted w rs mem x = (g : Grant) → In g (grants rs) → g.xid ≡ x → IsKept w mem g
+
 abbrev pub EndsRolledBack : World → List SessionRecord → (ℕ → Setup → Memory) → ℕ → Type 0
-EndsRolledBack w rs mem x = (g : Grant) → In g (grants rs) → g.xid ≡ x → (s : Setup) → counted_at w.resources g.resource ≡ Some s → IsStruck g.kind (mem g.resource s).left.records x g.branch
+EndsRolledBack w rs mem x = (g : Grant) → In g (grants rs) → g.xid ≡ x → IsStruck w mem g
 
 -- the local commits of resource n: on the rows that one touched or read, only settled changes and those of earlier branches of its
 -- own transaction lie under it; and it, or the one in flight, is the effect of its call on rows that were kept at the opening of its
@@ -49,12 +59,14 @@ pub record HaveReadKept (w : World) (past : Past) (ms : List Moment) (n : ℕ) (
 
 -- of the coordinator's records and what the entries of each resource leave: no row has two holders; each change that isn't undone is
 -- covered; each row of an AT table that no outside write touched is kept; of a transaction that is decided commit, so also at the point of
--- its decision, each call has worked once; finished ones have ended as they were decided, and each undo stands after its local commit; and local commits have read rows that were kept
+-- its decision, each call has worked once; each record of a branch is of one that was granted to its resource, in its mode; finished
+-- ones have ended as they were decided, and each undo stands after its local commit; and local commits have read rows that were kept
 pub record IsSafe (w : World) (past : Past) (ms : List Moment) : Type 0 where
   pub one_holder : (key : RowKey) → HasOneHolder (session_records past ms) key
   pub covered : (n : ℕ) (s : Setup) → counted_at w.resources n ≡ Some s → (key : RowKey) (c : Change) → In c (changes (memory_of past ms n s).left.records key) → IsCovered (session_records past ms) key c
   pub kept : (n : ℕ) (s : Setup) → counted_at w.resources n ≡ Some s → AreKept s (memory_of past ms n s).left.records
   pub worked : (x : ℕ) → is_commit (decided (session_records past ms) x) ≡ true → WorkedOnce w (session_records past ms) (memory_of past ms) x
+  pub granted : (n : ℕ) (s : Setup) → counted_at w.resources n ≡ Some s → AreOfBranches (session_records past ms) n (memory_of past ms n s).left.records
   pub committed : (x : ℕ) → is_done (progress (session_records past ms) x) ≡ true → is_commit (decided (session_records past ms) x) ≡ true → EndsCommitted w (session_records past ms) (memory_of past ms) x
   pub rolled_back : (x : ℕ) → is_done (progress (session_records past ms) x) ≡ true → is_rollback (decided (session_records past ms) x) ≡ true → EndsRolledBack w (session_records past ms) (memory_of past ms) x
   pub undone : (n : ℕ) (s : Setup) → counted_at w.resources n ≡ Some s → UndosFollow (memory_of past ms n s).left.records

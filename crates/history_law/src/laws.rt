@@ -5,7 +5,14 @@ ghost use Rattle.history_law.specs.EndingSafety.{EndingsLaw, EndingsOfChains};
 ghost use Rattle.history_law.specs.WorkSafety.{CommitsLaw, CommitsOfChains};
 ghost use Rattle.history_law.specs.OrderSafety.{RowsLaw, RowsOfChains, FreeLaw, FreeOfChains};
 ghost use Rattle.history_law.specs.FinishSafety.{FinishesLaw};
-ghost use Rattle.history_law.specs.MessageSafety.{MessagesLaw};
+ghost use Rattle.history_law.specs.EntrySafety.{EntriesTellMoments};
+ghost use Rattle.history_law.specs.AskSafety.{AskingLaw};
+ghost use Rattle.history_law.specs.GrantSafety.{GrantsLaw};
+ghost use Rattle.history_law.specs.OpenSafety.{OpenTicketsLaw};
+ghost use Rattle.history_law.specs.LeastSafety.{BusyLaw, RollbackRowsLaw, RollbackRowsOfChains};
+ghost use Rattle.history_law.specs.PlaySafety.{PlayedLaw, WorkedLaw, TransferPlaysSafely};
+ghost use Rattle.history_law.specs.BranchSafety.{BranchesLaw, BranchesOfChains};
+ghost use Rattle.history_law.specs.MessageSafety.{MessagesLaw, MessagesOverAnyRecords, RecordsNameResources};
 ghost use Rattle.history_law.specs.OnceSafety.{OnceLaw, OnceOfChains};
 ghost use Rattle.history_law.specs.Safety.{SafetyLaw, SafetyOfChains};
 ghost use Rattle.history_law.specs.ValueSafety.{ValuesLaw, ValuesOfChains, DirtyLaw, DirtyOfChains};
@@ -129,6 +136,22 @@ pub fn messages_reach_nodes()
     ensures { MessagesLaw }
 {}
 
+/// The same holds over all records whose branches are of resources.
+pub fn messages_over_any_records_reach_nodes()
+    ensures { MessagesOverAnyRecords }
+{}
+
+/// The branches of records that a coordinator of so many managers and resources can have made are of its resources.
+pub fn records_name_resources()
+    ensures { RecordsNameResources }
+{}
+
+/// Two legal histories over the same disks are the same where their entries show the same: stamp, place, clock, cause and act.
+/// The event, and the message that was sent with all that it holds, then follow.
+pub fn entries_tell_moments()
+    ensures { EntriesTellMoments }
+{}
+
 /// At each point of a legal history over disks without records, where AT calls name AT tables and TCC actions TCC tables, for each
 /// row of an AT table: since the last outside write on it each change found the value under it, and the row is what the last one
 /// left. A row that no outside write touched is the opening row with the changes that aren't undone. The images of an open
@@ -167,11 +190,76 @@ pub fn calls_of_chains_work_once()
     ensures { OnceOfChains }
 {}
 
+/// In each legal history, over any records, a GlobalCommit is sent by a manager alone, and only after entries told it of each of its
+/// calls that it is done.
+pub fn commits_are_asked_for_when_all_is_done()
+    ensures { AskingLaw }
+{}
+
+/// At each point of a legal history, over any records, each branch that is granted, the one in flight among them, was so before
+/// the history, or an entry had opened its ticket at its resource, for its call.
+pub fn grants_follow_the_opening()
+    ensures { GrantsLaw }
+{}
+
+/// At each point of a legal history over disks without records each record of a local commit, an undo, a marker or a clearing, and
+/// each of a Try, a Confirm, a Cancel or a suspension, the one in flight among them, is of a branch that was granted to this
+/// resource: in the first four an AT branch, in the others a TCC branch. So all records of a branch stand at its own resource, and
+/// are of its mode.
+pub fn records_are_of_granted_branches()
+    ensures { BranchesLaw }
+{}
+
+/// The same holds of every history of a chain.
+pub fn records_of_chains_are_of_granted_branches()
+    ensures { BranchesOfChains }
+{}
+
+/// In each legal history, over any records, the open tickets of a resource are those that one of its entries opened, where none after
+/// that took it down or ended the ticket. Of two of them the one that stands last in the list, which a turn sends again, is the one that
+/// was sent longest ago: each other one was sent since.
+pub fn open_tickets_are_opened_and_not_ended()
+    ensures { OpenTicketsLaw }
+{}
+
+/// A call or local transaction that is busy names the least row of its effect that an open ticket has.
+pub fn busy_names_the_least_row()
+    ensures { BusyLaw }
+{}
+
+/// At each point of a legal history over disks without records: a rollback that is blocked names the least row of its undo record that an
+/// open ticket has, one that is dirty the least row of it that isn't as the branch left it.
+pub fn rollbacks_name_the_least_row()
+    ensures { RollbackRowsLaw }
+{}
+
+/// The same holds of every history of a chain.
+pub fn rollbacks_of_chains_name_the_least_row()
+    ensures { RollbackRowsOfChains }
+{}
+
+/// What is played of a schedule that names nodes is a run of it, legal and whole, over all records whose branches are of resources. So
+/// each such schedule has a run: the rules leave no step of it without an act.
+pub fn what_is_played_is_a_run()
+    ensures { PlayedLaw }
+{}
+
+/// Each schedule that names nodes, of each scenario of the worked histories, plays safely: what is played of it is a run, and safe.
+pub fn worked_histories_play_safely()
+    ensures { WorkedLaw }
+{}
+
+/// So does the transfer by automatic steps, whose history is computed whole beside the rules.
+pub fn the_transfer_plays_safely()
+    ensures { TransferPlaysSafely }
+{}
+
 /// Each legal history over disks without records is safe, where AT calls name AT tables and TCC actions TCC tables. At each
 /// point: no row has two holders; each change that isn't undone is covered; each row of an AT table that no outside write touched
-/// is kept; of a transaction that is decided commit each call has worked once; of one that is finished after a commit no branch was
+/// is kept; of a transaction that is decided commit each call has worked once; each record of a branch is of one that was granted to
+/// its resource, in its mode; of one that is finished after a commit no branch was
 /// undone, and each TCC branch was confirmed once; of one that is finished after a rollback or timeout each branch that committed
-/// was undone, and each TCC branch was cancelled or suspended once; and local commits did and read what their calls do on rows that
+/// was undone, and each TCC branch was cancelled or suspended once; all records of these branches stand at their own resources; and local commits did and read what their calls do on rows that
 /// were kept at the opening of their tickets. No fence refuses a second phase, a rollback finds a row dirty only after an outside
 /// write, each finish tells the status of its decision, and from the grant of a branch to its local commit no other undecided
 /// transaction has changed its rows.

@@ -11,7 +11,7 @@ use crate::served;
 use crate::steps::steps;
 use coordinator_core::Coordinator;
 use disk_model::{Disk, MemDisk, Stoppable};
-use history_text::Node;
+use node_steps::Node;
 use seata_types::Input;
 use std::alloc::Global;
 use std::marker::Brand;

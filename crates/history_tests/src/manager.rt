@@ -4,8 +4,8 @@ ghost use Rattle.manager_core.specs.Within.{IsCallWithin};
 
 use crate::errors::Fail;
 use crate::steps::has_line;
-use history_text::Node;
 use manager_core::Manager;
+use node_steps::Node;
 use seata_types::{
     CallAnswer, Ending, GlobalStatus, Input, List, Message, NoMemory, Place, RowKey, Text, Ticket,
     Work, Xid,

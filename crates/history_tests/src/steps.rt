@@ -3,7 +3,8 @@ ghost use Rattle.std.specs.Prelude.{◌≡◌};
 ghost use Rattle.seata_types.specs.declared.messages.Input.{Input as Given};
 
 use crate::errors::Fail;
-use history_text::{Cause, Entry, Names, Node, Sent, note_of, write_entry};
+use history_text::{Cause, Entry, Names, Sent, note_of, write_entry};
+use node_steps::Node;
 use seata_types::{Input, List, NoMemory, NodeError, Outgoing, Place, Step};
 use std::alloc::Global;
 
@@ -75,8 +76,9 @@ pub fn steps<N: Node>(
     now: u32,
     wanted: &'static str,
 ) -> Result<(), Fail>
-    requires { N.serves node.old input }
-    ensures { (given : Given) → N.serves node.old given → N.serves node.new given }
+    requires { (N.state node.old).serves input }
+    ensures { (given : Given) →
+        (N.state node.old).serves given → (N.state node.new).serves given }
 {
     if node.is_down() || node.steps_left() == 0 {
         drop(input);

@@ -1,6 +1,2 @@
-pub mod Served
 mod Texts
 pub mod Worlds
-mod DurableExamples
-pub mod DurableImages
-pub mod Places

@@ -18,7 +18,7 @@ pub enum Cause {
 }
 
 /// A message that an entry sent, as its line shows it.
-#[derive(Drop)]
+#[derive(Drop, PartialEq, Eq)]
 pub struct Sent {
     pub to: Place,
     pub note: Note,

@@ -1,5 +1,5 @@
 //! The histories of a scenario: its nodes and its schedule in the words of the rules of all nodes, the
-//! entries and the report that are printed of a history, and the trait of the nodes that make one.
+//! entries and the report that are printed of a history.
 #![tactic(auto)]
 
 mod acts;
@@ -10,17 +10,13 @@ pub mod laws;
 pub mod lines;
 mod locks;
 mod messages;
-pub mod nodes;
 pub mod notes;
 mod parts;
 mod reasons;
-pub mod steps;
 mod words;
 
 pub use entries::{Cause, Entry, Names, Sent};
 pub use lines::{add_entry, put_entry, put_key, put_note, put_place, put_row, write_entry};
 pub use messages::add_note;
-pub use nodes::Node;
 pub use notes::{Note, note_of};
 pub use parts::{add_key, add_place, add_row};
-pub use steps::{sends, still};

@@ -8,7 +8,7 @@ use seata_types::{
 };
 
 /// A message without what its printed line leaves out.
-#[derive(Drop)]
+#[derive(Drop, PartialEq, Eq)]
 pub enum Note {
     Begin {
         manager: u16,

@@ -3,6 +3,7 @@ use Rattle.std.proofs.Common.{◌≡◌, ◌⊎◌, inl, inr, ◌||◌, ℕ, nat
 use Rattle.std.proofs.lemmas.Bool.Decides.{nat_tests}
 use Rattle.std.proofs.lemmas.Option.{same_Some}
 use Rattle.disk_model.specs.Disk.{DiskState}
+use Rattle.disk_model.specs.Shelf.{ShelfState}
 use Rattle.scenario_reader.specs.declared.errors.ScenarioError.{ScenarioError}
 use Rattle.scenario_form.specs.declared.scenarios.Scenario.{Scenario}
 use Rattle.scenario_reader.specs.Form.{scenario_of}
@@ -10,7 +11,6 @@ use Rattle.scenario_reader.specs.Reading.{IsJson, IsScenario, IsScenarioOf}
 use Rattle.history_text.specs.declared.entries.Entry.{Entry}
 use Rattle.node_seat.specs.declared.faults.RunFault.{RunFault}
 use Rattle.node_seat.specs.declared.faults.RunFault.TheVariants as run_fault
-use Rattle.scenario_nodes.specs.Shelves.{Showing}
 use Rattle.replay_runner.specs.Leaving.{IsCalmEnd, IsCalmShelf, server_names}
 use Rattle.replay_runner.specs.Leaving.{Replays as Replayed}
 use Rattle.replay_runner.proofs.Calm.{ends_calmly}
@@ -29,7 +29,7 @@ same_servers input r s a b =
     let known : a.1 ≡ b.1 = same_Some a.1 b.1 (sym a.2.1 ∙ b.2.1) in
     ap names_in (sym a.3.0 ∙ ap scenario_of known ∙ b.3.0)
 
-calm_of : {D : Type 0} (state : D → DiskState) (before after : Showing D) (r s : Scenario) → server_names r ≡ server_names s → IsCalmShelf state s before after → IsCalmShelf state r before after
+calm_of : {D : Type 0} (state : D → DiskState) (before after : ShelfState D) (r s : Scenario) → server_names r ≡ server_names s → IsCalmShelf state s before after → IsCalmShelf state r before after
 calm_of state before after r s same calm = record {
   tells = calm.tells;
   told = calm.told;
@@ -46,10 +46,10 @@ calm_text s (Err (run_fault.Store at)) text n calm t = absurd calm
 calm_text s (Err (run_fault.Damaged at second offset)) text n calm t = absurd calm
 calm_text s (Err run_fault.Other) text n calm t = absurd calm
 
-module _ {D : Type 0} (state : D → DiskState) (before after : Showing D) (result : ℕ) (old new : Devices) (input : List ℕ) (told : old.left ≡ Some input) (s : Scenario) (is : IsScenario input s)
+module _ {D : Type 0} (state : D → DiskState) (before after : ShelfState D) (same_tells : after.tells ≡ before.tells) (result : ℕ) (old new : Devices) (input : List ℕ) (told : old.source.left ≡ Some input) (s : Scenario) (is : IsScenario input s)
     {IsDone : Scenario → List ℕ → Type 0} (said : TellsReplay (Replayed state before after) IsDone result old new) where
   of_replay : (n : ℕ) → Replays (Replayed state before after) n input old new → IsCalmShelf state s before after → is_calm_end n ≡ true
-  of_replay n r calm = calm_text r.scenario r.is_replay.ended r.text n (ends_calmly state r.scenario before after r.is_replay.ended r.is_replay.has_ended (calm_of state before after r.scenario s (same_servers input r.scenario s r.is_scenario is) calm)) r.is_replay.is_text
+  of_replay n r calm = calm_text r.scenario r.is_replay.ended r.text n (ends_calmly state r.scenario before after r.is_replay.ended same_tells r.is_replay.has_ended (calm_of state before after r.scenario s (same_servers input r.scenario s r.is_scenario is) calm)) r.is_replay.is_text
 
   pub calm_status : IsCalm old new → IsCalmShelf state s before after → is_calm_end result ≡ true
   calm_status still calm = by (said.complete input s told is still)

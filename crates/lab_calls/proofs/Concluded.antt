@@ -5,11 +5,11 @@ use Rattle.std.proofs.lemmas.Bool.Decides.{nat_tests}
 use Rattle.std.proofs.lemmas.List.{append-nil, length-take, drop_all}
 use Rattle.std.proofs.lemmas.Option.{same_Some}
 use Rattle.std.specs.Io.KnownBytes.{Appends, Consumes, IsAtEnd}
-use Rattle.std.specs.Prelude.{IfOk, IfErr}
 use Rattle.seata_types.specs.declared.limits.TheConstants.{INPUT_BYTES}
 use Rattle.disk_model.specs.Disk.{Rose}
 use Rattle.lab_calls.specs.declared.answers.Answer.{Answer}
 use Rattle.lab_calls.specs.Answers.{HasRead, Answers, TellsFaults, is_among, unread, with_failures}
+use Rattle.lab_calls.specs.Steps.{AnswersInput, WritesAnswer, WritesText}
 use Rattle.lab_calls.specs.Streams.{GainsFront, Devices, IsCalm}
 
 -- ---- the bytes that were read, and the input
@@ -77,22 +77,22 @@ none_unread input is short = is ∙ ap (λ r. Some r) (drop_all (INPUT_BYTES + 1
 pub record Writes (IsAnswer : List ℕ → List ℕ → ℕ → Type 0) (status : ℕ) (input : List ℕ) (old new : Devices) : Type 0 where
   pub text : List ℕ
   pub is_answer : IsAnswer input text status
-  pub printed : Appends old.written new.written text
-  pub read : new.left ≡ Some (unread input)
+  pub printed : Appends old.sink.written new.sink.written text
+  pub read : new.source.left ≡ Some (unread input)
 
 -- the front of the text of the input's answer was written
 pub record WritesFront (IsAnswer : List ℕ → List ℕ → ℕ → Type 0) (input : List ℕ) (old new : Devices) : Type 0 where
   pub text : List ℕ
   pub status : ℕ
   pub is_answer : IsAnswer input text status
-  pub printed : GainsFront old.written new.written text
-  pub read : new.left ≡ Some (unread input)
+  pub printed : GainsFront old.sink.written new.sink.written text
+  pub read : new.source.left ≡ Some (unread input)
 
 -- what the status says: those of `texts` come with a text
 pub record Concludes (IsAnswer : List ℕ → List ℕ → ℕ → Type 0) (texts : List ℕ) (result : ℕ) (old new : Devices) : Type 0 where
   pub faults : TellsFaults (with_failures texts) result old new
-  pub written : is_among texts result ≡ true → (input : List ℕ) → old.left ≡ Some input → Writes IsAnswer result input old new
-  pub front : result ≡ 5 → (input : List ℕ) → old.left ≡ Some input → WritesFront IsAnswer input old new
+  pub written : is_among texts result ≡ true → (input : List ℕ) → old.source.left ≡ Some input → Writes IsAnswer result input old new
+  pub front : result ≡ 5 → (input : List ℕ) → old.source.left ≡ Some input → WritesFront IsAnswer input old new
 
 -- no failure comes with a text
 pub record AreTexts (texts : List ℕ) : Type 0 where
@@ -136,9 +136,8 @@ never_among texts n k same none e = false_true (sym none ∙ ap (is_among texts)
 
 -- a text was to be written, with this status
 module _ (IsAnswer : List ℕ → List ℕ → ℕ → Type 0) (texts : List ℕ) (are : AreTexts texts) (result : ℕ) (old new : Devices) (text : List ℕ) (status : ℕ)
-    (answer : Answers IsAnswer texts old.left new.left text status)
-    (whole : result ≢ 5 → (result ≡ status) × Appends old.written new.written text)
-    (front : result ≡ 5 → status ≢ 5 → Rose old.sink_faults new.sink_faults × GainsFront old.written new.written text) where
+    (answer : Answers IsAnswer texts old.source.left new.source.left text status)
+    (wrote : WritesText text status result old.sink new.sink) where
   not_five : status ≢ 5
   not_five five = never_among texts status 5 five are.not_five answer.is_known
 
@@ -148,7 +147,7 @@ module _ (IsAnswer : List ℕ → List ℕ → ℕ → Type 0) (texts : List ℕ
     where
       by : (b : Bool) → nat_eq result 5 ≡ b → (result ≡ 5) ⊎ (is_among texts result ≡ true)
       by true e = inl (grind (arith, nat_tests))
-      by false e = let other : result ≢ 5 = grind (arith, nat_tests) in inr (ap (is_among texts) (whole other).0 ∙ answer.is_known)
+      by false e = let other : result ≢ 5 = grind (arith, nat_tests) in inr (ap (is_among texts) (wrote.whole other).0 ∙ answer.is_known)
 
   among : is_among (with_failures texts) result ≡ true
   among = by result_is
@@ -176,18 +175,18 @@ module _ (IsAnswer : List ℕ → List ℕ → ℕ → Type 0) (texts : List ℕ
     faults = record {
       statuses = among;
       source_failed = λ four. not_four four;
-      sink_failed = λ five. (front five not_five).0;
+      sink_failed = λ five. (wrote.front five not_five).0;
       no_memory = λ six. not_six six;
     };
     written = λ known input told.
-        let w = whole (λ five. never_among texts result 5 five are.not_five known) in
+        let w = wrote.whole (λ five. never_among texts result 5 five are.not_five known) in
         record { text = text; is_answer = rw w.0 (answer.is_answer input told); printed = w.1; read = answer.read input told };
-    front = λ five input told. record { text = text; status = status; is_answer = answer.is_answer input told; printed = (front five not_five).1; read = answer.read input told };
+    front = λ five input told. record { text = text; status = status; is_answer = answer.is_answer input told; printed = (wrote.front five not_five).1; read = answer.read input told };
   }
 
 -- there was no text to write
 concluded_nothing : (IsAnswer : List ℕ → List ℕ → ℕ → Type 0) (texts : List ℕ) → AreTexts texts → (result : ℕ) (old new : Devices) → (result ≡ 4) ⊎ (result ≡ 6)
-    → (result ≡ 4 → Rose old.source_faults new.source_faults) → new.written ≡ old.written → Concludes IsAnswer texts result old new
+    → (result ≡ 4 → Rose old.source.faults new.source.faults) → new.sink.written ≡ old.sink.written → Concludes IsAnswer texts result old new
 concluded_nothing IsAnswer texts are result old new known rose same = record {
   faults = record {
     statuses = among_back texts (4 ∷ 5 ∷ 6 ∷ []) result (among known);
@@ -212,14 +211,10 @@ concluded_nothing IsAnswer texts are result old new known rose same = record {
     no_text (inr h) k = never_among texts result 6 h are.not_six k
 
 pub concluded : (IsAnswer : List ℕ → List ℕ → ℕ → Type 0) (texts : List ℕ) → AreTexts texts → (result : ℕ) (old new : Devices) (answer : Result Answer ℕ)
-    → IfOk answer (λ a. Answers IsAnswer texts old.left new.left (string_bytes a.text) a.status)
-    → IfErr answer (λ status. (status ≡ 4) ⊎ (status ≡ 6)) → IfErr answer (λ status. status ≡ 4 → Rose old.source_faults new.source_faults)
-    → IfOk answer (λ a. result ≢ 5 → (result ≡ a.status) × Appends old.written new.written (string_bytes a.text))
-    → IfOk answer (λ a. result ≡ 5 → a.status ≢ 5 → Rose old.sink_faults new.sink_faults × GainsFront old.written new.written (string_bytes a.text))
-    → IfErr answer (λ status. (result ≡ status) × (new.written ≡ old.written)) → Concludes IsAnswer texts result old new
-concluded IsAnswer texts are result old new (Ok a) is known rose whole front nothing = concluded_text IsAnswer texts are result old new (string_bytes a.text) a.status is whole front
-concluded IsAnswer texts are result old new (Err status) is known rose whole front nothing =
-    concluded_nothing IsAnswer texts are result old new (rw nothing.0 known) (λ four. rose (sym nothing.0 ∙ four)) nothing.1
+    → AnswersInput IsAnswer texts old.source new.source answer → WritesAnswer answer result old.sink new.sink → Concludes IsAnswer texts result old new
+concluded IsAnswer texts are result old new (Ok a) read wrote = concluded_text IsAnswer texts are result old new (string_bytes a.text) a.status read.answer wrote
+concluded IsAnswer texts are result old new (Err status) read wrote =
+    concluded_nothing IsAnswer texts are result old new (rw wrote.0 read.statuses) (λ four. read.failed (sym wrote.0 ∙ four)) wrote.1
 
 -- where no device failed, the text was written or memory was refused
 pub calm : (IsAnswer : List ℕ → List ℕ → ℕ → Type 0) (texts : List ℕ) (result : ℕ) (old new : Devices) → Concludes IsAnswer texts result old new → IsCalm old new

@@ -45,7 +45,7 @@ long_case input many = by (case_of input)
     by (inr h) = (h.text, h.status)
 
 module _ (result : ℕ) (old new : Devices) (t : Concludes IsFramesAnswer frames_statuses result old new) where
-  listed_says : result ≡ 0 → (input : List ℕ) → old.left ≡ Some input → ListsFrames input old new
+  listed_says : result ≡ 0 → (input : List ℕ) → old.source.left ≡ Some input → ListsFrames input old new
   listed_says zero input told = by (case_of input)
     where
       w : Writes IsFramesAnswer result input old new
@@ -55,11 +55,11 @@ module _ (result : ℕ) (old new : Devices) (t : Concludes IsFramesAnswer frames
       by (inl h) = record {
         read_to_end = none_unread input w.read h.short;
         short = h.short;
-        printed = subst (λ x. Appends old.written new.written x) (w.is_answer.text_is ∙ h.text) w.printed;
+        printed = subst (λ x. Appends old.sink.written new.sink.written x) (w.is_answer.text_is ∙ h.text) w.printed;
       }
       by (inr h) = absurd (omega (arith, zero, w.is_answer.status_is, h.status))
 
-  over_says : result ≡ 3 → (input : List ℕ) → old.left ≡ Some input → IsOver input old new
+  over_says : result ≡ 3 → (input : List ℕ) → old.source.left ≡ Some input → IsOver input old new
   over_says three input told = by (case_of input)
     where
       w : Writes IsFramesAnswer result input old new
@@ -67,14 +67,14 @@ module _ (result : ℕ) (old new : Devices) (t : Concludes IsFramesAnswer frames
 
       by : IsListed input ⊎ IsLong input → IsOver input old new
       by (inl h) = absurd (omega (arith, three, w.is_answer.status_is, h.status))
-      by (inr h) = record { read_to_end = w.read; long = h.long; printed = subst (λ x. Appends old.written new.written x) (w.is_answer.text_is ∙ h.text) w.printed }
+      by (inr h) = record { read_to_end = w.read; long = h.long; printed = subst (λ x. Appends old.sink.written new.sink.written x) (w.is_answer.text_is ∙ h.text) w.printed }
 
-  cut_says : result ≡ 5 → (input : List ℕ) → old.left ≡ Some input → (new.left ≡ Some (unread input)) × GainsFront old.written new.written (frames_answer input)
+  cut_says : result ≡ 5 → (input : List ℕ) → old.source.left ≡ Some input → (new.source.left ≡ Some (unread input)) × GainsFront old.sink.written new.sink.written (frames_answer input)
   cut_says five input told =
       let w = t.front five input told in
-      (w.read, subst (λ x. GainsFront old.written new.written x) w.is_answer.text_is w.printed)
+      (w.read, subst (λ x. GainsFront old.sink.written new.sink.written x) w.is_answer.text_is w.printed)
 
-  complete_says : (input : List ℕ) → old.left ≡ Some input → IsCalm old new → (result ≡ frames_status input) ⊎ (result ≡ 6)
+  complete_says : (input : List ℕ) → old.source.left ≡ Some input → IsCalm old new → (result ≡ frames_status input) ⊎ (result ≡ 6)
   complete_says input told still = by (calm IsFramesAnswer frames_statuses result old new t still)
     where
       by : (is_among frames_statuses result ≡ true) ⊎ (result ≡ 6) → (result ≡ frames_status input) ⊎ (result ≡ 6)

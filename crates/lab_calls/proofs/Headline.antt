@@ -1,17 +1,18 @@
 -- What status 0 of a replay says, where the shelf's disks tell their bytes.
 use Rattle.std.proofs.Common.{◌≡◌, inl, inr, ℕ, List, [], ◌∷◌, length, Result, Ok, Err, refl, ap, sym, ◌∙◌, arith, length-append}
 use Rattle.disk_model.specs.Disk.{DiskState}
+use Rattle.disk_model.specs.Shelf.{ShelfState}
 use Rattle.scenario_form.specs.declared.scenarios.Scenario.{Scenario}
 use Rattle.scenario_reader.specs.Reading.{IsScenario}
 use Rattle.scenario_form.specs.Runnable.{IsRunnable}
 use Rattle.scenario_reader.proofs.RunnableFacts.{given}
 use Rattle.history_rules.specs.Histories.{Moment}
 use Rattle.history_text.specs.declared.entries.Entry.{Entry}
-use Rattle.history_text.specs.History.{entries, entry_of}
+use Rattle.history_text.specs.History.{IsRun, entries, entry_of}
 use Rattle.node_seat.specs.declared.faults.RunFault.{RunFault}
 use Rattle.node_seat.specs.declared.faults.RunFault.TheVariants as run_fault
 use Rattle.replay_runner.proofs.Singles.{length-singles}
-use Rattle.scenario_nodes.specs.Shelves.{AllTell, Showing}
+use Rattle.scenario_nodes.specs.Shelves.{AllTell}
 use Rattle.replay_runner.specs.Leaving.{GivesBack}
 use Rattle.replay_runner.specs.Leaving.{Replays as Replayed}
 use Rattle.report_text.specs.Following.{Reports}
@@ -34,8 +35,8 @@ no_fault_is_done (run_fault.Damaged at second offset) e = omega (arith, e)
 no_fault_is_done run_fault.Other e = omega (arith, e)
 no_fault_is_done run_fault.NoMemory e = omega (arith, e)
 
-module _ {D : Type 0} (state : D → DiskState) (old new : Showing D) (s : Scenario) (runs : IsRunnable s) (text : List ℕ) where
-  reported : (es : List Entry) (g : GivesBack state old.has_place new.has_place old.tells new.given_back s (Ok es)) → Reports s es text → AllTell state → Reported state s g.disks text
+module _ {D : Type 0} (state : D → DiskState) (old new : ShelfState D) (s : Scenario) (runs : IsRunnable s) (text : List ℕ) where
+  reported : (es : List Entry) (g : GivesBack state old new s (Ok es)) → Reports s es text → AllTell state → Reported IsRun state s g.disks text
   reported es g report all =
       let d = g.leaves all in
       let few = runs.steps in
@@ -49,19 +50,19 @@ module _ {D : Type 0} (state : D → DiskState) (old new : Showing D) (s : Scena
         sized = d.sized;
       }
 
-  of_end : (ended : Result (List Entry) RunFault) → Replayed state old new s ended → IsEndText s ended text 0 → Done state old.tells new.given_back s text
+  of_end : (ended : Result (List Entry) RunFault) → Replayed state old new s ended → IsEndText s ended text 0 → Done IsRun state new s text
   of_end (Ok es) (inl g) t = record { disks = g.disks; back = g.back; count = g.count; reported = reported es g t.1 }
   of_end (Ok es) (inr none) t = absurd none
   of_end (Err missed) ends t = absurd (no_fault_is_done missed t.1)
 
 -- the text of status 0, also where it was cut short
-pub answer_zero : {D : Type 0} (state : D → DiskState) (old new : Showing D) (input text : List ℕ)
-    → IsAnswerTo (Replayed state old new) input text 0 → (s : Scenario) × IsScenario input s × Done state old.tells new.given_back s text
+pub answer_zero : {D : Type 0} (state : D → DiskState) (old new : ShelfState D) (input text : List ℕ)
+    → IsAnswerTo (Replayed state old new) input text 0 → (s : Scenario) × IsScenario input s × Done IsRun state new s text
 unfolding IsAnswerTo
 answer_zero state old new input text (inl (zero, f)) = absurd (omega (arith, zero))
 answer_zero state old new input text (inr (s, is, r)) = (s, is, of_end state old new s (given input s is) text r.ended r.has_ended r.is_text)
 
-pub status_zero : {D : Type 0} (state : D → DiskState) (old new : Showing D) (input : List ℕ) (before after : Devices)
-    → (r : Replays (Replayed state old new) 0 input before after) → Done state old.tells new.given_back r.scenario r.text
+pub status_zero : {D : Type 0} (state : D → DiskState) (old new : ShelfState D) (input : List ℕ) (before after : Devices)
+    → (r : Replays (Replayed state old new) 0 input before after) → Done IsRun state new r.scenario r.text
 status_zero state old new input before after r =
     of_end state old new r.scenario (given input r.scenario r.is_scenario) r.text r.is_replay.ended r.is_replay.has_ended r.is_replay.is_text

@@ -53,7 +53,7 @@ module _ (ends : Ending) where
       printed = w.printed;
     }
 
-    replayed_says : is_among (0 ∷ 7 ∷ 8 ∷ 9 ∷ []) result ≡ true → (input : List ℕ) → old.left ≡ Some input → Replays ends result input old new
+    replayed_says : is_among (0 ∷ 7 ∷ 8 ∷ 9 ∷ []) result ≡ true → (input : List ℕ) → old.source.left ≡ Some input → Replays ends result input old new
     unfolding IsAnswerTo
     replayed_says known input told = by (t.written (more (nat_eq result 0) (nat_eq result 3) (nat_eq result 7) (nat_eq result 8) (nat_eq result 9) known) input told)
       where
@@ -69,7 +69,7 @@ module _ (ends : Ending) where
             cases (inl (st, f)) = absurd (let no : is_among (0 ∷ 7 ∷ 8 ∷ 9 ∷ []) 3 ≡ true = ap (is_among (0 ∷ 7 ∷ 8 ∷ 9 ∷ [])) (sym st) ∙ known in let never : false ≡ true = no in cc)
             cases (inr (s, is, r)) = told_by input w s is r
 
-    refused_says : result ≡ 3 → (input : List ℕ) → old.left ≡ Some input → Refuses input old new ⊎ Replays ends 3 input old new
+    refused_says : result ≡ 3 → (input : List ℕ) → old.source.left ≡ Some input → Refuses input old new ⊎ Replays ends 3 input old new
     unfolding IsAnswerTo
     refused_says three input told = by w.is_answer
       where
@@ -85,7 +85,7 @@ module _ (ends : Ending) where
     unfolding IsFaultOf
     not_refused input text s is (e, f, printed) = scenario_has_no_fault input s e is f
 
-    complete_says : (input : List ℕ) (s : Scenario) → old.left ≡ Some input → IsScenario input s → IsCalm old new → (is_end result ≡ true) ⊎ Replays ends 3 input old new
+    complete_says : (input : List ℕ) (s : Scenario) → old.source.left ≡ Some input → IsScenario input s → IsCalm old new → (is_end result ≡ true) ⊎ Replays ends 3 input old new
     complete_says input s told is still = by (calm (IsAnswerTo ends) replay_statuses result old new t still)
       where
         other : Refuses input old new ⊎ Replays ends 3 input old new → Replays ends 3 input old new

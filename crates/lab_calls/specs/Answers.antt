@@ -20,12 +20,12 @@ use Rattle.history_rules.specs.Histories.{Moment, own}
 use Rattle.history_law.specs.Safety.{IsSafeHistory}
 use Rattle.history_text.specs.declared.entries.Entry.{Entry}
 use Rattle.history_text.specs.declared.entries.Names.{Names}
-use Rattle.history_text.specs.History.{IsRun}
 use Rattle.history_text.specs.Lines.{place_text}
 use Rattle.history_text.specs.Report.{line, names_of, report}
 use Rattle.history_text.specs.Worlds.{world_of}
 use Rattle.lab_calls.specs.FrameLines.{frames_text}
 use Rattle.disk_model.specs.Disk.{DiskState, Rose}
+use Rattle.disk_model.specs.Shelf.{ShelfState}
 use Rattle.lab_calls.specs.Streams.{GainsFront, Devices, IsCalm}
 use Rattle.std.specs.Io.KnownBytes.{Appends}
 
@@ -59,8 +59,10 @@ pub record HasRead (input bytes : List ℕ) (left : Option (List ℕ)) : Type 0 
 abbrev pub is_among : List ℕ → ℕ → Bool
 is_among numbers n = list_any (nat_eq n) numbers
 
--- a source was read, and this text and status, one of these, are the answer to its input, where that is told
-pub record Answers (IsAnswer : List ℕ → List ℕ → ℕ → Type 0) (statuses : List ℕ) (old new : Option (List ℕ)) (text : List ℕ) (status : ℕ) : Type 0 where
+-- a source was read, and this text and status, one of these, are the answer to its input, where
+-- that is told
+pub record Answers (IsAnswer : List ℕ → List ℕ → ℕ → Type 0) (statuses : List ℕ)
+    (old new : Option (List ℕ)) (text : List ℕ) (status : ℕ) : Type 0 where
   pub is_known : is_among statuses status ≡ true
   pub is_answer : (input : List ℕ) → old ≡ Some input → IsAnswer input text status
   pub read : (input : List ℕ) → old ≡ Some input → new ≡ Some (unread input)
@@ -71,7 +73,8 @@ pub record Answers (IsAnswer : List ℕ → List ℕ → ℕ → Type 0) (status
 abbrev pub fault_text : ScenarioError → List ℕ
 fault_text fault.NotJson = codes "scenario: NotJson"
 fault_text (fault.Shape path) = codes "scenario: Shape " ++ path
-fault_text (fault.Limit path limit) = codes "scenario: Limit " ++ (path ++ (codes " " ++ decimal limit))
+fault_text (fault.Limit path limit) =
+    codes "scenario: Limit " ++ (path ++ (codes " " ++ decimal limit))
 fault_text (fault.Sql path at) = codes "scenario: Sql " ++ (path ++ (codes " " ++ decimal at))
 fault_text (fault.Mode path) = codes "scenario: Mode " ++ path
 fault_text (fault.Name path) = codes "scenario: Name " ++ path
@@ -83,7 +86,9 @@ store_text names at = codes "store: " ++ place_text names at
 
 -- the line of a record that doesn't fit on a disk
 abbrev pub full_text : Names → Place → Full → List ℕ
-full_text names at full = codes "full: " ++ (place_text names at ++ (codes " needs " ++ (decimal full.needed ++ (codes " of " ++ decimal full.size))))
+full_text names at full =
+    codes "full: " ++ (place_text names at
+    ++ (codes " needs " ++ (decimal full.needed ++ (codes " of " ++ decimal full.size))))
 
 -- the name of one of two disks
 abbrev pub disk_text : Names → Place → (second : Bool) → List ℕ
@@ -92,7 +97,8 @@ disk_text names at true = place_text names at ++ codes ".2"
 
 -- the line of bytes that are no journal
 abbrev pub damaged_text : Names → Place → (second : Bool) → ℕ → List ℕ
-damaged_text names at second offset = codes "damaged: " ++ (disk_text names at second ++ (codes " at " ++ decimal offset))
+damaged_text names at second offset =
+    codes "damaged: " ++ (disk_text names at second ++ (codes " at " ++ decimal offset))
 
 -- the line of why a replay ended early, and the status; want of memory has no line
 abbrev pub end_text : Names → RunFault → List ℕ
@@ -109,10 +115,13 @@ status_of (run_fault.Damaged at second offset) = 9
 status_of run_fault.Other = 3
 status_of run_fault.NoMemory = 6
 
--- the text and the status of a replay that ended so: the report of its entries, or the line of its fault
+-- the text and the status of a replay that ended so: the report of its entries, or the line of its
+-- fault
 abbrev pub IsEndText : Scenario → Result (List Entry) RunFault → List ℕ → ℕ → Type 0
 IsEndText s (Ok es) text status = (status ≡ 0) × Reports s es text
-IsEndText s (Err missed) text status = (missed ≢ run_fault.NoMemory) × (status ≡ status_of missed) × (text ≡ line (end_text (names_of s) missed))
+IsEndText s (Err missed) text status =
+    (missed ≢ run_fault.NoMemory) × (status ≡ status_of missed)
+    × (text ≡ line (end_text (names_of s) missed))
 
 -- how the replay of a scenario may end
 abbrev pub Ending : Type 1
@@ -130,55 +139,63 @@ IsFaultOf bytes text = (e : ScenarioError) × IsFault bytes e × (text ≡ line 
 
 -- the text of an input with its status: it is refused, or replayed
 unfoldable pub IsAnswerTo : Ending → List ℕ → List ℕ → ℕ → Type 0
-IsAnswerTo ends bytes text status = ((status ≡ 3) × IsFaultOf bytes text) ⊎ ((s : Scenario) × IsScenario bytes s × IsReplayOf ends s text status)
+IsAnswerTo ends bytes text status =
+    ((status ≡ 3) × IsFaultOf bytes text)
+    ⊎ ((s : Scenario) × IsScenario bytes s × IsReplayOf ends s text status)
 
 -- the statuses of a replay that come with a text
 abbrev pub replay_statuses : List ℕ
 replay_statuses = 0 ∷ 3 ∷ 7 ∷ 8 ∷ 9 ∷ []
 
--- where the shelf's disks tell their bytes: a legal and safe history of the whole schedule has this report, and the disks of each node
--- that were given back, of the scenario's size, show it
-pub record Reported {D : Type 0} (state : D → DiskState) (s : Scenario) (disks : List (D × D)) (text : List ℕ) : Type 0 where
+-- where the shelf's disks tell their bytes: a safe history, which `IsHistory` says is the scenario's,
+-- has this report, and the disks of each node that were given back, of the scenario's size, show it
+pub record Reported {D : Type 0} (IsHistory : Scenario → List Moment → Type 0)
+    (state : D → DiskState) (s : Scenario) (disks : List (D × D)) (text : List ℕ) : Type 0 where
   pub history : List Moment
-  pub is_run : IsRun s history
+  pub is_run : IsHistory s history
   pub is_safe : IsSafeHistory (world_of s) no_past history
   pub is_report : text ≡ report s history
-  pub device : (p : Place) (role : Role) → role_at (world_of s) no_past p ≡ Some role → AreLeft role (own p history) (disks_in (map (pair_of state) disks) p)
+  pub device : (p : Place) (role : Role) → role_at (world_of s) no_past p ≡ Some role
+      → AreLeft role (own p history) (disks_in (map (pair_of state) disks) p)
   pub sized : HaveSizes s (map (pair_of state) disks)
 
--- what a replay tells: its input was read to its end and is a scenario; its disks were given back, and the sink got the text of how
--- it ended
+-- what a replay tells: its input was read to its end and is a scenario; its disks were given back,
+-- and the sink got the text of how it ended
 pub record Replays (ends : Ending) (status : ℕ) (input : List ℕ) (old new : Devices) : Type 0 where
-  pub read_to_end : new.left ≡ Some []
+  pub read_to_end : new.source.left ≡ Some []
   pub scenario : Scenario
   pub is_scenario : IsScenario input scenario
   pub text : List ℕ
   pub is_replay : IsReplayOf ends scenario text status
-  pub printed : Appends old.written new.written text
+  pub printed : Appends old.sink.written new.sink.written text
 
--- at status 0 besides: the disks of all nodes were given back, and where they tell their bytes the text is the report of a safe history
-pub record Done {D : Type 0} (state : D → DiskState) (tells : Bool) (given_back : List ℕ → D → Type 0) (s : Scenario) (text : List ℕ) : Type 0 where
+-- at status 0 besides: the disks of all nodes were given back, and where they tell their bytes the
+-- text is the report of a safe history
+pub record Done {D : Type 0} (IsHistory : Scenario → List Moment → Type 0) (state : D → DiskState)
+    (shelf : ShelfState D) (s : Scenario) (text : List ℕ) : Type 0 where
   pub disks : List (D × D)
-  pub back : FirstGivenBack tells given_back s disks
+  pub back : FirstGivenBack shelf s disks
   pub count : length disks ≡ length s.resources + 1
-  pub reported : AllTell state → Reported state s disks text
+  pub reported : AllTell state → Reported IsHistory state s disks text
 
--- at status 3: the source was read as far as inputs are, and the sink got the line of what keeps the input from being a scenario
+-- at status 3: the source was read as far as inputs are, and the sink got the line of what keeps
+-- the input from being a scenario
 pub record Refuses (input : List ℕ) (old new : Devices) : Type 0 where
-  pub read_to_end : new.left ≡ Some (unread input)
+  pub read_to_end : new.source.left ≡ Some (unread input)
   pub text : List ℕ
   pub is_refusal : IsFaultOf input text
-  pub printed : Appends old.written new.written text
+  pub printed : Appends old.sink.written new.sink.written text
 
--- at status 5: the source was read as far as inputs are, and the sink got the front of the text that another status would have; where that
--- is 0, all holds that is said of a text at 0
-pub record CutsShort (ends : Ending) (IsDone : Scenario → List ℕ → Type 0) (input : List ℕ) (old new : Devices) : Type 0 where
-  pub read_to_end : new.left ≡ Some (unread input)
+-- at status 5: the source was read as far as inputs are, and the sink got the front of the text
+-- that another status would have; where that is 0, all holds that is said of a text at 0
+pub record CutsShort (ends : Ending) (IsDone : Scenario → List ℕ → Type 0) (input : List ℕ)
+    (old new : Devices) : Type 0 where
+  pub read_to_end : new.source.left ≡ Some (unread input)
   pub text : List ℕ
   pub status : ℕ
   pub is_answer : IsAnswerTo ends input text status
   pub done : status ≡ 0 → (scenario : Scenario) × IsScenario input scenario × IsDone scenario text
-  pub printed : GainsFront old.written new.written text
+  pub printed : GainsFront old.sink.written new.sink.written text
 
 -- the statuses of a scenario: it was replayed, or memory was refused
 abbrev pub is_end : ℕ → Bool
@@ -189,11 +206,17 @@ abbrev pub is_calm_end : ℕ → Bool
 is_calm_end status = is_among (0 ∷ 6 ∷ 8 ∷ []) status
 
 -- what the status of a replay says of the input, where that is told
-pub record TellsReplay (ends : Ending) (IsDone : Scenario → List ℕ → Type 0) (status : ℕ) (old new : Devices) : Type 0 where
-  pub replayed : is_among (0 ∷ 7 ∷ 8 ∷ 9 ∷ []) status ≡ true → (input : List ℕ) → old.left ≡ Some input → Replays ends status input old new
-  pub refused : status ≡ 3 → (input : List ℕ) → old.left ≡ Some input → Refuses input old new ⊎ Replays ends 3 input old new
-  pub cut_short : status ≡ 5 → (input : List ℕ) → old.left ≡ Some input → CutsShort ends IsDone input old new
-  pub complete : (input : List ℕ) (scenario : Scenario) → old.left ≡ Some input → IsScenario input scenario → IsCalm old new → (is_end status ≡ true) ⊎ Replays ends 3 input old new
+pub record TellsReplay (ends : Ending) (IsDone : Scenario → List ℕ → Type 0) (status : ℕ)
+    (old new : Devices) : Type 0 where
+  pub replayed : is_among (0 ∷ 7 ∷ 8 ∷ 9 ∷ []) status ≡ true → (input : List ℕ)
+      → old.source.left ≡ Some input → Replays ends status input old new
+  pub refused : status ≡ 3 → (input : List ℕ) → old.source.left ≡ Some input
+      → Refuses input old new ⊎ Replays ends 3 input old new
+  pub cut_short : status ≡ 5 → (input : List ℕ) → old.source.left ≡ Some input
+      → CutsShort ends IsDone input old new
+  pub complete : (input : List ℕ) (scenario : Scenario) → old.source.left ≡ Some input
+      → IsScenario input scenario → IsCalm old new
+      → (is_end status ≡ true) ⊎ Replays ends 3 input old new
 
 -- ---- the shelf of a replay
 
@@ -202,20 +225,23 @@ abbrev pub ended_status : Result (List Entry) RunFault → ℕ
 ended_status (Ok es) = 0
 ended_status (Err missed) = status_of missed
 
--- The status of a call whose replay ended so: that of the ending; 6, where memory was refused for its text; or 5, where the sink failed
--- at the text, which want of memory doesn't have.
+-- The status of a call whose replay ended so: that of the ending; 6, where memory was refused for
+-- its text; or 5, where the sink failed at the text, which want of memory doesn't have.
 abbrev pub IsStatusAfter : Result (List Entry) RunFault → ℕ → Type 0
-IsStatusAfter ended status = (status ≡ ended_status ended) ⊎ ((status ≡ 6) ⊎ ((status ≡ 5) × (ended ≢ Err run_fault.NoMemory)))
+IsStatusAfter ended status =
+    (status ≡ ended_status ended)
+    ⊎ ((status ≡ 6) ⊎ ((status ≡ 5) × (ended ≢ Err run_fault.NoMemory)))
 
--- No replay ran, and the shelf is as it was: the source failed, memory was refused, or the input is no scenario, whose line was written
--- at 3 and cut short at 5.
+-- No replay ran, and the shelf is as it was: the source failed, memory was refused, or the input is
+-- no scenario, whose line was written at 3 and cut short at 5.
 pub record IsUntouched (same : Type 0) (status : ℕ) (old : Option (List ℕ)) : Type 0 where
   pub is_same : same
   pub statuses : is_among (3 ∷ 4 ∷ 5 ∷ 6 ∷ []) status ≡ true
-  pub no_scenario : is_among (3 ∷ 5 ∷ []) status ≡ true → (input : List ℕ) (s : Scenario) → old ≡ Some input → IsScenario input s → ⊥
+  pub no_scenario : is_among (3 ∷ 5 ∷ []) status ≡ true → (input : List ℕ) (s : Scenario)
+      → old ≡ Some input → IsScenario input s → ⊥
 
--- The input was read to its end and is a scenario, where that is told. The replay of this scenario left the shelf, and its ending fits
--- the status.
+-- The input was read to its end and is a scenario, where that is told. The replay of this scenario
+-- left the shelf, and its ending fits the status.
 pub record IsLeftByReplay (ends : Ending) (status : ℕ) (old new : Option (List ℕ)) : Type 0 where
   pub scenario : Scenario
   pub is_scenario : (input : List ℕ) → old ≡ Some input → IsScenario input scenario
@@ -225,8 +251,10 @@ pub record IsLeftByReplay (ends : Ending) (status : ℕ) (old new : Option (List
   pub is_status : IsStatusAfter ended status
 
 -- what the status of a replay says of the shelf
-abbrev pub TellsShelf : Ending → (same : Type 0) → (status : ℕ) → (old new : Option (List ℕ)) → Type 0
-TellsShelf ends same status old new = IsUntouched same status old ⊎ IsLeftByReplay ends status old new
+abbrev pub TellsShelf : Ending → (same : Type 0) → (status : ℕ) → (old new : Option (List ℕ))
+    → Type 0
+TellsShelf ends same status old new =
+    IsUntouched same status old ⊎ IsLeftByReplay ends status old new
 
 -- ---- frames
 
@@ -254,40 +282,50 @@ pub record IsFramesAnswer (input text : List ℕ) (status : ℕ) : Type 0 where
   pub text_is : text ≡ frames_answer input
   pub status_is : status ≡ frames_status input
 
--- at status 0: the source was read to its end, its bytes are few enough, and the sink got the lines of their frames
+-- at status 0: the source was read to its end, its bytes are few enough, and the sink got the lines
+-- of their frames
 pub record ListsFrames (input : List ℕ) (old new : Devices) : Type 0 where
-  pub read_to_end : new.left ≡ Some []
+  pub read_to_end : new.source.left ≡ Some []
   pub short : length input ≤ INPUT_BYTES
-  pub printed : Appends old.written new.written (frames_text input)
+  pub printed : Appends old.sink.written new.sink.written (frames_text input)
 
--- at status 3: there are too many bytes, one more than are taken was read, and the sink got the line that says so
+-- at status 3: there are too many bytes, one more than are taken was read, and the sink got the
+-- line that says so
 pub record IsOver (input : List ℕ) (old new : Devices) : Type 0 where
-  pub read_to_end : new.left ≡ Some (unread input)
+  pub read_to_end : new.source.left ≡ Some (unread input)
   pub long : INPUT_BYTES < length input
-  pub printed : Appends old.written new.written over_text
+  pub printed : Appends old.sink.written new.sink.written over_text
 
 -- what the status of a listing of frames says of the input, where that is told
 pub record TellsFrames (status : ℕ) (old new : Devices) : Type 0 where
-  pub listed : status ≡ 0 → (input : List ℕ) → old.left ≡ Some input → ListsFrames input old new
-  pub over : status ≡ 3 → (input : List ℕ) → old.left ≡ Some input → IsOver input old new
-  pub cut_short : status ≡ 5 → (input : List ℕ) → old.left ≡ Some input → (new.left ≡ Some (unread input)) × GainsFront old.written new.written (frames_answer input)
-  pub complete : (input : List ℕ) → old.left ≡ Some input → IsCalm old new → (status ≡ frames_status input) ⊎ (status ≡ 6)
+  pub listed : status ≡ 0 → (input : List ℕ) → old.source.left ≡ Some input
+      → ListsFrames input old new
+  pub over : status ≡ 3 → (input : List ℕ) → old.source.left ≡ Some input → IsOver input old new
+  pub cut_short : status ≡ 5 → (input : List ℕ) → old.source.left ≡ Some input
+      → (new.source.left ≡ Some (unread input))
+      × GainsFront old.sink.written new.sink.written (frames_answer input)
+  pub complete : (input : List ℕ) → old.source.left ≡ Some input → IsCalm old new
+      → (status ≡ frames_status input) ⊎ (status ≡ 6)
 
 -- ---- all words
 
--- the statuses of a call: those that come with a text, and those of a device that failed and of want of memory
+-- the statuses of a call: those that come with a text, and those of a device that failed and of
+-- want of memory
 abbrev pub with_failures : List ℕ → List ℕ
 with_failures statuses = statuses ++ 4 ∷ 5 ∷ 6 ∷ []
 
--- the status is one of these; the source failed at 4 and the sink at 5, each in this call; nothing was written at 4 and 6
+-- the status is one of these; the source failed at 4 and the sink at 5, each in this call; nothing
+-- was written at 4 and 6
 pub record TellsFaults (possible : List ℕ) (status : ℕ) (old new : Devices) : Type 0 where
   pub statuses : is_among possible status ≡ true
-  pub source_failed : status ≡ 4 → Rose old.source_faults new.source_faults × (new.written ≡ old.written)
-  pub sink_failed : status ≡ 5 → Rose old.sink_faults new.sink_faults
-  pub no_memory : status ≡ 6 → new.written ≡ old.written
+  pub source_failed : status ≡ 4
+      → Rose old.source.faults new.source.faults × (new.sink.written ≡ old.sink.written)
+  pub sink_failed : status ≡ 5 → Rose old.sink.faults new.sink.faults
+  pub no_memory : status ≡ 6 → new.sink.written ≡ old.sink.written
 
--- what the status says of other words than the program's: the sink got the usage line, or the front of it
+-- what the status says of other words than the program's: the sink got the usage line, or the front
+-- of it
 pub record TellsUsage (status : ℕ) (old new : Devices) : Type 0 where
   pub statuses : (status ≡ 2) ⊎ (status ≡ 5)
-  pub usage : status ≡ 2 → Appends old.written new.written usage_text
-  pub cut_short : status ≡ 5 → GainsFront old.written new.written usage_text
+  pub usage : status ≡ 2 → Appends old.sink.written new.sink.written usage_text
+  pub cut_short : status ≡ 5 → GainsFront old.sink.written new.sink.written usage_text

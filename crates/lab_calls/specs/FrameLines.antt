@@ -20,7 +20,8 @@ no_names = record { resources = []; managers = [] }
 
 -- an offset, a request number and a message's note
 abbrev pub note_line : ℕ → ℕ → Note → List ℕ
-note_line at stamp note = decimal at ++ (codes " " ++ (decimal stamp ++ (codes " " ++ line (note_text no_names note))))
+note_line at stamp note =
+    decimal at ++ (codes " " ++ (decimal stamp ++ (codes " " ++ line (note_text no_names note))))
 
 -- the line of a frame
 unfoldable pub frame_line : ℕ → ℕ → Message → List ℕ
@@ -43,16 +44,19 @@ bad_frame_line at error = decimal at ++ (codes " " ++ line (frame_fault_text err
 
 -- ---- the lines of bytes
 
--- what stands at an offset: a frame's line and the lines behind the frame, or the line of a bad frame and no more
+-- what stands at an offset: a frame's line and the lines behind the frame, or the line of a bad
+-- frame and no more
 abbrev pub lines_by : ℕ → Framed (Message × ℕ × ℕ) → (ℕ → List ℕ) → List ℕ
 lines_by at (Ok (message, stamp, size)) behind = frame_line at stamp message ++ behind size
 lines_by at (Err error) behind = bad_frame_line at error
 
--- the lines from an offset on, where these bytes stand, so many of which still belong to the frame before
+-- the lines from an offset on, where these bytes stand, so many of which still belong to the frame
+-- before
 unfoldable pub lines_behind : (inside at : ℕ) → List ℕ → List ℕ
 lines_behind inside at [] = []
 lines_behind (suc inside) at (byte ∷ bytes) = lines_behind inside (at + 1) bytes
-lines_behind zero at (byte ∷ bytes) = lines_by at (decoded (byte ∷ bytes)) (λ size. lines_behind (size - 1) (at + 1) bytes)
+lines_behind zero at (byte ∷ bytes) =
+    lines_by at (decoded (byte ∷ bytes)) (λ size. lines_behind (size - 1) (at + 1) bytes)
 
 -- the lines of the frames from an offset on, where these bytes stand
 abbrev pub lines_from : ℕ → List ℕ → List ℕ
@@ -67,7 +71,8 @@ frames_text bytes = lines_from 0 bytes
 -- a frame in front adds its line
 abbrev pub FrameAddsLine : Type 0
 FrameAddsLine = (at stamp : ℕ) (message : Message) (rest : List ℕ) → HasFrame message stamp →
-    lines_from at (frame_bytes message stamp ++ rest) ≡ frame_line at stamp message ++ lines_from (at + length (frame_bytes message stamp)) rest
+    lines_from at (frame_bytes message stamp ++ rest)
+    ≡ frame_line at stamp message ++ lines_from (at + length (frame_bytes message stamp)) rest
 
 -- no bytes give no line
 abbrev pub NothingHasNoLine : Type 0
@@ -75,12 +80,15 @@ NothingHasNoLine = (at : ℕ) → lines_from at [] ≡ []
 
 -- bytes that don't begin with a frame give the line of their fault, and nothing else
 abbrev pub BadFrameEnds : Type 0
-BadFrameEnds = (at : ℕ) (bytes : List ℕ) (error : FrameError) → bytes ≢ [] → decoded bytes ≡ Err error → lines_from at bytes ≡ bad_frame_line at error
+BadFrameEnds =
+    (at : ℕ) (bytes : List ℕ) (error : FrameError) → bytes ≢ [] → decoded bytes ≡ Err error
+    → lines_from at bytes ≡ bad_frame_line at error
 
 -- bytes begin with a frame or have a fault, so these three laws determine the lines
 abbrev pub FrameOrFault : Type 0
 FrameOrFault = (bytes : List ℕ) → All (λ byte. byte < 256) bytes →
-    ((message : Message) × (stamp : ℕ) × (rest : List ℕ) × HasFrame message stamp × (bytes ≡ frame_bytes message stamp ++ rest))
+    ((message : Message) × (stamp : ℕ) × (rest : List ℕ) × HasFrame message stamp
+    × (bytes ≡ frame_bytes message stamp ++ rest))
     ⊎ ((error : FrameError) × (decoded bytes ≡ Err error))
 
 -- ---- frames that are given

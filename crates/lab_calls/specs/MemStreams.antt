@@ -1,6 +1,7 @@
 -- What the source and the sink in memory tell, and which of their calls fail.
-use Rattle.std.specs.Prelude.{ℕ, ◌+◌, ◌-◌, ◌^◌, min, nat_eq, Bool, List, drop, take, length, Option, Some}
+use Rattle.std.specs.Prelude.{ℕ, ◌+◌, ◌-◌, ◌^◌, min, nat_eq, Bool, List, drop, take, length, Some}
 use Rattle.std.specs.List.{list_any}
+use Rattle.lab_calls.specs.Streams.{SourceState, SinkState}
 use Rattle.lab_calls.specs.declared.memory.MemSource.{MemSource}
 use Rattle.lab_calls.specs.declared.memory.MemSink.{MemSink}
 
@@ -16,16 +17,13 @@ fails_next failing calls = list_any (λ call. nat_eq call (next_call calls)) fai
 
 -- ---- a source
 
--- the bytes that are left, as they are and as they are told
+-- the bytes that are left
 abbrev pub left_of : MemSource → List ℕ
 left_of s = drop s.at s.bytes.items
 
-abbrev pub bytes_left : MemSource → Option (List ℕ)
-bytes_left s = Some (left_of s)
-
--- how often it failed
-abbrev pub source_faults : MemSource → ℕ
-source_faults s = s.faults
+-- it tells them, and how often it failed
+abbrev pub source_state : MemSource → SourceState
+source_state s = record { left = Some (left_of s); faults = s.faults }
 
 -- the calls that fail
 abbrev pub source_fails : MemSource → List ℕ
@@ -41,13 +39,9 @@ source_calls s = s.calls
 
 -- ---- a sink
 
--- the bytes that were put into it
-abbrev pub bytes_written : MemSink → Option (List ℕ)
-bytes_written s = Some (take s.at s.bytes.items)
-
--- how often it failed
-abbrev pub sink_faults : MemSink → ℕ
-sink_faults s = s.faults
+-- it tells the bytes that were put into it, and how often it failed
+abbrev pub sink_state : MemSink → SinkState
+sink_state s = record { written = Some (take s.at s.bytes.items); faults = s.faults }
 
 -- for how many bytes there is still room
 abbrev pub room_left : MemSink → ℕ

@@ -1,20 +1,43 @@
--- What one replay tells by its status.
+-- What one call tells by its status.
 use Rattle.std.specs.Prelude.{◌≡◌, ℕ, true, List, Some}
 use Rattle.disk_model.specs.Disk.{DiskState}
+use Rattle.disk_model.specs.Shelf.{ShelfState}
 use Rattle.scenario_form.specs.declared.scenarios.Scenario.{Scenario}
 use Rattle.scenario_reader.specs.Reading.{IsScenario}
-use Rattle.scenario_nodes.specs.Shelves.{Showing}
+use Rattle.history_text.specs.History.{IsRun}
+use Rattle.scenario_nodes.specs.Shelves.{ReturnsAll}
 use Rattle.replay_runner.specs.Leaving.{IsCalmShelf}
 use Rattle.replay_runner.specs.Leaving.{Replays as Replayed}
-use Rattle.lab_calls.specs.Answers.{Done, Replays, TellsReplay, TellsShelf, is_calm_end}
+use Rattle.lab_calls.specs.Answers.{Done, Ending, Replays, TellsFaults, TellsFrames, TellsReplay, TellsShelf, frames_statuses, is_calm_end, replay_statuses, with_failures}
 use Rattle.lab_calls.specs.Streams.{Devices, IsCalm}
 
--- A call replayed the input of a source once, by what its shelf, and its source and sink, showed before and show now; `same` says that the
--- shelf is as it was. `tells` is what the status says of the input and of what was written; at 0 besides, `done`, the disks of all nodes
--- were given back and the text is the report of a safe history. `shelf` is what the status says of the shelf. Where nothing fails, `calm`,
--- a scenario is done, doesn't fit on its disks, or memory was refused.
-pub record ReplaysOnce {D : Type 0} (state : D → DiskState) (had has : Showing D) (same : Type 0) (status : ℕ) (old new : Devices) : Type 0 where
-  pub tells : TellsReplay (Replayed state had has) (Done state had.tells has.given_back) status old new
-  pub done : status ≡ 0 → (input : List ℕ) → old.left ≡ Some input → (r : Replays (Replayed state had has) 0 input old new) × Done state had.tells has.given_back r.scenario r.text
-  pub shelf : TellsShelf (Replayed state had has) same status old.left new.left
-  pub calm : IsCalm old new → (input : List ℕ) (s : Scenario) → old.left ≡ Some input → IsScenario input s → IsCalmShelf state s had has → is_calm_end status ≡ true
+-- A call played the scenario of a source once, by what its shelf, and its source and sink, showed
+-- before and show now; `ends` says how that may end, and `same` that the shelf is as it was.
+-- `tells` is what the status says of the input and of what was written; at 0 besides, all that
+-- `IsDone` says. `shelf` is what the status says of the shelf. Where nothing fails, `calm`, a
+-- scenario is done, doesn't fit on its disks, or memory was refused. The disks that were taken are
+-- given back, and the shelf tells of them as it did.
+pub record PlaysOnce {D : Type 0} (ends : Ending) (IsDone : Scenario → List ℕ → Type 0)
+    (state : D → DiskState) (had has : ShelfState D) (same : Type 0) (status : ℕ)
+    (old new : Devices) : Type 0 where
+  pub tells : TellsReplay ends IsDone status old new
+  pub done : status ≡ 0 → (input : List ℕ) → old.source.left ≡ Some input
+      → (r : Replays ends 0 input old new) × IsDone r.scenario r.text
+  pub shelf : TellsShelf ends same status old.source.left new.source.left
+  pub calm : IsCalm old new → (input : List ℕ) (s : Scenario) → old.source.left ≡ Some input
+      → IsScenario input s → IsCalmShelf state s had has → is_calm_end status ≡ true
+  pub returned : ReturnsAll had has
+  pub same_tells : has.tells ≡ had.tells
+  pub faults : TellsFaults (with_failures replay_statuses) status old new
+
+-- it was replayed; at 0 the disks of all nodes were given back, and the text is the report of a
+-- safe history
+abbrev pub ReplaysOnce : {D : Type 0} → (D → DiskState) → (had has : ShelfState D) → (same : Type 0)
+    → (status : ℕ) → (old new : Devices) → Type 0
+ReplaysOnce state had has same status old new =
+    PlaysOnce (Replayed state had has) (Done IsRun state has) state had has same status old new
+
+-- a call listed the frames of a source once
+pub record ListsOnce (status : ℕ) (old new : Devices) : Type 0 where
+  pub frames : TellsFrames status old new
+  pub faults : TellsFaults (with_failures frames_statuses) status old new

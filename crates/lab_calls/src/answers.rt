@@ -1,12 +1,11 @@
 //! What the program writes for an input.
-ghost use Rattle.std.specs.Prelude.{◌≡◌, ◌≢◌, ◌++◌, ℕ, List as Items, [], Some, Err, true, false, codes, IfOk, IfErr, OnOk, string_bytes};
+ghost use Rattle.std.specs.Prelude.{◌≡◌, ◌≢◌, ◌++◌, ℕ, List as Items, Err, true, false, codes, IfOk, OnOk, string_bytes};
 ghost use Rattle.std.specs.Fmt.{decimal};
 ghost use Rattle.history_text.specs.Report.{line};
 ghost use Rattle.scenario_reader.specs.Reading.{IsScenario};
 ghost use Rattle.scenario_form.specs.Runnable.{IsRunnable};
-ghost use Rattle.scenario_nodes.specs.Shelves.{ReturnsAll, showing};
-ghost use Rattle.replay_runner.specs.Leaving.{Replays as Replayed};
-ghost use Rattle.lab_calls.specs.Answers.{IsAnswerTo, IsEndText, IsLeftByReplay, TellsShelf, damaged_text, disk_text, end_text, fault_text, full_text, status_of, store_text};
+ghost use Rattle.lab_calls.specs.Answers.{IsEndText, damaged_text, disk_text, end_text, fault_text, full_text, status_of, store_text};
+ghost use Rattle.lab_calls.specs.Steps.{ReplaysBytes};
 
 use crate::statuses::{DAMAGED, DONE, FULL, INPUT, MEMORY, STORE};
 use disk_model::Shelf;
@@ -33,7 +32,8 @@ fn put_at(out: &mut String, word: &str, path: &Text) -> Result<(), AllocError>
 
 /// A word, a path and a number.
 fn put_numbered(out: &mut String, word: &str, path: &Text, number: u64) -> Result<(), AllocError>
-    ensures { OnOk result (string_bytes out.new ≡ string_bytes out.old ++ (word.now ++ (path.now ++ (codes " " ++ decimal number)))) }
+    ensures { OnOk result (string_bytes out.new ≡ string_bytes out.old
+        ++ (word.now ++ (path.now ++ (codes " " ++ decimal number)))) }
 {
     write!(out, "{word}{} {number}", path.as_str())
 }
@@ -99,7 +99,8 @@ fn is_memory(error: &ScenarioError) -> bool
 
 /// The line of disks that failed.
 fn put_store(out: &mut String, place: Place, names: &Names) -> Result<(), AllocError>
-    ensures { OnOk result (string_bytes out.new ≡ string_bytes out.old ++ store_text names.now place) }
+    ensures { OnOk result
+        (string_bytes out.new ≡ string_bytes out.old ++ store_text names.now place) }
 {
     out.push_str("store: ")?;
     put_place(out, place, names)
@@ -107,7 +108,8 @@ fn put_store(out: &mut String, place: Place, names: &Names) -> Result<(), AllocE
 
 /// The line of a record that doesn't fit on a disk.
 fn put_full(out: &mut String, place: Place, full: Full, names: &Names) -> Result<(), AllocError>
-    ensures { OnOk result (string_bytes out.new ≡ string_bytes out.old ++ full_text names.now place full) }
+    ensures { OnOk result
+        (string_bytes out.new ≡ string_bytes out.old ++ full_text names.now place full) }
 {
     let Full { needed, size } = full;
     out.push_str("full: ")?;
@@ -117,7 +119,8 @@ fn put_full(out: &mut String, place: Place, full: Full, names: &Names) -> Result
 
 /// The name of one of the two disks of a node.
 fn put_disk(out: &mut String, place: Place, second: bool, names: &Names) -> Result<(), AllocError>
-    ensures { OnOk result (string_bytes out.new ≡ string_bytes out.old ++ disk_text names.now place second) }
+    ensures { OnOk result
+        (string_bytes out.new ≡ string_bytes out.old ++ disk_text names.now place second) }
 {
     put_place(out, place, names)?;
     if second {
@@ -134,7 +137,8 @@ fn put_damaged(
     at: u64,
     names: &Names,
 ) -> Result<(), AllocError>
-    ensures { OnOk result (string_bytes out.new ≡ string_bytes out.old ++ damaged_text names.now place second at) }
+    ensures { OnOk result
+        (string_bytes out.new ≡ string_bytes out.old ++ damaged_text names.now place second at) }
 {
     out.push_str("damaged: ")?;
     put_disk(out, place, second, names)?;
@@ -143,7 +147,8 @@ fn put_damaged(
 
 /// The line of why a replay ended early; none for want of memory.
 fn put_end(out: &mut String, fault: RunFault, names: &Names) -> Result<(), AllocError>
-    ensures { OnOk result (string_bytes out.new ≡ string_bytes out.old ++ end_text names.now fault) }
+    ensures { OnOk result
+        (string_bytes out.new ≡ string_bytes out.old ++ end_text names.now fault) }
 {
     match fault {
         RunFault::Store { place } => put_store(out, place, names),
@@ -180,7 +185,8 @@ fn end_status(fault: RunFault) -> u8
 /// The answer to a replay that ended early.
 pub fn ended(alloc: Global, scenario: &Scenario, fault: RunFault) -> Result<Answer, NoMemory>
     requires { fault ≢ RunFault.NoMemory }
-    ensures { IfOk result (λ answer. IsEndText scenario.now (Err fault) (string_bytes answer.text) answer.status) }
+    ensures { IfOk result (λ answer.
+        IsEndText scenario.now (Err fault) (string_bytes answer.text) answer.status) }
 {
     let names = node_names(alloc, scenario)?;
     let text = end_line(alloc, fault, &names)?;
@@ -205,7 +211,8 @@ fn told(
     replayed: Result<List<Entry>, RunFault>,
 ) -> Result<Answer, NoMemory>
     requires runnable { IsRunnable scenario.now }
-    ensures { IfOk result (λ answer. IsEndText scenario.now replayed (string_bytes answer.text) answer.status) }
+    ensures { IfOk result (λ answer.
+        IsEndText scenario.now replayed (string_bytes answer.text) answer.status) }
 {
     match replayed {
         Ok(history) => {
@@ -228,31 +235,20 @@ fn answer_of<H: Shelf>(
     shelf: &mut H,
 ) -> Result<Answer, NoMemory>
     requires { IsRunnable scenario.now }
-    ensures answer { (bytes : Items ℕ) → IsScenario bytes scenario.now → IfOk result (λ answer. IsAnswerTo (Replayed H.D.state (showing H.has_place H.given_back H.faults H.tells shelf.old) (showing H.has_place H.given_back H.faults H.tells shelf.new)) bytes (string_bytes answer.text) answer.status) }
-    ensures shelf { (bytes : Items ℕ) → IsScenario bytes scenario.now → IfOk result (λ answer. IsLeftByReplay (Replayed H.D.state (showing H.has_place H.given_back H.faults H.tells shelf.old) (showing H.has_place H.given_back H.faults H.tells shelf.new)) answer.status (Some bytes) (Some [])) }
-    ensures unanswered { (bytes : Items ℕ) → IsScenario bytes scenario.now → IfErr result (λ none. IsLeftByReplay (Replayed H.D.state (showing H.has_place H.given_back H.faults H.tells shelf.old) (showing H.has_place H.given_back H.faults H.tells shelf.new)) 6 (Some bytes) (Some [])) }
-    ensures returned { ReturnsAll (H.tells shelf.old) (H.has_place shelf.old) (H.has_place shelf.new) (H.given_back shelf.old) (H.given_back shelf.new) }
+    ensures { (bytes : Items ℕ) → IsScenario bytes scenario.now → ReplaysBytes H.D.state
+        (H.state shelf.old) (H.state shelf.new) (shelf.new ≡ shelf.old) bytes result }
 {
     let replayed = replay(alloc, scenario, shelf);
     told(alloc, scenario, replayed)
 }
 
 /// The text of an input, with its status.
-#[tactic(auto, unfolding(crate::specs::Answers::IsAnswerTo, crate::specs::Answers::IsFaultOf))]
 pub fn answer_to<H: Shelf>(alloc: Global, bytes: &[u8], shelf: &mut H) -> Result<Answer, NoMemory>
-    ensures answer { IfOk result (λ answer. IsAnswerTo (Replayed H.D.state (showing H.has_place H.given_back H.faults H.tells shelf.old) (showing H.has_place H.given_back H.faults H.tells shelf.new)) bytes.now (string_bytes answer.text) answer.status) }
-    ensures shelf { IfOk result (λ answer. TellsShelf (Replayed H.D.state (showing H.has_place H.given_back H.faults H.tells shelf.old) (showing H.has_place H.given_back H.faults H.tells shelf.new)) (shelf.new ≡ shelf.old) answer.status (Some bytes.now) (Some [])) }
-    ensures unanswered { IfErr result (λ none. TellsShelf (Replayed H.D.state (showing H.has_place H.given_back H.faults H.tells shelf.old) (showing H.has_place H.given_back H.faults H.tells shelf.new)) (shelf.new ≡ shelf.old) 6 (Some bytes.now) (Some [])) }
-    ensures returned { ReturnsAll (H.tells shelf.old) (H.has_place shelf.old) (H.has_place shelf.new) (H.given_back shelf.old) (H.given_back shelf.new) }
+    ensures { ReplaysBytes H.D.state
+        (H.state shelf.old) (H.state shelf.new) (shelf.new ≡ shelf.old) bytes.now result }
 {
     match read(alloc, bytes) {
-        Ok(scenario) => {
-            let answer = answer_of(alloc, &scenario, shelf)?;
-            Ok(answer)
-        }
-        Err(error) => {
-            let answer = refused(alloc, &error)?;
-            Ok(answer)
-        }
+        Ok(scenario) => answer_of(alloc, &scenario, shelf),
+        Err(error) => refused(alloc, &error),
     }
 }

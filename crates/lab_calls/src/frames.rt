@@ -35,7 +35,8 @@ fn put_note_line(
     names: &Names,
 ) -> Result<(), AllocError>
     requires { names.now ≡ lines.no_names }
-    ensures { OnOk result (string_bytes out.new ≡ string_bytes out.old ++ lines.note_line at stamp note.now) }
+    ensures { OnOk result
+        (string_bytes out.new ≡ string_bytes out.old ++ lines.note_line at stamp note.now) }
 {
     write!(out, "{at} {stamp} ")?;
     add_note(out, note, names)?;
@@ -52,7 +53,8 @@ fn put_frame(
     names: &Names,
 ) -> Result<(), AllocError>
     requires { names.now ≡ lines.no_names }
-    ensures { OnOk result (string_bytes out.new ≡ string_bytes out.old ++ lines.frame_line at stamp message) }
+    ensures { OnOk result
+        (string_bytes out.new ≡ string_bytes out.old ++ lines.frame_line at stamp message) }
 {
     let note = note_of(message);
     put_note_line(out, at, stamp, &note, names)
@@ -60,7 +62,8 @@ fn put_frame(
 
 /// What keeps bytes from beginning with a frame.
 fn put_fault(out: &mut String, fault: FrameError) -> Result<(), AllocError>
-    ensures { OnOk result (string_bytes out.new ≡ string_bytes out.old ++ lines.frame_fault_text fault) }
+    ensures { OnOk result
+        (string_bytes out.new ≡ string_bytes out.old ++ lines.frame_fault_text fault) }
 {
     match fault {
         FrameError::Short { need } => write!(out, "Short {need}"),
@@ -77,7 +80,8 @@ fn put_fault(out: &mut String, fault: FrameError) -> Result<(), AllocError>
 /// The line of a bad frame.
 #[tactic(auto, unfolding(crate::specs::FrameLines::bad_frame_line))]
 pub fn put_bad_frame(out: &mut String, at: u64, fault: FrameError) -> Result<(), AllocError>
-    ensures text { OnOk result (string_bytes out.new ≡ string_bytes out.old ++ lines.bad_frame_line at fault) }
+    ensures text { OnOk result
+        (string_bytes out.new ≡ string_bytes out.old ++ lines.bad_frame_line at fault) }
     ensures fault { OnOk result (fault ≢ FrameError.NoMemory) }
 {
     if fault == FrameError::NoMemory {
@@ -91,7 +95,9 @@ pub fn put_bad_frame(out: &mut String, at: u64, fault: FrameError) -> Result<(),
 /// The line of a frame that was given.
 fn put_given(out: &mut String, given: Framed, names: &Names) -> Result<(), AllocError>
     requires { names.now ≡ lines.no_names }
-    ensures { OnOk result (string_bytes out.new ≡ string_bytes out.old ++ lines.frame_line given.at given.stamp given.message) }
+    ensures { OnOk result
+        (string_bytes out.new ≡ string_bytes out.old
+        ++ lines.frame_line given.at given.stamp given.message) }
 {
     let Framed { at, message, stamp } = given;
     put_frame(out, at, stamp, message, names)
@@ -99,7 +105,8 @@ fn put_given(out: &mut String, given: Framed, names: &Names) -> Result<(), Alloc
 
 /// The lines of frames that were given, one behind the other.
 pub fn put_frames(alloc: Global, out: &mut String, frames: List<Framed>) -> Result<(), AllocError>
-    ensures { OnOk result (string_bytes out.new ≡ string_bytes out.old ++ lines.given_lines frames) }
+    ensures { OnOk result
+        (string_bytes out.new ≡ string_bytes out.old ++ lines.given_lines frames) }
 {
     let names = no_names(alloc);
     for given in frames.into_vec() {
@@ -133,7 +140,8 @@ fn over(alloc: Global) -> Result<Answer, ReadFault>
 /// The answer to an input that was read to its end.
 fn listed(listing: Listing) -> Result<Answer, ReadFault>
     requires { IsReady listing }
-    ensures text { IfOk result (λ answer. (text : Items ℕ) → Awaits listing [] text → string_bytes answer.text ≡ text) }
+    ensures text { IfOk result (λ answer.
+        (text : Items ℕ) → Awaits listing [] text → string_bytes answer.text ≡ text) }
     ensures status { IfOk result (λ answer. answer.status ≡ 0) }
     ensures err { IfErr result (λ e. e ≡ ReadFault.NoMemory) }
 {
@@ -146,8 +154,10 @@ fn listed(listing: Listing) -> Result<Answer, ReadFault>
 /// Reads an input of frames piece by piece: the lines of its frames, or the line of an input that is too long, with its
 /// status.
 pub fn list_frames<S: Source>(alloc: Global, source: &mut S) -> Result<Answer, ReadFault>
-    ensures answer { IfOk result (λ a. Answers IsFramesAnswer frames_statuses (S.left source.old) (S.left source.new) (string_bytes a.text) a.status) }
-    ensures err { IfErr result (λ e. e ≡ ReadFault.Failed → Rose (S.faults source.old) (S.faults source.new)) }
+    ensures answer { IfOk result (λ a. Answers IsFramesAnswer frames_statuses
+        (S.state source.old).left (S.state source.new).left (string_bytes a.text) a.status) }
+    ensures err { IfErr result (λ e.
+        e ≡ ReadFault.Failed → Rose (S.state source.old).faults (S.state source.new).faults) }
 {
     let mut buffer = piece(alloc)?;
     let mut listing = Listing::new(alloc);

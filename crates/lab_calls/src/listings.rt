@@ -36,7 +36,8 @@ impl Listing {
     pub fn take(&mut self, alloc: Global, piece: &[u8]) -> Result<(), NoMemory>
         requires ready { IsReady self.old }
         requires short { fed self.old + length piece.now < 2 ^ 64 }
-        ensures awaits { OnOk result ((rest text : Items ℕ) → Awaits self.old (piece.now ++ rest) text → Awaits self.new rest text) }
+        ensures awaits { OnOk result ((rest text : Items ℕ)
+            → Awaits self.old (piece.now ++ rest) text → Awaits self.new rest text) }
         ensures ready { OnOk result (IsReady self.new) }
         ensures fed { OnOk result (fed self.new ≤ fed self.old + length piece.now) }
     {
@@ -59,7 +60,8 @@ impl Listing {
 
     /// Writes the lines of frames.
     fn put(&mut self, alloc: Global, frames: List<Framed>) -> Result<(), NoMemory>
-        ensures lines { OnOk result (string_bytes self.new.lines ≡ string_bytes self.old.lines ++ given_lines frames) }
+        ensures lines { OnOk result
+            (string_bytes self.new.lines ≡ string_bytes self.old.lines ++ given_lines frames) }
         ensures rest { (self.new.feed ≡ self.old.feed) × (self.new.ended ≡ self.old.ended) }
     {
         match put_frames(alloc, &mut self.lines, frames) {
@@ -70,7 +72,8 @@ impl Listing {
 
     /// Writes the line of a bad frame, the last one.
     fn end(&mut self, at: u64, why: FrameError) -> Result<(), NoMemory>
-        ensures lines { OnOk result (string_bytes self.new.lines ≡ string_bytes self.old.lines ++ bad_frame_line at why) }
+        ensures lines { OnOk result
+            (string_bytes self.new.lines ≡ string_bytes self.old.lines ++ bad_frame_line at why) }
         ensures ended { self.new.ended ≡ true }
         ensures feed { self.new.feed ≡ self.old.feed }
     {
@@ -84,7 +87,8 @@ impl Listing {
     /// The lines of the whole input, once it was read to its end.
     pub fn finish(self) -> Result<String, NoMemory>
         requires { IsReady self }
-        ensures { IfOk result (λ out. (text : Items ℕ) → Awaits self [] text → string_bytes out ≡ text) }
+        ensures { IfOk result (λ out.
+            (text : Items ℕ) → Awaits self [] text → string_bytes out ≡ text) }
     {
         let Listing { feed, lines, ended } = self;
         if ended {

@@ -20,12 +20,11 @@ pub struct MemSource {
 
 impl MemSource {
     ghost use Rattle.std.specs.Prelude.{◌≡◌, ◌≤◌, ◌-◌, ◌^◌, Some};
-    ghost use Rattle.lab_calls.specs.MemStreams.{bytes_left, source_faults, source_step, source_fails, source_calls};
+    ghost use Rattle.lab_calls.specs.MemStreams.{source_state, source_step, source_fails, source_calls};
 
     /// A source of these bytes that fails at these calls; takes no memory.
     pub fn new(bytes: Vec<u8>, failing: Vec<u32>) -> MemSource
-        ensures bytes { bytes_left result ≡ Some bytes.items }
-        ensures faults { source_faults result ≡ 0 }
+        ensures state { source_state result ≡ record { left = Some bytes.items; faults = 0 } }
         ensures step { source_step result ≡ 2 ^ 64 - 1 }
         ensures fails { source_fails result ≡ failing.items }
         ensures calls { source_calls result ≡ 0 }
@@ -36,8 +35,7 @@ impl MemSource {
     /// The same, where each call gives at most so many bytes.
     pub fn with_step(bytes: Vec<u8>, step: usize, failing: Vec<u32>) -> MemSource
         requires { 1 ≤ step }
-        ensures bytes { bytes_left result ≡ Some bytes.items }
-        ensures faults { source_faults result ≡ 0 }
+        ensures state { source_state result ≡ record { left = Some bytes.items; faults = 0 } }
         ensures step { source_step result ≡ step }
         ensures fails { source_fails result ≡ failing.items }
         ensures calls { source_calls result ≡ 0 }
@@ -58,24 +56,28 @@ impl Source for MemSource {
     ghost use Rattle.disk_model.specs.Disk.{Rose};
     ghost use Rattle.std.specs.Io.KnownBytes.{Consumes, Keeps, IsAtEnd};
     ghost use Rattle.lab_calls.specs.Streams.{count_after};
-    ghost use Rattle.lab_calls.specs.MemStreams.{bytes_left, left_of, source_faults, source_step, source_fails, source_calls, next_call, fails_next};
+    ghost use Rattle.lab_calls.specs.MemStreams.{source_state, left_of, source_step, source_fails, source_calls, next_call, fails_next};
 
-    ghost left = { bytes_left };
-
-    ghost faults = { source_faults };
+    ghost state = { source_state };
 
     fn read(&mut self, into: &mut [u8]) -> Result<usize, Failed>
         ensures bound { IfOk result (λ n. n ≤ length into.old) }
-        ensures bytes { IfOk result (λ n. Consumes (bytes_left self.old) (bytes_left self.new) (take n into.new)) }
-        ensures end { IfOk result (λ n. n ≡ 0 → 0 < length into.old → IsAtEnd (bytes_left self.new)) }
-        ensures failed { OnErr result (Keeps (bytes_left self.old) (bytes_left self.new)) }
-        ensures err { OnErr result (Rose (source_faults self.old) (source_faults self.new)) }
-        ensures counted { source_faults self.old ≤ source_faults self.new }
+        ensures bytes { IfOk result (λ n.
+            Consumes (source_state self.old).left (source_state self.new).left (take n into.new)) }
+        ensures end { IfOk result (λ n.
+            n ≡ 0 → 0 < length into.old → IsAtEnd (source_state self.new).left) }
+        ensures failed { OnErr result
+            (Keeps (source_state self.old).left (source_state self.new).left) }
+        ensures err { OnErr result
+            (Rose (source_state self.old).faults (source_state self.new).faults) }
+        ensures counted { (source_state self.old).faults ≤ (source_state self.new).faults }
         // Each error is counted, and nothing else.
-        ensures count { source_faults self.new ≡ count_after (is_err result) (source_faults self.old) }
+        ensures count { (source_state self.new).faults
+            ≡ count_after (is_err result) (source_state self.old).faults }
         // It fails at the calls that it was given, and else reads as much as it can, up to its step.
         ensures fails { is_err result ≡ fails_next (source_fails self.old) (source_calls self.old) }
-        ensures most { IfOk result (λ n. n ≡ min (min (length into.old) (length (left_of self.old))) (source_step self.old)) }
+        ensures most { IfOk result (λ n.
+            n ≡ min (min (length into.old) (length (left_of self.old))) (source_step self.old)) }
         ensures step { source_step self.new ≡ source_step self.old }
         ensures same { source_fails self.new ≡ source_fails self.old }
         ensures calls { source_calls self.new ≡ next_call (source_calls self.old) }
@@ -106,12 +108,12 @@ pub struct MemSink {
 
 impl MemSink {
     ghost use Rattle.std.specs.Prelude.{◌≡◌, ◌-◌, ◌^◌, [], Some, IfOk};
-    ghost use Rattle.lab_calls.specs.MemStreams.{bytes_written, sink_faults, room_left, sink_step, sink_fails, sink_calls};
+    ghost use Rattle.lab_calls.specs.MemStreams.{sink_state, room_left, sink_step, sink_fails, sink_calls};
 
     /// A sink with this room, taken now, that fails at these calls.
     pub fn new(alloc: Global, room: usize, failing: Vec<u32>) -> Result<MemSink, NoMemory>
-        ensures bytes { IfOk result (λ sink. bytes_written sink ≡ Some []) }
-        ensures faults { IfOk result (λ sink. sink_faults sink ≡ 0) }
+        ensures state { IfOk result (λ sink.
+            sink_state sink ≡ record { written = Some []; faults = 0 }) }
         ensures room { IfOk result (λ sink. room_left sink ≡ room) }
         ensures step { IfOk result (λ sink. sink_step sink ≡ 2 ^ 64 - 1) }
         ensures fails { IfOk result (λ sink. sink_fails sink ≡ failing.items) }
@@ -120,15 +122,16 @@ impl MemSink {
         MemSink::with_step(alloc, room, usize::MAX, failing)
     }
 
-    /// The same, where each call takes at most so many bytes; with 0 it takes nothing, which is a fault at each call with some bytes.
+    /// The same, where each call takes at most so many bytes; with 0 it takes nothing, which is a fault at each call with
+    /// some bytes.
     pub fn with_step(
         alloc: Global,
         room: usize,
         step: usize,
         failing: Vec<u32>,
     ) -> Result<MemSink, NoMemory>
-        ensures bytes { IfOk result (λ sink. bytes_written sink ≡ Some []) }
-        ensures faults { IfOk result (λ sink. sink_faults sink ≡ 0) }
+        ensures state { IfOk result (λ sink.
+            sink_state sink ≡ record { written = Some []; faults = 0 }) }
         ensures room { IfOk result (λ sink. room_left sink ≡ room) }
         ensures step { IfOk result (λ sink. sink_step sink ≡ step) }
         ensures fails { IfOk result (λ sink. sink_fails sink ≡ failing.items) }
@@ -147,7 +150,7 @@ impl MemSink {
 
     /// What was written.
     pub fn written(&self) -> &[u8]
-        ensures { bytes_written self.now ≡ Some result.now }
+        ensures { (sink_state self.now).written ≡ Some result.now }
     {
         &self.bytes[..self.at]
     }
@@ -158,24 +161,28 @@ impl Sink for MemSink {
     ghost use Rattle.disk_model.specs.Disk.{Rose};
     ghost use Rattle.std.specs.Io.KnownBytes.{Appends, Keeps};
     ghost use Rattle.lab_calls.specs.Streams.{count_after, is_failed_write};
-    ghost use Rattle.lab_calls.specs.MemStreams.{bytes_written, sink_faults, room_left, sink_step, sink_fails, sink_calls, next_call, fails_next};
+    ghost use Rattle.lab_calls.specs.MemStreams.{sink_state, room_left, sink_step, sink_fails, sink_calls, next_call, fails_next};
 
-    ghost written = { bytes_written };
-
-    ghost faults = { sink_faults };
+    ghost state = { sink_state };
 
     fn write(&mut self, bytes: &[u8]) -> Result<usize, Failed>
         ensures bound { IfOk result (λ n. n ≤ length bytes.now) }
-        ensures bytes { IfOk result (λ n. Appends (bytes_written self.old) (bytes_written self.new) (take n bytes.now)) }
-        ensures stuck { IfOk result (λ n. n ≡ 0 → 0 < length bytes.now → Rose (sink_faults self.old) (sink_faults self.new)) }
-        ensures failed { OnErr result (Keeps (bytes_written self.old) (bytes_written self.new)) }
-        ensures err { OnErr result (Rose (sink_faults self.old) (sink_faults self.new)) }
-        ensures counted { sink_faults self.old ≤ sink_faults self.new }
+        ensures bytes { IfOk result (λ n. Appends
+            (sink_state self.old).written (sink_state self.new).written (take n bytes.now)) }
+        ensures stuck { IfOk result (λ n. n ≡ 0 → 0 < length bytes.now
+            → Rose (sink_state self.old).faults (sink_state self.new).faults) }
+        ensures failed { OnErr result
+            (Keeps (sink_state self.old).written (sink_state self.new).written) }
+        ensures err { OnErr result
+            (Rose (sink_state self.old).faults (sink_state self.new).faults) }
+        ensures counted { (sink_state self.old).faults ≤ (sink_state self.new).faults }
         // Each error, and each write that takes none of some bytes, is counted, and nothing else.
-        ensures count { sink_faults self.new ≡ count_after (is_failed_write bytes.now result) (sink_faults self.old) }
+        ensures count { (sink_state self.new).faults
+            ≡ count_after (is_failed_write bytes.now result) (sink_state self.old).faults }
         // It fails at the calls that it was given, and else writes as much as there is room for, up to its step.
         ensures fails { is_err result ≡ fails_next (sink_fails self.old) (sink_calls self.old) }
-        ensures most { IfOk result (λ n. n ≡ min (min (length bytes.now) (room_left self.old)) (sink_step self.old)) }
+        ensures most { IfOk result (λ n.
+            n ≡ min (min (length bytes.now) (room_left self.old)) (sink_step self.old)) }
         ensures step { sink_step self.new ≡ sink_step self.old }
         ensures room { IfOk result (λ n. room_left self.new + n ≡ room_left self.old) }
         ensures kept { OnErr result (room_left self.new ≡ room_left self.old) }

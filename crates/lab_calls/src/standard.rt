@@ -28,21 +28,23 @@ impl<R: Read> Source for StdSource<R> {
     ghost use Rattle.disk_model.specs.Disk.{Rose};
     ghost use Rattle.std.specs.Io.KnownBytes.{Consumes, Keeps, IsAtEnd};
     ghost use Rattle.lab_calls.specs.Streams.{count_after};
-    ghost use Rattle.lab_calls.specs.StdStreams.{source_left, source_faults};
+    ghost use Rattle.lab_calls.specs.StdStreams.{source_state, source_faults, reader};
 
-    ghost left = { source_left R.remaining };
-
-    ghost faults = { source_faults };
+    ghost state = { source_state R.remaining };
 
     fn read(&mut self, into: &mut [u8]) -> Result<usize, Failed>
         ensures bound { IfOk result (λ n. n ≤ length into.old) }
-        ensures bytes { IfOk result (λ n. Consumes (source_left R.remaining self.old) (source_left R.remaining self.new) (take n into.new)) }
-        ensures end { IfOk result (λ n. n ≡ 0 → 0 < length into.old → IsAtEnd (source_left R.remaining self.new)) }
-        ensures failed { OnErr result (Keeps (source_left R.remaining self.old) (source_left R.remaining self.new)) }
+        ensures bytes { IfOk result (λ n. Consumes
+            (R.remaining (reader self.old)) (R.remaining (reader self.new)) (take n into.new)) }
+        ensures end { IfOk result (λ n.
+            n ≡ 0 → 0 < length into.old → IsAtEnd (R.remaining (reader self.new))) }
+        ensures failed { OnErr result
+            (Keeps (R.remaining (reader self.old)) (R.remaining (reader self.new))) }
         ensures err { OnErr result (Rose (source_faults self.old) (source_faults self.new)) }
         ensures counted { source_faults self.old ≤ source_faults self.new }
         // Each error is counted, and nothing else.
-        ensures count { source_faults self.new ≡ count_after (is_err result) (source_faults self.old) }
+        ensures count { source_faults self.new
+            ≡ count_after (is_err result) (source_faults self.old) }
     {
         match self.input.read(into) {
             Ok(count) => Ok(count),
@@ -79,21 +81,23 @@ impl<W: Write> Sink for StdSink<W> {
     ghost use Rattle.disk_model.specs.Disk.{Rose};
     ghost use Rattle.std.specs.Io.KnownBytes.{Appends, Keeps};
     ghost use Rattle.lab_calls.specs.Streams.{count_after, is_failed_write};
-    ghost use Rattle.lab_calls.specs.StdStreams.{sink_written, sink_faults};
+    ghost use Rattle.lab_calls.specs.StdStreams.{sink_state, sink_faults, writer};
 
-    ghost written = { sink_written W.contents };
-
-    ghost faults = { sink_faults };
+    ghost state = { sink_state W.contents };
 
     fn write(&mut self, bytes: &[u8]) -> Result<usize, Failed>
         ensures bound { IfOk result (λ n. n ≤ length bytes.now) }
-        ensures bytes { IfOk result (λ n. Appends (sink_written W.contents self.old) (sink_written W.contents self.new) (take n bytes.now)) }
-        ensures stuck { IfOk result (λ n. n ≡ 0 → 0 < length bytes.now → Rose (sink_faults self.old) (sink_faults self.new)) }
-        ensures failed { OnErr result (Keeps (sink_written W.contents self.old) (sink_written W.contents self.new)) }
+        ensures bytes { IfOk result (λ n. Appends
+            (W.contents (writer self.old)) (W.contents (writer self.new)) (take n bytes.now)) }
+        ensures stuck { IfOk result (λ n.
+            n ≡ 0 → 0 < length bytes.now → Rose (sink_faults self.old) (sink_faults self.new)) }
+        ensures failed { OnErr result
+            (Keeps (W.contents (writer self.old)) (W.contents (writer self.new))) }
         ensures err { OnErr result (Rose (sink_faults self.old) (sink_faults self.new)) }
         ensures counted { sink_faults self.old ≤ sink_faults self.new }
         // Each error, and each write that takes none of some bytes, is counted, and nothing else.
-        ensures count { sink_faults self.new ≡ count_after (is_failed_write bytes.now result) (sink_faults self.old) }
+        ensures count { sink_faults self.new
+            ≡ count_after (is_failed_write bytes.now result) (sink_faults self.old) }
     {
         match self.output.write(bytes) {
             Ok(count) => {

@@ -1,12 +1,10 @@
 //! The calls at the top: one replay, and the program's words.
-ghost use Rattle.std.specs.Prelude.{◌≡◌, ◌≢◌, ◌⊎◌, true, false, ◌∷◌, IfOk, IfErr, string_bytes};
-ghost use Rattle.std.specs.Io.KnownBytes.{Appends};
-ghost use Rattle.disk_model.specs.Disk.{Rose};
-ghost use Rattle.scenario_nodes.specs.Shelves.{ReturnsAll, showing};
-ghost use Rattle.replay_runner.specs.Leaving.{Replays as Replayed};
-ghost use Rattle.lab_calls.specs.Answers.{Answers, IsAnswerTo, IsFramesAnswer, Replays, TellsShelf, TellsFrames, TellsUsage, TellsFaults, is_among, is_replay, is_frames, replay_statuses, frames_statuses, with_failures};
-ghost use Rattle.lab_calls.specs.Once.{ReplaysOnce};
-ghost use Rattle.lab_calls.specs.Streams.{GainsFront, devices};
+ghost use Rattle.std.specs.Prelude.{◌≡◌, ◌⊎◌, true, false, ◌∷◌};
+ghost use Rattle.scenario_nodes.specs.Shelves.{ReturnsAll};
+ghost use Rattle.lab_calls.specs.Answers.{IsFramesAnswer, TellsFaults, TellsUsage, is_frames, is_replay, frames_statuses, replay_statuses, with_failures};
+ghost use Rattle.lab_calls.specs.Once.{ListsOnce, ReplaysOnce};
+ghost use Rattle.lab_calls.specs.Steps.{AnswersInput, ReplaysInput, WritesAnswer, WritesText};
+ghost use Rattle.lab_calls.specs.Streams.{devices};
 
 use crate::answers::{Answer, answer_to};
 use crate::frames::list_frames;
@@ -20,8 +18,7 @@ use std::alloc::Global;
 
 /// Writes a text, and gives the status once it was written.
 fn finish<K: Sink>(sink: &mut K, text: &str, status: u8) -> u8
-    ensures whole { result ≢ 5 → (result ≡ status) × Appends (K.written sink.old) (K.written sink.new) text.now }
-    ensures front { result ≡ 5 → status ≢ 5 → Rose (K.faults sink.old) (K.faults sink.new) × GainsFront (K.written sink.old) (K.written sink.new) text.now }
+    ensures { WritesText text.now status result (K.state sink.old) (K.state sink.new) }
 {
     match write_all(sink, text.as_bytes()) {
         Ok(()) => status,
@@ -46,12 +43,8 @@ fn replay_input<S: Source, H: Shelf>(
     source: &mut S,
     shelf: &mut H,
 ) -> Result<Answer, u8>
-    ensures answer { IfOk result (λ a. Answers (IsAnswerTo (Replayed H.D.state (showing H.has_place H.given_back H.faults H.tells shelf.old) (showing H.has_place H.given_back H.faults H.tells shelf.new))) replay_statuses (S.left source.old) (S.left source.new) (string_bytes a.text) a.status) }
-    ensures shelf { IfOk result (λ a. TellsShelf (Replayed H.D.state (showing H.has_place H.given_back H.faults H.tells shelf.old) (showing H.has_place H.given_back H.faults H.tells shelf.new)) (shelf.new ≡ shelf.old) a.status (S.left source.old) (S.left source.new)) }
-    ensures unanswered { IfErr result (λ status. TellsShelf (Replayed H.D.state (showing H.has_place H.given_back H.faults H.tells shelf.old) (showing H.has_place H.given_back H.faults H.tells shelf.new)) (shelf.new ≡ shelf.old) status (S.left source.old) (S.left source.new)) }
-    ensures returned { ReturnsAll (H.tells shelf.old) (H.has_place shelf.old) (H.has_place shelf.new) (H.given_back shelf.old) (H.given_back shelf.new) }
-    ensures statuses { IfErr result (λ status. (status ≡ 4) ⊎ (status ≡ 6)) }
-    ensures failed { IfErr result (λ status. status ≡ 4 → Rose (S.faults source.old) (S.faults source.new)) }
+    ensures { ReplaysInput H.D.state (H.state shelf.old) (H.state shelf.new)
+        (shelf.new ≡ shelf.old) (S.state source.old) (S.state source.new) result }
 {
     let bytes = match read_all(alloc, source) {
         Ok(bytes) => bytes,
@@ -65,9 +58,8 @@ fn replay_input<S: Source, H: Shelf>(
 
 /// Reads an input and lists its frames, likewise.
 fn list_input<S: Source>(alloc: Global, source: &mut S) -> Result<Answer, u8>
-    ensures answer { IfOk result (λ a. Answers IsFramesAnswer frames_statuses (S.left source.old) (S.left source.new) (string_bytes a.text) a.status) }
-    ensures statuses { IfErr result (λ status. (status ≡ 4) ⊎ (status ≡ 6)) }
-    ensures failed { IfErr result (λ status. status ≡ 4 → Rose (S.faults source.old) (S.faults source.new)) }
+    ensures { AnswersInput IsFramesAnswer frames_statuses
+        (S.state source.old) (S.state source.new) result }
 {
     match list_frames(alloc, source) {
         Ok(answer) => Ok(answer),
@@ -77,9 +69,7 @@ fn list_input<S: Source>(alloc: Global, source: &mut S) -> Result<Answer, u8>
 
 /// Writes the text of an answer, if there is one, and gives its status once it was written.
 fn write_answer<K: Sink>(sink: &mut K, answer: Result<Answer, u8>) -> u8
-    ensures whole { IfOk answer (λ a. result ≢ 5 → (result ≡ a.status) × Appends (K.written sink.old) (K.written sink.new) (string_bytes a.text)) }
-    ensures front { IfOk answer (λ a. result ≡ 5 → a.status ≢ 5 → Rose (K.faults sink.old) (K.faults sink.new) × GainsFront (K.written sink.old) (K.written sink.new) (string_bytes a.text)) }
-    ensures nothing { IfErr answer (λ status. (result ≡ status) × (K.written sink.new ≡ K.written sink.old)) }
+    ensures { WritesAnswer answer result (K.state sink.old) (K.state sink.new) }
 {
     match answer {
         Ok(answer) => finish(sink, answer.text.as_str(), answer.status),
@@ -93,22 +83,18 @@ fn write_answer<K: Sink>(sink: &mut K, answer: Result<Answer, u8>) -> u8
 /// node's next record would pass the end of its disk, and 9 where a disk has bytes that are no journal. At each status the
 /// disks that were taken are given back: where the shelf tells of them, each name that has a place there had one before or has
 /// a disk that was given back to it, and a name that had such a disk still has one. Where a shelf had no place for any node
-/// before, its places say of how many nodes the disks were taken. Where nothing fails, and the shelf and its disks tell, the status of a
-/// scenario is 0, 6 or 8.
+/// before, its places say of how many nodes the disks were taken. Where nothing fails, and the shelf and its disks tell, the
+/// status of a scenario is 0, 6 or 8.
 pub fn replay_once<S: Source, K: Sink, H: Shelf>(
     alloc: Global,
     source: &mut S,
     sink: &mut K,
     shelf: &mut H,
 ) -> u8
-    ensures once { ReplaysOnce H.D.state
-        (showing H.has_place H.given_back H.faults H.tells shelf.old)
-        (showing H.has_place H.given_back H.faults H.tells shelf.new)
+    ensures { ReplaysOnce H.D.state (H.state shelf.old) (H.state shelf.new)
         (shelf.new ≡ shelf.old) result
-        (devices S.left S.faults K.written K.faults source.old sink.old)
-        (devices S.left S.faults K.written K.faults source.new sink.new) }
-    ensures returned { ReturnsAll (H.tells shelf.old) (H.has_place shelf.old) (H.has_place shelf.new) (H.given_back shelf.old) (H.given_back shelf.new) }
-    ensures faults { TellsFaults (with_failures replay_statuses) result (devices S.left S.faults K.written K.faults source.old sink.old) (devices S.left S.faults K.written K.faults source.new sink.new) }
+        (devices (S.state source.old) (K.state sink.old))
+        (devices (S.state source.new) (K.state sink.new)) }
 {
     write_answer(sink, replay_input(alloc, source, shelf))
 }
@@ -117,8 +103,9 @@ pub fn replay_once<S: Source, K: Sink, H: Shelf>(
 /// status is 0 where that is done, a bad frame or not, 3 where the input has more bytes than `INPUT_BYTES`, 4 where the
 /// source failed, 5 where the sink did, and 6 where memory was refused.
 pub fn frames_once<S: Source, K: Sink>(alloc: Global, source: &mut S, sink: &mut K) -> u8
-    ensures frames { TellsFrames result (devices S.left S.faults K.written K.faults source.old sink.old) (devices S.left S.faults K.written K.faults source.new sink.new) }
-    ensures faults { TellsFaults (with_failures frames_statuses) result (devices S.left S.faults K.written K.faults source.old sink.old) (devices S.left S.faults K.written K.faults source.new sink.new) }
+    ensures { ListsOnce result
+        (devices (S.state source.old) (K.state sink.old))
+        (devices (S.state source.new) (K.state sink.new)) }
 {
     write_answer(sink, list_input(alloc, source))
 }
@@ -137,21 +124,23 @@ pub fn top<S: Source, K: Sink, H: Shelf>(
     shelf: &mut H,
 ) -> u8
     ensures words { result ≡ 2 → (is_replay words.now ≡ false) × (is_frames words.now ≡ false) }
-    ensures unread { is_replay words.now ≡ false → is_frames words.now ≡ false → source.new ≡ source.old }
-    ensures usage { is_replay words.now ≡ false → is_frames words.now ≡ false
-        → TellsUsage result (devices S.left S.faults K.written K.faults source.old sink.old) (devices S.left S.faults K.written K.faults source.new sink.new) }
+    ensures unread { is_replay words.now ≡ false → is_frames words.now ≡ false
+        → source.new ≡ source.old }
+    ensures usage { is_replay words.now ≡ false → is_frames words.now ≡ false → TellsUsage result
+        (devices (S.state source.old) (K.state sink.old))
+        (devices (S.state source.new) (K.state sink.new)) }
     ensures replay { is_replay words.now ≡ true → ReplaysOnce H.D.state
-        (showing H.has_place H.given_back H.faults H.tells shelf.old)
-        (showing H.has_place H.given_back H.faults H.tells shelf.new)
-        (shelf.new ≡ shelf.old) result
-        (devices S.left S.faults K.written K.faults source.old sink.old)
-        (devices S.left S.faults K.written K.faults source.new sink.new) }
-    ensures returned { ReturnsAll (H.tells shelf.old) (H.has_place shelf.old) (H.has_place shelf.new) (H.given_back shelf.old) (H.given_back shelf.new) }
+        (H.state shelf.old) (H.state shelf.new) (shelf.new ≡ shelf.old) result
+        (devices (S.state source.old) (K.state sink.old))
+        (devices (S.state source.new) (K.state sink.new)) }
+    ensures returned { ReturnsAll (H.state shelf.old) (H.state shelf.new) }
     ensures untouched { is_replay words.now ≡ false → shelf.new ≡ shelf.old }
-    ensures frames { is_frames words.now ≡ true
-        → TellsFrames result (devices S.left S.faults K.written K.faults source.old sink.old) (devices S.left S.faults K.written K.faults source.new sink.new) }
-    ensures listing { is_frames words.now ≡ true → is_among (with_failures frames_statuses) result ≡ true }
-    ensures faults { TellsFaults (2 ∷ with_failures replay_statuses) result (devices S.left S.faults K.written K.faults source.old sink.old) (devices S.left S.faults K.written K.faults source.new sink.new) }
+    ensures frames { is_frames words.now ≡ true → ListsOnce result
+        (devices (S.state source.old) (K.state sink.old))
+        (devices (S.state source.new) (K.state sink.new)) }
+    ensures faults { TellsFaults (2 ∷ with_failures replay_statuses) result
+        (devices (S.state source.old) (K.state sink.old))
+        (devices (S.state source.new) (K.state sink.new)) }
 {
     if words::are(words, "replay") {
         return replay_once(alloc, source, sink, shelf);

@@ -29,10 +29,12 @@ pub fn piece(alloc: Global) -> Result<Vec<u8>, ReadFault>
 
 /// Writes the whole text.
 pub fn write_all<K: Sink>(sink: &mut K, text: &[u8]) -> Result<(), Failed>
-    ensures ok { OnOk result (Appends (K.written sink.old) (K.written sink.new) text.now) }
-    ensures front { OnErr result (GainsFront (K.written sink.old) (K.written sink.new) text.now) }
-    ensures err { OnErr result (Rose (K.faults sink.old) (K.faults sink.new)) }
-    ensures counted { K.faults sink.old ≤ K.faults sink.new }
+    ensures ok { OnOk result
+        (Appends (K.state sink.old).written (K.state sink.new).written text.now) }
+    ensures front { OnErr result
+        (GainsFront (K.state sink.old).written (K.state sink.new).written text.now) }
+    ensures err { OnErr result (Rose (K.state sink.old).faults (K.state sink.new).faults) }
+    ensures counted { (K.state sink.old).faults ≤ (K.state sink.new).faults }
 {
     let mut done = 0;
     while done < text.len() {
@@ -49,21 +51,25 @@ pub fn write_all<K: Sink>(sink: &mut K, text: &[u8]) -> Result<(), Failed>
 pub fn read_some<S: Source>(source: &mut S, buffer: &mut [u8], room: usize) -> Result<usize, Failed>
     requires { room ≤ length buffer.old }
     ensures bound { IfOk result (λ n. n ≤ room) }
-    ensures bytes { IfOk result (λ n. Consumes (S.left source.old) (S.left source.new) (take n buffer.new)) }
-    ensures end { IfOk result (λ n. n ≡ 0 → 0 < room → IsAtEnd (S.left source.new)) }
-    ensures err { OnErr result (Rose (S.faults source.old) (S.faults source.new)) }
-    ensures counted { S.faults source.old ≤ S.faults source.new }
+    ensures bytes { IfOk result (λ n.
+        Consumes (S.state source.old).left (S.state source.new).left (take n buffer.new)) }
+    ensures end { IfOk result (λ n. n ≡ 0 → 0 < room → IsAtEnd (S.state source.new).left) }
+    ensures err { OnErr result (Rose (S.state source.old).faults (S.state source.new).faults) }
+    ensures counted { (S.state source.old).faults ≤ (S.state source.new).faults }
 {
     source.read(&mut buffer[..room])
 }
 
 /// Reads to the end of the input, or one byte past the most that is taken.
 pub fn read_all<S: Source>(alloc: Global, source: &mut S) -> Result<Vec<u8>, ReadFault>
-    ensures bytes { IfOk result (λ bytes. Consumes (S.left source.old) (S.left source.new) bytes.items) }
-    ensures end { IfOk result (λ bytes. length bytes.items ≤ INPUT_BYTES → IsAtEnd (S.left source.new)) }
+    ensures bytes { IfOk result (λ bytes.
+        Consumes (S.state source.old).left (S.state source.new).left bytes.items) }
+    ensures end { IfOk result (λ bytes.
+        length bytes.items ≤ INPUT_BYTES → IsAtEnd (S.state source.new).left) }
     ensures most { IfOk result (λ bytes. length bytes.items ≤ INPUT_BYTES + 1) }
-    ensures err { IfErr result (λ e. e ≡ ReadFault.Failed → Rose (S.faults source.old) (S.faults source.new)) }
-    ensures counted { S.faults source.old ≤ S.faults source.new }
+    ensures err { IfErr result (λ e.
+        e ≡ ReadFault.Failed → Rose (S.state source.old).faults (S.state source.new).faults) }
+    ensures counted { (S.state source.old).faults ≤ (S.state source.new).faults }
 {
     let mut buffer = piece(alloc)?;
     let mut bytes = Vec::new(alloc);

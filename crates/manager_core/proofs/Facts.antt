@@ -26,8 +26,8 @@ use Rattle.history_rules.specs.ManagerRules as rules
 use Rattle.history_rules.specs.ManagerRules.{Settings, busy_after, busy_count, closed_after, end_message, is_closed, is_silent, last_sent, manager_answer, receiver, sent_after, sent_count, speaks}
 use Rattle.history_rules.specs.Nodes.{happens}
 use Rattle.history_rules.specs.Nodes.{Manager as ManagerRole}
-use Rattle.history_text.proofs.Served.{happens_plain}
-use Rattle.history_text.specs.Promises.{own_step}
+use Rattle.node_steps.proofs.Served.{happens_plain}
+use Rattle.node_steps.specs.Promises.{own_step}
 use Rattle.manager_core.specs.Answers.{Answers, Hears, IsAnswered, Says, Speaks, TakesAfter, says}
 use Rattle.manager_core.specs.Calls.{message_for, next_message, next_phase, phase_for}
 use Rattle.manager_core.specs.Standing.{StandsFor}

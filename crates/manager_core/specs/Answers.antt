@@ -10,8 +10,8 @@ use Rattle.seata_types.specs.declared.messages.Message.{Message}
 use Rattle.seata_types.specs.declared.messages.Step.{Step}
 use Rattle.history_rules.specs.Own.{Own, still, sends}
 use Rattle.history_rules.specs.ManagerRules.{is_silent, manager_answer, receiver}
-use Rattle.history_text.specs.Framing.{SendsFramable}
-use Rattle.history_text.specs.Promises.{own_step}
+use Rattle.node_steps.specs.Framing.{SendsFramable}
+use Rattle.node_steps.specs.Promises.{own_step}
 use Rattle.manager_core.specs.Tracks.{Tracks}
 use Rattle.manager_core.specs.declared.phases.Phase.{Phase}
 use Rattle.manager_core.specs.declared.talks.Talk.{Talk}

@@ -4,7 +4,7 @@ ghost use Rattle.std.specs.Prelude.{◌+◌, ◌<◌, ◌^◌};
 use crate::phases::Phase;
 use crate::settings::Settings;
 use crate::talks::Talk;
-use history_text::Node;
+use node_steps::Node;
 use seata_types::limits::NODE_STEPS;
 use seata_types::{Act, Ending, Input, List, NoMemory, NodeError, OpenError, Place, Step, Work};
 use std::alloc::Global;
@@ -18,10 +18,9 @@ pub struct Manager {
 }
 
 impl Manager {
-    ghost use Rattle.std.specs.Prelude.{◌≡◌, ◌||◌, List as Entries, []};
+    ghost use Rattle.std.specs.Prelude.{◌≡◌, List as Entries, []};
     ghost use Rattle.history_rules.specs.Own.{Own};
-    ghost use Rattle.history_rules.specs.ManagerRules as rules;
-    ghost use Rattle.manager_core.specs.Standing.{StandsFor, settings, steps_of};
+    ghost use Rattle.manager_core.specs.Standing.{StandsFor, settings, steps_of, is_finished};
     ghost use Rattle.manager_core.specs.Within.{IsWithin, settings_with};
     ghost use Rattle.seata_types.specs.declared.limits.TheConstants.{NODE_STEPS};
 
@@ -40,7 +39,8 @@ impl Manager {
     ) -> Manager
         requires within { IsWithin (settings_with number timeout tries calls ending silent poll) }
         ensures fresh { StandsFor result [] }
-        ensures settings { settings result ≡ settings_with number timeout tries calls ending silent poll }
+        ensures settings { settings result ≡
+            settings_with number timeout tries calls ending silent poll }
         ensures steps { steps_of result ≡ NODE_STEPS }
     {
         let talk = Talk {
@@ -57,38 +57,23 @@ impl Manager {
     /// Whether it has nothing more to do: the end of its transaction was answered, or it sent all that it may.
     #[tactic(auto, unfolding(crate::specs::Standing::StandsFor))]
     pub fn at_end(&self) -> bool
-        ensures { (owns : Entries Own) → StandsFor self.now owns → result ≡ (rules.is_closed owns || rules.is_silent (settings self.now).silent (rules.sent_count owns)) }
+        ensures { (owns : Entries Own) → StandsFor self.now owns →
+            result ≡ is_finished (settings self.now) owns }
     {
         self.talk.is_closed() || self.talk.is_silent()
     }
 }
 
 impl Node for Manager {
-    ghost use Rattle.std.specs.Prelude.{◌≡◌, ◌+◌, ◌<◌, ◌≤◌, ◌^◌, false, IfOk, IfErr};
-    ghost use Rattle.seata_types.specs.declared.limits.TheConstants.{LATEST_MOMENT};
-    ghost use Rattle.seata_types.specs.declared.ids.Place.TheVariants as places;
-    ghost use Rattle.history_text.specs.Durable.{SamePicks};
-    ghost use Rattle.history_text.specs.Framing.{ComesFramable, SendsFramable};
-    ghost use Rattle.history_text.specs.Promises.{no_disks, TakesStep, AfterError, HadPlace, DisksFail, StaysItself, goes_down};
-    ghost use Rattle.history_text.specs.Promises.{steps_of as steps_taken};
-    ghost use Rattle.manager_core.specs.Standing.{StandsAs, Takes, settings, steps_of};
+    ghost use Rattle.std.specs.Prelude.{◌≡◌, ◌+◌, ◌<◌, ◌^◌, false, IfOk, IfErr};
+    ghost use Rattle.node_steps.specs.Durable.{SamePicks};
+    ghost use Rattle.node_steps.specs.Framing.{ComesFramable, SendsFramable};
+    ghost use Rattle.node_steps.specs.Promises.{no_disks, TakesStep, AfterError, HadPlace, StaysItself, goes_down};
+    ghost use Rattle.node_steps.specs.Promises.{steps_of as steps_taken};
+    ghost use Rattle.manager_core.specs.Standing.{Takes, node_state, settings, steps_of};
     ghost use Rattle.manager_core.specs.Laws as laws;
 
-    ghost stands_for = { StandsAs };
-
-    ghost stands_at = { λ m. places.Man (settings m).number };
-
-    ghost serves = { λ _ _. Unit {0} };
-
-    ghost left = { steps_of };
-
-    ghost stops = { λ _. false };
-
-    ghost down = { λ _. false };
-
-    ghost disks = { λ _. no_disks };
-
-    ghost size = { λ _. 0 };
+    ghost state = { node_state };
 
     fn place(&self) -> Place {
         Place::Man(self.talk.settings.number())
@@ -96,15 +81,14 @@ impl Node for Manager {
 
     #[tactic(auto, unfolding(crate::specs::Standing::StandsFor))]
     fn step(&mut self, alloc: Global, input: Input, _now: u64) -> Result<Step, NodeError>
-        requires up { false ≡ false }
         requires able { 0 < steps_of self.old }
-        requires moment { _now ≤ LATEST_MOMENT }
-        requires served { Unit {0} }
-        ensures answers { IfOk result (TakesStep StandsAs self.old self.new input _now) }
+        ensures answers { IfOk result
+            (TakesStep (node_state self.old) (node_state self.new) input _now) }
         ensures framable { ComesFramable input → IfOk result SendsFramable }
-        ensures after { IfErr result (AfterError StandsAs (DisksFail no_disks no_disks) no_disks 0 self.old self.new input _now) }
-        ensures room { HadPlace StandsAs no_disks 0 self.old input _now result }
-        ensures same { StaysItself (λ m. places.Man (settings m).number) (λ _ _. Unit {0}) (λ _. no_disks) self.old self.new }
+        ensures after { IfErr result
+            (AfterError (node_state self.old) (node_state self.new) input _now) }
+        ensures room { HadPlace (node_state self.old) input _now result }
+        ensures same { StaysItself (node_state self.old) (node_state self.new) }
         ensures picks { SamePicks no_disks no_disks }
         ensures counted { steps_of self.new + steps_taken result ≡ steps_of self.old }
         ensures down { false ≡ goes_down result }
@@ -150,15 +134,5 @@ impl Node for Manager {
         Ok(Act::Nothing)
     }
 
-    ghost places = { laws.places };
-
-    ghost with_disks = { laws.with_disks };
-
-    ghost downs = { laws.downs };
-
-    ghost loses = { laws.loses };
-
-    ghost stays = { laws.stays };
-
-    ghost device = { laws.device };
+    ghost lawful = { laws.lawful };
 }

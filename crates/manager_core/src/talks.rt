@@ -4,7 +4,7 @@ ghost use Rattle.history_rules.specs.ManagerRules as rules;
 
 use crate::phases::Phase;
 use crate::settings::{Settings, end_message};
-use history_text::{sends, still};
+use node_steps::{sends, still};
 use seata_types::{
     Act, CallAnswer, Ending, GlobalStatus, Input, Message, NoMemory, Place, Step, Xid,
 };
@@ -30,7 +30,7 @@ impl Talk {
     ghost use Rattle.frame_codec.specs.Limits.{IsFramable};
     ghost use Rattle.history_rules.specs.Own.{Own};
     ghost use Rattle.history_rules.specs.Own as own;
-    ghost use Rattle.history_text.specs.Framing.{SendsFramable};
+    ghost use Rattle.node_steps.specs.Framing.{SendsFramable};
     ghost use Rattle.history_rules.specs.ManagerRules as rules;
     ghost use Rattle.manager_core.specs.Answers.{Answers, Hears, IsAnswered, Says, Speaks};
     ghost use Rattle.manager_core.specs.Calls.{next_message, next_phase};

@@ -9,19 +9,19 @@ use Rattle.seata_types.specs.declared.messages.Input.{Input}
 use Rattle.seata_types.specs.declared.messages.Input.TheVariants as input
 use Rattle.seata_types.specs.declared.messages.Step.{Step}
 use Rattle.frame_codec.specs.Packets.{Sent}
-use Rattle.history_rules.specs.Own.{Event, Given, Stopped, Crashed, Restarted, Own}
+use Rattle.history_rules.specs.Own.{Event, Given, Stopped, Crashed, Restarted}
 use Rattle.history_rules.specs.Nodes.{Role, World, Past}
 use Rattle.history_rules.specs.Histories.{Moment, Turn, Deliver, Missing, Wait, Stop, Crash, Restart, Local, Outside, ReceivesLater, own, own_if, last_now, same_place}
 use Rattle.history_rules.specs.Histories.{Cause as Reason}
+use Rattle.node_steps.specs.Nodes.{IsLawful, NodeState, has_disks, place_of}
+use Rattle.node_steps.specs.Promises.{AreTold}
 use Rattle.history_text.specs.declared.entries.Cause.{Cause}
 use Rattle.history_text.specs.declared.entries.Cause.TheVariants as cause
-use Rattle.history_text.specs.declared.entries.Entry.{Entry}
 use Rattle.history_text.specs.History.{cause_of, entries, entry_of}
-use Rattle.history_text.specs.Promises.{AreTold, has_disks, place_of}
 use Rattle.node_seat.specs.declared.faults.RunFault.{RunFault}
-use Rattle.node_seat.specs.declared.stations.Station.{Station}
 use Rattle.node_seat.specs.Entering.{CanReact, Enters, IsEntered, IsTold, Stays, entry_at, event_by}
 use Rattle.node_seat.specs.Keeping.{Keeps, KeepsSome, IsBehind, IsInputOf, IsNext}
+use Rattle.node_seat.specs.Seating.{Seated}
 use Rattle.node_seat.specs.Traces.{MayBring, IsAfter}
 
 pub same_place-refl : (p : Place) → same_place p p ≡ true
@@ -138,18 +138,18 @@ told_for disks c None event e told = told_all disks event (told refl)
 
 -- ---- one entry
 
-module _ {N : Type 0} (stands_for : N → Role → List Own → Type 0) (place : N → Place) (disks : N → Pair) (size : N → ℕ) (old new : N) (trace traced : List Entry)
-    (stamp now : ℕ) (why : Cause) (given : Option Input) (event : Event) (is_event : event_by why given ≡ Some event) (next : IsNext trace stamp now why given) where
-  module _ (role : Role) (at : place old ≡ place_of role) (ms : List Moment) (k : Keeps stands_for old trace role ms) (told : IsTold (disks old) event) where
+module _ {N : Type 0} (state : N → NodeState) (old new : Seated N) (stamp now : ℕ) (why : Cause) (given : Option Input) (event : Event)
+    (is_event : event_by why given ≡ Some event) (next : IsNext old.trace stamp now why given) where
+  module _ (role : Role) (at : (state old.node).place ≡ place_of role) (ms : List Moment) (k : Keeps (state old.node) old.trace role ms) (told : IsTold (state old.node).disks event) where
     abbrev moment : Step → Moment
     moment step = record { stamp = stamp; place = place_of role; now = now; cause = reason_of why; event = Some event; step = step }
 
-    entered : (step : Step) (r : Result (Option Sent) RunFault) → Enters stands_for place disks size old new trace traced stamp now why event step r → Keeps stands_for new traced role (moment step ∷ ms)
+    entered : (step : Step) (r : Result (Option Sent) RunFault) → Enters state old new stamp now why event step r → Keeps (state new.node) new.trace role (moment step ∷ ms)
     entered step r e =
         let behind : All (IsBehind stamp now) (entries ms) = subst (All (IsBehind stamp now)) k.printed next.behind in
         let did = e.does.reacts told role (own (place_of role) ms) k.stands in
         record {
-          printed = e.printed ∙ ap (λ t. t ++ entry_at stamp (place old) now why step ∷ []) k.printed ∙ ap (λ p. entries ms ++ entry_at stamp p now why step ∷ []) at
+          printed = e.printed ∙ ap (λ t. t ++ entry_at stamp (state old.node).place now why step ∷ []) k.printed ∙ ap (λ p. entries ms ++ entry_at stamp p now why step ∷ []) at
               ∙ ap (λ c. entries ms ++ entry_at stamp (place_of role) now c step ∷ []) (sym (printed_cause why));
           alone = (
             k.alone,
@@ -165,32 +165,30 @@ module _ {N : Type 0} (stands_for : N → Role → List Own → Type 0) (place :
           stands = rw (same_place-refl (place_of role)) did.1;
         }
 
-    stayed : (missed : RunFault) → Stays stands_for place disks size old new trace traced now event missed → Keeps stands_for new traced role ms
+    stayed : (missed : RunFault) → Stays state old new now event missed → Keeps (state new.node) new.trace role ms
     stayed missed e = record { printed = e.printed ∙ k.printed; alone = k.alone; stands = e.misses.stands told role (own (place_of role) ms) k.stands }
 
-    kept : (r : Result (Option Sent) RunFault) → IsEntered stands_for place disks size old new trace traced stamp now why event r
-        → (ms' : List Moment) × Keeps stands_for new traced role ms'
+    kept : (r : Result (Option Sent) RunFault) → IsEntered state old new stamp now why event r → (ms' : List Moment) × Keeps (state new.node) new.trace role ms'
     kept (Ok packet) (step, e) = (moment step ∷ ms, entered step (Ok packet) e)
     kept (Err missed) (inl e) = (ms, stayed missed e)
     kept (Err missed) (inr (is, step, e)) = (moment step ∷ ms, entered step (Err missed) e)
 
--- a station keeps some moments after an entry
-module _ {N : Type 0} (stands_for : N → Role → List Own → Type 0) (place : N → Place) (disks : N → Pair) (size : N → ℕ) (stops : N → Bool)
-    (places : (n : N) (role : Role) (os : List Own) → stands_for n role os → place n ≡ place_of role)
-    (with_disks : (n : N) (role : Role) (os : List Own) → stands_for n role os → stops n ≡ has_disks role) (w : World) (past : Past) where
-  pub keeps_some : (old new : Station N) (stamp now : ℕ) (why : Cause) (given : Option Input) (event : Event) → event_by why given ≡ Some event → IsNext old.trace.items stamp now why given
-      → (given ≡ None → stops old.node ≡ true) → SameTelling (disks old.node) (disks new.node)
-      → (r : Result (Option Sent) RunFault) → IsEntered stands_for place disks size old.node new.node old.trace.items new.trace.items stamp now why event r
-      → KeepsSome stands_for disks w past old → KeepsSome stands_for disks w past new
+-- a seat keeps some moments after an entry
+module _ {N : Type 0} (state : N → NodeState) (law : (node : N) → IsLawful (state node)) (w : World) (past : Past) where
+  pub keeps_some : (old new : Seated N) (stamp now : ℕ) (why : Cause) (given : Option Input) (event : Event) → event_by why given ≡ Some event → IsNext old.trace stamp now why given
+      → (given ≡ None → (state old.node).stops ≡ true) → SameTelling (state old.node).disks (state new.node).disks
+      → (r : Result (Option Sent) RunFault) → IsEntered state old new stamp now why event r → KeepsSome state w past old → KeepsSome state w past new
   keeps_some old new stamp now why given event is_event next has same r e (role, named, some) = (
     role,
     named,
     λ told.
-        let was : has_disks role ≡ true → AreTold (disks old.node) = λ h. told_back (disks old.node) (disks new.node) same (told h) in
+        let disks = (state old.node).disks in
+        let was : has_disks role ≡ true → AreTold disks = λ h. told_back disks (state new.node).disks same (told h) in
         let (ms, k) = some was in
+        let tells = (law old.node).tells in
         let owns = own (place_of role) ms in
-        kept stands_for place disks size old.node new.node old.trace.items new.trace.items stamp now why given event is_event next role (places old.node role owns k.stands) ms k
-        (told_for (disks old.node) why given event is_event (λ none. was (sym (with_disks old.node role owns k.stands) ∙ has none))) r e,
+        kept state old new stamp now why given event is_event next role (tells.places role owns k.stands) ms k
+        (told_for disks why given event is_event (λ none. was (sym (tells.with_disks role owns k.stands) ∙ has none))) r e,
   )
 
 -- with an input or an event of disks something happens
@@ -207,7 +205,6 @@ event_there stamp (cause.Local number) None is = absurd is
 event_there stamp (cause.Outside number) None is = absurd is
 
 -- without an input the disks are meant
-pub given_or_disks : {N : Type 0} (stops : N → Bool) (left : N → ℕ) (serves : N → Input → Type 0) (n : N) (c : Cause) (given : Option Input) → CanReact stops left serves n c given
-    → given ≡ None → stops n ≡ true
-given_or_disks stops left serves n c (Some given) can e = absurd (let no : Some given ≡ None = e in cc)
-given_or_disks stops left serves n c None can e = can.0
+pub given_or_disks : (node : NodeState) (c : Cause) (given : Option Input) → CanReact node c given → given ≡ None → node.stops ≡ true
+given_or_disks node c (Some given) can e = absurd (let no : Some given ≡ None = e in cc)
+given_or_disks node c None can e = can.0

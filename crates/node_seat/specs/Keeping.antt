@@ -1,33 +1,37 @@
 -- What a seat keeps: there are moments whose entries its trace is, legal for its node alone, and the node is what they replay to.
-use Rattle.std.specs.Prelude.{◌≡◌, ◌<◌, ◌≤◌, ℕ, Bool, true, List, [], All, Option, Some, None, IfSome}
-use Rattle.journal_checkpoint.specs.Images.{Pair}
+use Rattle.std.specs.Prelude.{◌≡◌, ◌<◌, ◌≤◌, ℕ, true, List, [], All, Option, Some, None, IfSome}
 use Rattle.seata_types.specs.declared.limits.TheConstants.{LATEST_MOMENT}
 use Rattle.seata_types.specs.declared.messages.Input.{Input}
 use Rattle.seata_types.specs.declared.messages.Input.TheVariants as input
-use Rattle.history_rules.specs.Own.{Own}
 use Rattle.history_rules.specs.Nodes.{Role, World, Past, role_at}
 use Rattle.history_rules.specs.Histories.{Moment, own}
+use Rattle.node_steps.specs.Framing.{ComesFramable}
+use Rattle.node_steps.specs.Nodes.{NodeState, has_disks, place_of}
+use Rattle.node_steps.specs.Promises.{AreTold}
 use Rattle.history_text.specs.declared.entries.Cause.{Cause}
 use Rattle.history_text.specs.declared.entries.Cause.TheVariants as cause
 use Rattle.history_text.specs.declared.entries.Entry.{Entry}
-use Rattle.history_text.specs.Framing.{ComesFramable}
 use Rattle.history_text.specs.History.{entries}
-use Rattle.history_text.specs.Promises.{AreTold, has_disks, place_of}
 use Rattle.node_seat.specs.Entering.{CanReact}
+use Rattle.node_seat.specs.Seating.{Seated, seated}
 use Rattle.node_seat.specs.Traces.{Alone}
 use Rattle.node_seat.specs.declared.stations.Station.{Station}
 
 -- these moments are of a node of this role, which they replay to, and the trace is what is printed of them
-pub record Keeps {N : Type 0} (stands_for : N → Role → List Own → Type 0) (node : N) (trace : List Entry) (role : Role) (ms : List Moment) : Type 0 where
+pub record Keeps (node : NodeState) (trace : List Entry) (role : Role) (ms : List Moment) : Type 0 where
   pub printed : trace ≡ entries ms
   pub alone : Alone role (place_of role) ms
-  pub stands : stands_for node role (own (place_of role) ms)
+  pub stands : node.stands_for role (own (place_of role) ms)
 
--- a station has a role of the run, and keeps some moments; where it has disks, this is said where they tell their bytes
-abbrev pub KeepsSome : {N : Type 0} → (N → Role → List Own → Type 0) → (N → Pair) → World → Past → Station N → Type 0
-KeepsSome stands_for disks w past s =
+-- a node with its trace has a role of the run, and keeps some moments; where it has disks, this is said where they tell their bytes
+abbrev pub KeepsSome : {N : Type 0} → (N → NodeState) → World → Past → Seated N → Type 0
+KeepsSome state w past s =
     (role : Role) × (role_at w past (place_of role) ≡ Some role)
-    × ((has_disks role ≡ true → AreTold (disks s.node)) → (ms : List Moment) × Keeps stands_for s.node s.trace.items role ms)
+    × ((has_disks role ≡ true → AreTold (state s.node).disks) → (ms : List Moment) × Keeps (state s.node) s.trace role ms)
+
+-- a station as contracts see it
+abbrev pub seated_of : {N : Type 0} → Station N → Seated N
+seated_of s = seated s.node s.trace.items
 
 -- what a cause gives to a node: a turn, a message that was sent at a lesser stamp by the place that it names, a local
 -- transaction, or what happens to its disks
@@ -52,13 +56,13 @@ pub record IsNext (trace : List Entry) (stamp now : ℕ) (why : Cause) (given : 
   pub input : IsInputOf stamp why given
 
 -- what an entry of a node asks: it may come next, and the node can be given this, which can be framed, at a moment that a clock shows
-pub record MayEnter {N : Type 0} (stops : N → Bool) (left : N → ℕ) (serves : N → Input → Type 0) (node : N) (trace : List Entry) (stamp now : ℕ) (why : Cause) (given : Option Input) : Type 0 where
+pub record MayEnter (node : NodeState) (trace : List Entry) (stamp now : ℕ) (why : Cause) (given : Option Input) : Type 0 where
   pub next : IsNext trace stamp now why given
-  pub can : CanReact stops left serves node why given
+  pub can : CanReact node why given
   pub moment : now ≤ LATEST_MOMENT
   pub framable : IfSome given ComesFramable
 
 -- a node of a run that did nothing yet; where it has disks, this is said where they tell their bytes
-abbrev pub IsFresh : {N : Type 0} → (N → Role → List Own → Type 0) → (N → Pair) → World → Past → N → Type 0
-IsFresh stands_for disks w past node =
-    (role : Role) × (role_at w past (place_of role) ≡ Some role) × ((has_disks role ≡ true → AreTold (disks node)) → stands_for node role [])
+abbrev pub IsFresh : World → Past → NodeState → Type 0
+IsFresh w past node =
+    (role : Role) × (role_at w past (place_of role) ≡ Some role) × ((has_disks role ≡ true → AreTold node.disks) → node.stands_for role [])

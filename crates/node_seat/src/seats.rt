@@ -4,7 +4,8 @@ use crate::faults::RunFault;
 use crate::names::RunName;
 use crate::stations::Station;
 use frame_codec::Packet;
-use history_text::{Cause, Entry, Node};
+use history_text::{Cause, Entry};
+use node_steps::Node;
 use seata_types::{Input, List};
 use std::alloc::Global;
 use std::marker::{Model, PhantomData};
@@ -18,15 +19,15 @@ pub struct Seat<N: Node, K: RunName> {
 
 impl<N: Node, K: RunName> Model for Seat<N, K> {
     ghost use Rattle.node_seat.specs.Seating.{Seated, seated_code};
-    ghost use Rattle.node_seat.specs.Keeping.{KeepsSome};
+    ghost use Rattle.node_seat.specs.Keeping.{KeepsSome, seated_of};
 
     ghost Value = { Seated N };
 
     ghost coded = { seated_code N.code };
 
-    ghost view = { λ s. record { node = s.station.node; trace = s.station.trace.items } };
+    ghost view = { λ s. seated_of s.station };
 
-    ghost invariant = { λ s. KeepsSome N.stands_for N.disks K.world K.past s.station };
+    ghost invariant = { λ s. KeepsSome N.state K.world K.past (seated_of s.station) };
 }
 
 impl<N: Node, K: RunName> Seat<N, K> {
@@ -36,7 +37,7 @@ impl<N: Node, K: RunName> Seat<N, K> {
 
     /// A seat for a node of the run that did nothing yet.
     pub fn new(alloc: Global, node: N) -> Seat<N, K>
-        requires fresh { IsFresh N.stands_for N.disks K.world K.past node }
+        requires fresh { IsFresh K.world K.past (N.state node) }
         ensures node { result.node ≡ node }
         ensures trace { result.trace ≡ [] }
     {
@@ -61,8 +62,8 @@ impl<N: Node, K: RunName> Seat<N, K> {
         cause: Cause,
         input: Option<Input>,
     ) -> Result<Option<Packet>, RunFault>
-        requires { MayEnter N.stops N.left N.serves self.old.node self.old.trace stamp now cause input }
-        ensures { HasEntered N.stands_for N.stands_at N.serves N.disks N.size N.left self.old.node self.new.node self.old.trace self.new.trace stamp now cause input result }
+        requires { MayEnter (N.state self.old.node) self.old.trace stamp now cause input }
+        ensures { HasEntered N.state self.old self.new stamp now cause input result }
     {
         self.station.enter(alloc, stamp, now, cause, input)
     }

@@ -2,7 +2,8 @@
 use crate::entering::enter;
 use crate::faults::RunFault;
 use frame_codec::Packet;
-use history_text::{Cause, Entry, Node};
+use history_text::{Cause, Entry};
+use node_steps::Node;
 use seata_types::Input;
 use std::alloc::Global;
 
@@ -16,7 +17,7 @@ pub struct Station<N> {
 impl<N: Node> Station<N> {
     ghost use Rattle.history_rules.specs.Nodes.{World, Past};
     ghost use Rattle.node_seat.specs.Entering.{HasEntered};
-    ghost use Rattle.node_seat.specs.Keeping.{KeepsSome, MayEnter};
+    ghost use Rattle.node_seat.specs.Keeping.{KeepsSome, MayEnter, seated_of};
 
     /// Makes one entry.
     pub fn enter(
@@ -27,9 +28,12 @@ impl<N: Node> Station<N> {
         cause: Cause,
         input: Option<Input>,
     ) -> Result<Option<Packet>, RunFault>
-        requires { MayEnter N.stops N.left N.serves self.old.node self.old.trace.items stamp now cause input }
-        ensures entered { HasEntered N.stands_for N.stands_at N.serves N.disks N.size N.left self.old.node self.new.node self.old.trace.items self.new.trace.items stamp now cause input result }
-        ensures keeps { (w : World) (past : Past) → KeepsSome N.stands_for N.disks w past self.old → KeepsSome N.stands_for N.disks w past self.new }
+        requires { MayEnter (N.state self.old.node) self.old.trace.items stamp now cause input }
+        ensures entered { HasEntered N.state (seated_of self.old) (seated_of self.new)
+            stamp now cause input result }
+        ensures keeps { (w : World) (past : Past) →
+            KeepsSome N.state w past (seated_of self.old)
+            → KeepsSome N.state w past (seated_of self.new) }
     {
         enter(
             &mut self.node,

@@ -7,8 +7,8 @@ use Rattle.seata_types.specs.declared.ids.Place.{Place}
 use Rattle.history_rules.specs.Own.{Event, Given, Stopped, Crashed, Restarted, Own}
 use Rattle.history_rules.specs.Devices.{fault_entries}
 use Rattle.history_rules.specs.Nodes.{Role, Coordinator, Resource, Manager, writes_boot}
-use Rattle.history_text.specs.Durable.{own_faults}
-use Rattle.history_text.specs.Promises.{BootOverflows}
+use Rattle.node_steps.specs.Durable.{own_faults}
+use Rattle.node_steps.specs.Promises.{BootOverflows}
 use Rattle.node_seat.specs.Faults.{Blames, Overflows}
 use Rattle.node_seat.specs.declared.faults.RunFault.{RunFault}
 use Rattle.node_seat.specs.declared.faults.RunFault.TheVariants as fault

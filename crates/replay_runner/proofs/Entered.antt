@@ -5,26 +5,24 @@ use Rattle.std.proofs.lemmas.Option.{same_Some}
 use Rattle.std.specs.Prelude.{Vec}
 use Rattle.std.specs.declared.alloc.Global.{Global}
 use Rattle.disk_model.specs.Disk.{DiskState}
-use Rattle.journal_checkpoint.specs.Images.{Pair}
 use Rattle.seata_types.specs.declared.ids.Place.{Place}
 use Rattle.seata_types.specs.declared.ids.Place.TheVariants as place
-use Rattle.seata_types.specs.declared.messages.Input.{Input}
 use Rattle.seata_types.specs.declared.messages.Step.{Step}
 use Rattle.scenario_form.specs.declared.scenarios.Scenario.{Scenario}
-use Rattle.history_rules.specs.Own.{Event, Own}
+use Rattle.history_rules.specs.Own.{Event}
 use Rattle.history_rules.specs.Devices.{last_pick}
 use Rattle.history_rules.specs.Nodes.{Role, Happens, counted_at, no_past, role_at}
 use Rattle.history_rules.specs.Histories.{Moment, own, same_place, Turn, Deliver, Missing, Wait, Stop, Crash, Restart, Local, Outside}
 use Rattle.history_rules.specs.Histories.{Cause as Reason}
 use Rattle.history_rules.specs.Schedules.{last_turn, turn_at}
 use Rattle.history_text.specs.History.{cause_of, entries}
-use Rattle.history_text.specs.Promises.{StaysItself, own_entry}
+use Rattle.node_steps.specs.Nodes.{NodeState, own_entry}
+use Rattle.node_steps.specs.Promises.{StaysItself}
 use Rattle.history_text.specs.Worlds.{world_of}
 use Rattle.coordinator_core.specs.declared.nodes.Coordinator.{Coordinator}
 use Rattle.coordinator_core.specs.Standing as coordinator
 use Rattle.resource_core.specs.declared.nodes.Resource.{Resource}
 use Rattle.resource_core.specs.NodeStanding as resource
-use Rattle.resource_core.specs.Shown as shown
 use Rattle.manager_core.specs.declared.nodes.Manager.{Manager}
 use Rattle.manager_core.specs.Standing as manager
 use Rattle.node_seat.specs.Entering.{HaveLast, IsTold, entry_at}
@@ -69,32 +67,30 @@ turned_is (Outside number) stamp before = refl
 
 -- ---- one node
 
-module _ {N K : Type 0} (stands_for : N → Role → List Own → Type 0) (p : Place) (role : Role) where
+module _ {N K : Type 0} (state : N → NodeState) (p : Place) (role : Role) where
   -- an entry elsewhere
-  pub member_stays : (member : Member N K) (ms : List Moment) (m : Moment) → same_place p m.place ≡ false → IsMember stands_for p role member ms → IsMember stands_for p role member (m ∷ ms)
+  pub member_stays : (member : Member N K) (ms : List Moment) (m : Moment) → same_place p m.place ≡ false → IsMember state p role member ms → IsMember state p role member (m ∷ ms)
   member_stays member ms m away k = record {
-    stands = subst (stands_for member.seat.node role) (sym (own_there p m ms away)) k.stands;
+    stands = subst ((state member.seat.node).stands_for role) (sym (own_there p m ms away)) k.stands;
     traced = k.traced ∙ sym (printed_there p m ms away);
     turned = k.turned ∙ sym (turn_there p m ms away);
   }
 
   -- its own entry
-  module _ (place_at : N → Place) (disks : N → Pair) (size : N → ℕ) (old new : Member N K) (ms : List Moment) (now : ℕ) (why : Reason) (event : Event) (step : Step) (r : Result (Option Letter) RunFault)
-      (stood : stands_for old.seat.node role (own p ms)) (told : IsTold (disks old.seat.node) event)
-      (e : Makes stands_for place_at disks size old new (length ms + 1) now (cause_of why) event step r) where
+  module _ (old new : Member N K) (ms : List Moment) (now : ℕ) (why : Reason) (event : Event) (step : Step) (r : Result (Option Letter) RunFault) (stood : (state old.seat.node).stands_for role (own p ms))
+      (told : IsTold (state old.seat.node).disks event) (e : Makes state old new (length ms + 1) now (cause_of why) event step r) where
     pub member_happens : Happens role (own p ms) now event step
     member_happens = (e.does.reacts told role (own p ms) stood).0
 
-    pub member_stands : stands_for new.seat.node role (own p (next ms p now why (Some event) step ∷ ms))
-    member_stands = subst (stands_for new.seat.node role) (sym (own_next p ms now why event step)) (e.does.reacts told role (own p ms) stood).1
+    pub member_stands : (state new.seat.node).stands_for role (own p (next ms p now why (Some event) step ∷ ms))
+    member_stands = subst ((state new.seat.node).stands_for role) (sym (own_next p ms now why event step)) (e.does.reacts told role (own p ms) stood).1
 
-  module _ (place_at : N → Place) (disks : N → Pair) (size : N → ℕ) (old new : Member N K) (ms : List Moment) (now : ℕ) (why : Reason) (event : Event) (step : Step) (letter : Option Letter)
-      (k : IsMember stands_for p role old ms) (here : place_at old.seat.node ≡ p) (told : IsTold (disks old.seat.node) event)
-      (e : Makes stands_for place_at disks size old new (length ms + 1) now (cause_of why) event step (Ok letter)) where
-    pub member_enters : IsMember stands_for p role new (next ms p now why (Some event) step ∷ ms)
+  module _ (old new : Member N K) (ms : List Moment) (now : ℕ) (why : Reason) (event : Event) (step : Step) (letter : Option Letter) (k : IsMember state p role old ms)
+      (here : (state old.seat.node).place ≡ p) (told : IsTold (state old.seat.node).disks event) (e : Makes state old new (length ms + 1) now (cause_of why) event step (Ok letter)) where
+    pub member_enters : IsMember state p role new (next ms p now why (Some event) step ∷ ms)
     member_enters = record {
-      stands = member_stands place_at disks size old new ms now why event step (Ok letter) k.stands told e;
-      traced = e.printed ∙ ap (λ t. t ++ entry_at (length ms + 1) (place_at old.seat.node) now (cause_of why) step ∷ []) k.traced
+      stands = member_stands old new ms now why event step (Ok letter) k.stands told e;
+      traced = e.printed ∙ ap (λ t. t ++ entry_at (length ms + 1) (state old.seat.node).place now (cause_of why) step ∷ []) k.traced
           ∙ ap (λ q. entries (at p ms) ++ entry_at (length ms + 1) q now (cause_of why) step ∷ []) here
           ∙ sym (printed_here p (next ms p now why (Some event) step) ms (same_place-refl p));
       turned = e.turned ∙ turned_is why (length ms + 1) old.turned ∙ ap (turn_at true why (length ms + 1)) k.turned ∙ sym (turn_next p ms now why (Some event) step);
@@ -102,25 +98,24 @@ module _ {N K : Type 0} (stands_for : N → Role → List Own → Type 0) (p : P
 
 -- ---- a node with disks
 
-module _ {N K : Type 0} (stands_for : N → Role → List Own → Type 0) (disks : N → Pair) (p : Place) (role : Role) (bytes : ℕ) where
-  pub server_stays : (member : Member N K) (ms : List Moment) (m : Moment) → same_place p m.place ≡ false → IsServer stands_for disks p role bytes member ms
-      → IsServer stands_for disks p role bytes member (m ∷ ms)
+module _ {N K : Type 0} (state : N → NodeState) (p : Place) (role : Role) (bytes : ℕ) where
+  pub server_stays : (member : Member N K) (ms : List Moment) (m : Moment) → same_place p m.place ≡ false → IsServer state p role bytes member ms → IsServer state p role bytes member (m ∷ ms)
   server_stays member ms m away k = record {
-    member = member_stays stands_for p role member ms m away k.member;
+    member = member_stays state p role member ms m away k.member;
     told = k.told;
-    picked = subst (λ os. HaveLast (last_pick os) (disks member.seat.node)) (sym (own_there p m ms away)) k.picked;
+    picked = subst (λ os. HaveLast (last_pick os) (state member.seat.node).disks) (sym (own_there p m ms away)) k.picked;
     sized = k.sized;
   }
 
-  pub server_enters : (place_at : N → Place) (size : N → ℕ) (serves : N → Input → Type 0) (old new : Member N K) (ms : List Moment) (now : ℕ) (why : Reason) (event : Event) (step : Step) (letter : Option Letter)
-      → IsServer stands_for disks p role bytes old ms → place_at old.seat.node ≡ p → StaysItself place_at serves disks old.seat.node new.seat.node
-      → Makes stands_for place_at disks size old new (length ms + 1) now (cause_of why) event step (Ok letter) → IsServer stands_for disks p role bytes new (next ms p now why (Some event) step ∷ ms)
-  server_enters place_at size serves old new ms now why event step letter k here same e =
-      let told = told_all (disks old.seat.node) event k.told in
+  pub server_enters : (old new : Member N K) (ms : List Moment) (now : ℕ) (why : Reason) (event : Event) (step : Step) (letter : Option Letter) → IsServer state p role bytes old ms
+      → (state old.seat.node).place ≡ p → StaysItself (state old.seat.node) (state new.seat.node) → Makes state old new (length ms + 1) now (cause_of why) event step (Ok letter)
+      → IsServer state p role bytes new (next ms p now why (Some event) step ∷ ms)
+  server_enters old new ms now why event step letter k here same e =
+      let told = told_all (state old.seat.node).disks event k.told in
       record {
-        member = member_enters stands_for p role place_at disks size old new ms now why event step letter k.member here told e;
+        member = member_enters state p role old new ms now why event step letter k.member here told e;
         told = record { first = same.first.tells_images ∙ k.told.first; second = same.second.tells_images ∙ k.told.second };
-        picked = subst (λ os. HaveLast (last_pick os) (disks new.seat.node)) (sym (own_next p ms now why event step)) (e.does.picked told role (own p ms) k.member.stands k.picked);
+        picked = subst (λ os. HaveLast (last_pick os) (state new.seat.node).disks) (sym (own_next p ms now why event step)) (e.does.picked told role (own p ms) k.member.stands k.picked);
         sized = record { first = same.first.size ∙ k.sized.first; second = same.second.size ∙ k.sized.second };
       }
 
@@ -142,13 +137,13 @@ nodes_net {D} {K} state s n ms m here t = record { resources = t.resources; mana
   where
     by : (p : Place) (role : Role) → role_at (world_of s) no_past p ≡ Some role → HasNode state s.disk n (m ∷ ms) p role
     by place.Net role e = absurd (no_role role e)
-    by place.Tc role e = server_stays (coordinator.StandsAs state) (coordinator.disks_of state) place.Tc role s.disk n.coordinator ms m (ap (same_place place.Tc) here) (t.each place.Tc role e)
+    by place.Tc role e = server_stays (coordinator.node_state state) place.Tc role s.disk n.coordinator ms m (ap (same_place place.Tc) here) (t.each place.Tc role e)
     by (place.Res k) role e =
         let (x, there, is) = t.each (place.Res k) role e in
-        (x, there, server_stays (resource.StandsAs state) (shown.disks_of state) (place.Res k) role s.disk x ms m (ap (same_place (place.Res k)) here) is)
+        (x, there, server_stays (resource.node_state state) (place.Res k) role s.disk x ms m (ap (same_place (place.Res k)) here) is)
     by (place.Man k) role e =
         let (x, there, is) = t.each (place.Man k) role e in
-        (x, there, member_stays manager.StandsAs (place.Man k) role x ms m (ap (same_place (place.Man k)) here) is)
+        (x, there, member_stays manager.node_state (place.Man k) role x ms m (ap (same_place (place.Man k)) here) is)
 
 -- ---- the coordinator's entry
 
@@ -157,24 +152,24 @@ with_coordinator n new = record { coordinator = new; resources = n.resources; ma
 
 module _ {D K : Type 0} (state : D → DiskState) (s : Scenario) (old : Nodes D K) (new : Member (Coordinator D) K) (role : Role) (there : role_at (world_of s) no_past place.Tc ≡ Some role) where
   pub nodes_coordinator : (ms : List Moment) (m : Moment) → m.place ≡ place.Tc → AreNodes state s old ms
-      → IsServer (coordinator.StandsAs state) (coordinator.disks_of state) place.Tc role s.disk new (m ∷ ms) → AreNodes state s (with_coordinator old new) (m ∷ ms)
+      → IsServer (coordinator.node_state state) place.Tc role s.disk new (m ∷ ms) → AreNodes state s (with_coordinator old new) (m ∷ ms)
   nodes_coordinator ms m here t made = record { resources = t.resources; managers = t.managers; each = by }
     where
       by : (p : Place) (other : Role) → role_at (world_of s) no_past p ≡ Some other → HasNode state s.disk (with_coordinator old new) (m ∷ ms) p other
       by place.Net other e = absurd (no_role other e)
-      by place.Tc other e = subst (λ r. IsServer (coordinator.StandsAs state) (coordinator.disks_of state) place.Tc r s.disk new (m ∷ ms)) (same_Some role other (sym there ∙ e)) made
+      by place.Tc other e = subst (λ r. IsServer (coordinator.node_state state) place.Tc r s.disk new (m ∷ ms)) (same_Some role other (sym there ∙ e)) made
       by (place.Res k) other e =
           let (x, placed, is) = t.each (place.Res k) other e in
-          (x, placed, server_stays (resource.StandsAs state) (shown.disks_of state) (place.Res k) other s.disk x ms m (ap (same_place (place.Res k)) here) is)
+          (x, placed, server_stays (resource.node_state state) (place.Res k) other s.disk x ms m (ap (same_place (place.Res k)) here) is)
       by (place.Man k) other e =
           let (x, placed, is) = t.each (place.Man k) other e in
-          (x, placed, member_stays manager.StandsAs (place.Man k) other x ms m (ap (same_place (place.Man k)) here) is)
+          (x, placed, member_stays manager.node_state (place.Man k) other x ms m (ap (same_place (place.Man k)) here) is)
 
   pub stand_coordinator : (ms os : List Moment) → ((p : Place) → same_place p place.Tc ≡ false → own p os ≡ own p ms) → AreNodes state s old ms
-      → StandsOn (coordinator.StandsAs state) (coordinator.disks_of state) s.disk new.seat.node role (own place.Tc os) → AllStand state s (with_coordinator old new) os
+      → StandsOn s.disk (coordinator.node_state state new.seat.node) role (own place.Tc os) → AllStand state s (with_coordinator old new) os
   stand_coordinator ms os elsewhere t made place.Net other e = absurd (no_role other e)
   stand_coordinator ms os elsewhere t made place.Tc other e =
-      subst (λ r. StandsOn (coordinator.StandsAs state) (coordinator.disks_of state) s.disk new.seat.node r (own place.Tc os)) (same_Some role other (sym there ∙ e)) made
+      subst (λ r. StandsOn s.disk (coordinator.node_state state new.seat.node) r (own place.Tc os)) (same_Some role other (sym there ∙ e)) made
   stand_coordinator ms os elsewhere t made (place.Res k) other e =
       let (x, placed, is) = t.each (place.Res k) other e in
       (x, placed, record { stands = subst (resource.StandsAs state x.seat.node other) (sym (elsewhere (place.Res k) refl)) is.member.stands; sized = is.sized })
@@ -197,11 +192,11 @@ module _ {D K : Type 0} (state : D → DiskState) (s : Scenario) (old : Nodes D 
   other_there k apart = ap (λ l. counted_at l k) changed ∙ counted_elsewhere old.resources.items n k new (counted_low old.resources.items n before placed) apart
 
   pub nodes_resource : (ms : List Moment) (m : Moment) → m.place ≡ place.Res n → AreNodes state s old ms
-      → IsServer (resource.StandsAs state) (shown.disks_of state) (place.Res n) role s.disk new (m ∷ ms) → AreNodes state s (with_resources old resources) (m ∷ ms)
+      → IsServer (resource.node_state state) (place.Res n) role s.disk new (m ∷ ms) → AreNodes state s (with_resources old resources) (m ∷ ms)
   nodes_resource ms m here t made = record { resources = ap length changed ∙ length-set old.resources.items (n - 1) new ∙ t.resources; managers = t.managers; each = by }
     where
       this : (other : Role) → role_at (world_of s) no_past (place.Res n) ≡ Some other → HasNode state s.disk (with_resources old resources) (m ∷ ms) (place.Res n) other
-      this other e = (new, same_there, subst (λ r. IsServer (resource.StandsAs state) (shown.disks_of state) (place.Res n) r s.disk new (m ∷ ms)) (same_Some role other (sym there ∙ e)) made)
+      this other e = (new, same_there, subst (λ r. IsServer (resource.node_state state) (place.Res n) r s.disk new (m ∷ ms)) (same_Some role other (sym there ∙ e)) made)
 
       at_number : (k : ℕ) (b : Bool) → nat_eq k n ≡ b → (other : Role) → role_at (world_of s) no_past (place.Res k) ≡ Some other
           → HasNode state s.disk (with_resources old resources) (m ∷ ms) (place.Res k) other
@@ -211,22 +206,22 @@ module _ {D K : Type 0} (state : D → DiskState) (s : Scenario) (old : Nodes D 
       at_number k false is other e =
           let apart : k ≢ n = grind (arith, nat_tests) in
           let (x, found, kept) = t.each (place.Res k) other e in
-          (x, other_there k apart ∙ found, server_stays (resource.StandsAs state) (shown.disks_of state) (place.Res k) other s.disk x ms m (ap (same_place (place.Res k)) here ∙ is) kept)
+          (x, other_there k apart ∙ found, server_stays (resource.node_state state) (place.Res k) other s.disk x ms m (ap (same_place (place.Res k)) here ∙ is) kept)
 
       by : (p : Place) (other : Role) → role_at (world_of s) no_past p ≡ Some other → HasNode state s.disk (with_resources old resources) (m ∷ ms) p other
       by place.Net other e = absurd (no_role other e)
-      by place.Tc other e = server_stays (coordinator.StandsAs state) (coordinator.disks_of state) place.Tc other s.disk old.coordinator ms m (ap (same_place place.Tc) here) (t.each place.Tc other e)
+      by place.Tc other e = server_stays (coordinator.node_state state) place.Tc other s.disk old.coordinator ms m (ap (same_place place.Tc) here) (t.each place.Tc other e)
       by (place.Res k) other e = at_number k (nat_eq k n) refl other e
       by (place.Man k) other e =
           let (x, found, kept) = t.each (place.Man k) other e in
-          (x, found, member_stays manager.StandsAs (place.Man k) other x ms m (ap (same_place (place.Man k)) here) kept)
+          (x, found, member_stays manager.node_state (place.Man k) other x ms m (ap (same_place (place.Man k)) here) kept)
 
   pub stand_resource : (ms os : List Moment) → ((p : Place) → same_place p (place.Res n) ≡ false → own p os ≡ own p ms) → AreNodes state s old ms
-      → StandsOn (resource.StandsAs state) (shown.disks_of state) s.disk new.seat.node role (own (place.Res n) os) → AllStand state s (with_resources old resources) os
+      → StandsOn s.disk (resource.node_state state new.seat.node) role (own (place.Res n) os) → AllStand state s (with_resources old resources) os
   stand_resource ms os elsewhere t made = by
     where
       this : (other : Role) → role_at (world_of s) no_past (place.Res n) ≡ Some other → StandsAt state s.disk (with_resources old resources) (place.Res n) other (own (place.Res n) os)
-      this other e = (new, same_there, subst (λ r. StandsOn (resource.StandsAs state) (shown.disks_of state) s.disk new.seat.node r (own (place.Res n) os)) (same_Some role other (sym there ∙ e)) made)
+      this other e = (new, same_there, subst (λ r. StandsOn s.disk (resource.node_state state new.seat.node) r (own (place.Res n) os)) (same_Some role other (sym there ∙ e)) made)
 
       at_number : (k : ℕ) (b : Bool) → nat_eq k n ≡ b → (other : Role) → role_at (world_of s) no_past (place.Res k) ≡ Some other → StandsAt state s.disk (with_resources old resources) (place.Res k) other (own (place.Res k) os)
       at_number k true is other e =
@@ -262,11 +257,11 @@ module _ {D K : Type 0} (state : D → DiskState) (s : Scenario) (old : Nodes D 
   other_man k apart = ap (λ l. counted_at l k) changed ∙ counted_elsewhere old.managers.items n k new (counted_low old.managers.items n before placed) apart
 
   pub nodes_manager : (ms : List Moment) (m : Moment) → m.place ≡ place.Man n → AreNodes state s old ms
-      → IsMember manager.StandsAs (place.Man n) role new (m ∷ ms) → AreNodes state s (with_managers old managers) (m ∷ ms)
+      → IsMember manager.node_state (place.Man n) role new (m ∷ ms) → AreNodes state s (with_managers old managers) (m ∷ ms)
   nodes_manager ms m here t made = record { resources = t.resources; managers = ap length changed ∙ length-set old.managers.items (n - 1) new ∙ t.managers; each = by }
     where
       this : (other : Role) → role_at (world_of s) no_past (place.Man n) ≡ Some other → HasNode state s.disk (with_managers old managers) (m ∷ ms) (place.Man n) other
-      this other e = (new, same_man, subst (λ r. IsMember manager.StandsAs (place.Man n) r new (m ∷ ms)) (same_Some role other (sym there ∙ e)) made)
+      this other e = (new, same_man, subst (λ r. IsMember manager.node_state (place.Man n) r new (m ∷ ms)) (same_Some role other (sym there ∙ e)) made)
 
       at_number : (k : ℕ) (b : Bool) → nat_eq k n ≡ b → (other : Role) → role_at (world_of s) no_past (place.Man k) ≡ Some other
           → HasNode state s.disk (with_managers old managers) (m ∷ ms) (place.Man k) other
@@ -276,14 +271,14 @@ module _ {D K : Type 0} (state : D → DiskState) (s : Scenario) (old : Nodes D 
       at_number k false is other e =
           let apart : k ≢ n = grind (arith, nat_tests) in
           let (x, found, kept) = t.each (place.Man k) other e in
-          (x, other_man k apart ∙ found, member_stays manager.StandsAs (place.Man k) other x ms m (ap (same_place (place.Man k)) here ∙ is) kept)
+          (x, other_man k apart ∙ found, member_stays manager.node_state (place.Man k) other x ms m (ap (same_place (place.Man k)) here ∙ is) kept)
 
       by : (p : Place) (other : Role) → role_at (world_of s) no_past p ≡ Some other → HasNode state s.disk (with_managers old managers) (m ∷ ms) p other
       by place.Net other e = absurd (no_role other e)
-      by place.Tc other e = server_stays (coordinator.StandsAs state) (coordinator.disks_of state) place.Tc other s.disk old.coordinator ms m (ap (same_place place.Tc) here) (t.each place.Tc other e)
+      by place.Tc other e = server_stays (coordinator.node_state state) place.Tc other s.disk old.coordinator ms m (ap (same_place place.Tc) here) (t.each place.Tc other e)
       by (place.Res k) other e =
           let (x, found, kept) = t.each (place.Res k) other e in
-          (x, found, server_stays (resource.StandsAs state) (shown.disks_of state) (place.Res k) other s.disk x ms m (ap (same_place (place.Res k)) here) kept)
+          (x, found, server_stays (resource.node_state state) (place.Res k) other s.disk x ms m (ap (same_place (place.Res k)) here) kept)
       by (place.Man k) other e = at_number k (nat_eq k n) refl other e
 
   pub stand_manager : (ms os : List Moment) → ((p : Place) → same_place p (place.Man n) ≡ false → own p os ≡ own p ms) → AreNodes state s old ms

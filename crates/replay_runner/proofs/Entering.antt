@@ -1,5 +1,6 @@
 -- A node can be given what comes next.
-use Rattle.std.proofs.Common.{◌≡◌, ◌+◌, ◌-◌, ◌<◌, ◌≤◌, ℕ, Bool, true, false, List, All, length, slice_get, Option, Some, None, IfSome, refl, ap, subst, ◌∙◌, arith}
+use Rattle.std.proofs.Common.{◌≡◌, ◌+◌, ◌-◌, ◌<◌, ◌≤◌, ℕ, true, List, All, length, slice_get, Option, Some, None, IfSome, refl, ap, subst, ◌∙◌, arith}
+use Rattle.disk_model.specs.Disk.{DiskState}
 use Rattle.seata_types.specs.declared.ids.Place.{Place}
 use Rattle.seata_types.specs.declared.ids.Place.TheVariants as place
 use Rattle.seata_types.specs.declared.messages.Input.{Input}
@@ -9,8 +10,8 @@ use Rattle.history_rules.specs.Nodes.{counted_at}
 use Rattle.history_text.specs.declared.entries.Cause.{Cause}
 use Rattle.history_text.specs.declared.entries.Cause.TheVariants as cause
 use Rattle.history_text.specs.declared.entries.Entry.{Entry}
-use Rattle.history_text.specs.Framing.{ComesFramable}
-use Rattle.coordinator_core.specs.declared.nodes.Coordinator.{Coordinator}
+use Rattle.node_steps.specs.Framing.{ComesFramable}
+use Rattle.node_steps.specs.Nodes.{NodeState}
 use Rattle.coordinator_core.specs.Standing as coordinator
 use Rattle.resource_core.specs.declared.nodes.Resource.{Resource}
 use Rattle.resource_core.specs.NodeStanding as resource
@@ -33,16 +34,16 @@ event_there stamp (cause.Restart pick calls) None is = (Restarted pick calls, re
 event_there stamp _ None is = absurd is
 
 -- a node that has steps left and serves what is given can react; without an input it has disks
-can_react : {N : Type 0} (stops : N → Bool) (left : N → ℕ) (serving : N → Input → Type 0) (managers resources : ℕ) (p : Place) (printed : Cause) (n : N) (given : Option Input) → CanTake managers resources p printed given
-    → 0 < left n → ((g : Input) → ComesFramable g → MayBeGiven managers resources p g → serving n g) → (IsServerAmong resources p → stops n ≡ true) → CanReact stops left serving n printed given
-can_react stops left serving managers resources p printed n (Some g) takes able served has = (able, served g takes.0 takes.1)
-can_react stops left serving managers resources p printed n None takes able served has = (has takes.0, takes.1)
+can_react : (node : NodeState) (managers resources : ℕ) (p : Place) (printed : Cause) (given : Option Input) → CanTake managers resources p printed given
+    → 0 < node.left → ((g : Input) → ComesFramable g → MayBeGiven managers resources p g → node.serves g) → (IsServerAmong resources p → node.stops ≡ true) → CanReact node printed given
+can_react node managers resources p printed (Some g) takes able served has = (able, served g takes.0 takes.1)
+can_react node managers resources p printed None takes able served has = (has takes.0, takes.1)
 
 framable_by : (managers resources : ℕ) (p : Place) (printed : Cause) (given : Option Input) → CanTake managers resources p printed given → IfSome given ComesFramable
 framable_by managers resources p printed None takes = tt
 framable_by managers resources p printed (Some g) takes = takes.0
 
-module _ {D K : Type 0} (n : Nodes D K) (stamp now : ℕ) (p : Place) (printed : Cause) (given : Option Input) (c : CanEnter n stamp now p printed given) where
+module _ {D K : Type 0} (state : D → DiskState) (n : Nodes D K) (stamp now : ℕ) (p : Place) (printed : Cause) (given : Option Input) (c : CanEnter n stamp now p printed given) where
   pub framable_next : IfSome given ComesFramable
   framable_next = framable_by (length n.managers.items) (length n.resources.items) p printed given c.takes
 
@@ -54,11 +55,11 @@ module _ {D K : Type 0} (n : Nodes D K) (stamp now : ℕ) (p : Place) (printed :
   pub coordinator_next : IsNext n.coordinator.seat.trace stamp now printed given
   coordinator_next = next_of n.coordinator.seat.trace c.goes.coordinator.behind
 
-  pub coordinator_can : p ≡ place.Tc → CanReact (λ (x : Coordinator D). true) coordinator.steps_left coordinator.serves n.coordinator.seat.node printed given
+  pub coordinator_can : p ≡ place.Tc → CanReact (coordinator.node_state state n.coordinator.seat.node) printed given
   coordinator_can here =
       let able = c.goes.coordinator.able in
       let short = c.short in
-      can_react (λ (x : Coordinator D). true) coordinator.steps_left coordinator.serves (length n.managers.items) (length n.resources.items) place.Tc printed n.coordinator.seat.node given
+      can_react (coordinator.node_state state n.coordinator.seat.node) (length n.managers.items) (length n.resources.items) place.Tc printed given
       (subst (λ q. CanTake (length n.managers.items) (length n.resources.items) q printed given) here c.takes) (omega (arith, able, short)) (λ g framable may. c.goes.serving g may framable) (λ server. refl)
 
   -- ---- a resource
@@ -66,9 +67,6 @@ module _ {D K : Type 0} (n : Nodes D K) (stamp now : ℕ) (p : Place) (printed :
   module _ (k : ℕ) (here : p ≡ place.Res k) where
     resource_number : (1 ≤ k) × (k ≤ length n.resources.items)
     resource_number = subst (IsPlaceAmong (length n.resources.items) (length n.managers.items)) here c.there
-
-    pub resource_counted : 1 ≤ k
-    resource_counted = resource_number.0
 
     pub resource_within : k - 1 < length n.resources.items
     resource_within = let low = resource_number.0 in let high = resource_number.1 in omega (arith, low, high)
@@ -86,11 +84,11 @@ module _ {D K : Type 0} (n : Nodes D K) (stamp now : ℕ) (p : Place) (printed :
       pub resource_next : IsNext m.seat.trace stamp now printed given
       resource_next = next_of m.seat.trace is_resource.goes.behind
 
-      pub resource_can : CanReact (λ (x : Resource D). true) shown.steps_left resource.serves m.seat.node printed given
+      pub resource_can : CanReact (resource.node_state state m.seat.node) printed given
       resource_can =
           let able = is_resource.goes.able in
           let short = c.short in
-          can_react (λ (x : Resource D). true) shown.steps_left resource.serves (length n.managers.items) (length n.resources.items) (place.Res k) printed m.seat.node given
+          can_react (resource.node_state state m.seat.node) (length n.managers.items) (length n.resources.items) (place.Res k) printed given
           (subst (λ q. CanTake (length n.managers.items) (length n.resources.items) q printed given) here c.takes) (omega (arith, able, short)) (λ g framable may. is_resource.serving g may) (λ server. refl)
 
   -- ---- a manager
@@ -98,9 +96,6 @@ module _ {D K : Type 0} (n : Nodes D K) (stamp now : ℕ) (p : Place) (printed :
   module _ (k : ℕ) (here : p ≡ place.Man k) where
     manager_number : (1 ≤ k) × (k ≤ length n.managers.items)
     manager_number = subst (IsPlaceAmong (length n.resources.items) (length n.managers.items)) here c.there
-
-    pub manager_counted : 1 ≤ k
-    manager_counted = manager_number.0
 
     pub manager_within : k - 1 < length n.managers.items
     manager_within = let low = manager_number.0 in let high = manager_number.1 in omega (arith, low, high)
@@ -118,9 +113,9 @@ module _ {D K : Type 0} (n : Nodes D K) (stamp now : ℕ) (p : Place) (printed :
       pub manager_next : IsNext m.seat.trace stamp now printed given
       manager_next = next_of m.seat.trace is_manager.goes.behind
 
-      pub manager_can : CanReact (λ (x : Manager). false) manager.steps_of (λ (x : Manager) (g : Input). Unit {0}) m.seat.node printed given
+      pub manager_can : CanReact (manager.node_state m.seat.node) printed given
       manager_can =
           let able = is_manager.goes.able in
           let short = c.short in
-          can_react (λ (x : Manager). false) manager.steps_of (λ (x : Manager) (g : Input). Unit {0}) (length n.managers.items) (length n.resources.items) (place.Man k) printed m.seat.node given
+          can_react (manager.node_state m.seat.node) (length n.managers.items) (length n.resources.items) (place.Man k) printed given
           (subst (λ q. CanTake (length n.managers.items) (length n.resources.items) q printed given) here c.takes) (omega (arith, able, short)) (λ g framable may. tt) (λ server. absurd server)

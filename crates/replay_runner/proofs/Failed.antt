@@ -7,7 +7,8 @@ use Rattle.journal_checkpoint.specs.Images.{Pair}
 use Rattle.seata_types.specs.declared.ids.Place.{Place}
 use Rattle.seata_types.specs.declared.ids.Place.TheVariants as place
 use Rattle.history_rules.specs.Nodes.{counted_at}
-use Rattle.history_text.specs.Durable.{own_faults}
+use Rattle.node_steps.specs.Durable.{own_faults}
+use Rattle.node_steps.specs.Nodes.{NodeState}
 use Rattle.resource_core.specs.declared.nodes.Resource.{Resource}
 use Rattle.resource_core.specs.Shown as shown
 use Rattle.node_seat.specs.Faults.{CountsFault}
@@ -24,11 +25,11 @@ use Rattle.replay_runner.proofs.Shown.{all_disks, resource_in}
 
 -- ---- on its way
 
-module _ (disks : Place → Pair) (p at : Place) (before after : Pair) (here : at ≡ p) (shows : disks p ≡ after) where
-  fault_counted : (missed : RunFault) → CountsFault at before after missed → HaveCountedAt disks missed
+module _ (disks : Place → Pair) (p : Place) (before after : NodeState) (here : before.place ≡ p) (shows : disks p ≡ after.disks) where
+  fault_counted : (missed : RunFault) → CountsFault before after missed → HaveCountedAt disks missed
   fault_counted (fault.Store q) (same, rose) =
-      let grown : min (own_faults before + 1) (2 ^ 64 - 1) ≤ own_faults after = rose in
-      let some : 1 ≤ own_faults after = omega (arith, grown) in
+      let grown : min (own_faults before.disks + 1) (2 ^ 64 - 1) ≤ own_faults after.disks = rose in
+      let some : 1 ≤ own_faults after.disks = omega (arith, grown) in
       subst (λ r. 1 ≤ own_faults (disks r)) (sym (same ∙ here)) (subst (λ d. 1 ≤ own_faults d) (sym shows) some)
   fault_counted (fault.Full q full) counts = tt
   fault_counted (fault.Damaged q second offset) counts = tt
@@ -36,7 +37,7 @@ module _ (disks : Place → Pair) (p at : Place) (before after : Pair) (here : a
   fault_counted fault.NoMemory counts = tt
 
   -- the node at a place counted a fault, if its disks failed
-  pub failed_at : {T : Type 0} (r : Result T RunFault) → IfErr r (CountsFault at before after) → IfErr r (HaveCountedAt disks)
+  pub failed_at : {T : Type 0} (r : Result T RunFault) → IfErr r (CountsFault before after) → IfErr r (HaveCountedAt disks)
   failed_at (Ok done) counts = tt
   failed_at (Err missed) counts = fault_counted missed counts
 

@@ -1,9 +1,9 @@
 -- How a replay ends, by the disks that are given back.
-use Rattle.std.proofs.Common.{inl, inr, ◌≡◌, ◌⊎◌, ◌+◌, ◌≤◌, ◌<◌, ℕ, Bool, List, [], ◌∷◌, ◌++◌, length, map, slice_get, Option, Some, None, Result, Ok, Err, IfErr, refl, ap, sym, subst, ◌∙◌, arith, length-append}
+use Rattle.std.proofs.Common.{inl, inr, ◌≡◌, ◌+◌, ◌≤◌, ◌<◌, ℕ, List, [], ◌∷◌, ◌++◌, length, map, slice_get, Option, Some, None, Result, Ok, Err, IfErr, refl, ap, sym, subst, ◌∙◌, arith, length-append}
 use Rattle.std.proofs.lemmas.List.{map-append}
 use Rattle.std.proofs.lemmas.Option.{slice_get_within}
-use Rattle.disk_model.specs.Disk.{DiskState, Rose}
-use Rattle.disk_model.specs.Shelf.{SameUnder}
+use Rattle.disk_model.specs.Disk.{DiskState}
+use Rattle.disk_model.specs.Shelf.{KeepsOthers, ShelfState}
 use Rattle.journal_checkpoint.specs.Images.{Pair}
 use Rattle.seata_types.specs.declared.ids.Place.{Place}
 use Rattle.seata_types.specs.declared.ids.Place.TheVariants as place
@@ -22,13 +22,14 @@ use Rattle.node_seat.specs.declared.faults.RunFault.{RunFault}
 use Rattle.node_seat.specs.declared.faults.RunFault.TheVariants as fault
 use Rattle.scenario_nodes.specs.Nodes.{IsNewCoordinator, coordinator_role, resource_role}
 use Rattle.scenario_nodes.specs.Opening.{HaveNoEntry, IsNotHad, IsNotOpened, IsOpenFault, IsReturned, IsShelfFault}
-use Rattle.scenario_nodes.specs.Shelves.{AllTell, AreGivenBack, IsDiskName, KeepsOthers, SamePlaces, Showing, coordinator_name, pair_of, second_name}
+use Rattle.scenario_nodes.specs.Shelves.{AllTell, IsDiskName, coordinator_name, pair_of}
 use Rattle.replay_runner.specs.declared.members.Member.{Member}
 use Rattle.replay_runner.specs.declared.runs.Run.{Run}
 use Rattle.replay_runner.specs.Collecting.{AreTraces, trace_of}
 use Rattle.replay_runner.specs.Ends.{HaveCountedAt, IsCause, StopsAt}
 use Rattle.replay_runner.specs.Leaving.{AreTaken, Broken, Completed, CountsFailure, FirstGivenBack, GivesBack, Leaves, Replays, disks_in, nth_pair}
-use Rattle.replay_runner.specs.Opened.{AreFirst, HaveTaken, IsNewResourceOf, IsOfOne, StopsOpening, server_disks}
+use Rattle.replay_runner.specs.OnShelves.{GivesBackOnly, without_places}
+use Rattle.replay_runner.specs.Opened.{AreFirst, HaveTaken, IsNewResourceOf, IsOfOne, IsOfServer, StopsOpening, server_disks}
 use Rattle.replay_runner.specs.Plays.{Ends, HasPlayed, Plays}
 use Rattle.replay_runner.specs.Standing.{AllStand, disks_at}
 use Rattle.replay_runner.specs.Steps.{left_of}
@@ -38,6 +39,7 @@ use Rattle.replay_runner.proofs.Closed.{both_stay, coordinator_back, count_serve
 use Rattle.replay_runner.proofs.Failed.{failure_among, failure_back}
 use Rattle.replay_runner.proofs.Gathered.{gathered}
 use Rattle.replay_runner.proofs.Lists.{drop_all}
+use Rattle.replay_runner.proofs.Names.{next_of_none}
 use Rattle.replay_runner.proofs.Shown.{all_left, all_sized, all_show, all_stand, alike_in, count_disks, first_show, first_sized, none_show, none_sized, nth_end, one_sized, place_behind, role_behind, show_before, sized_more}
 use Rattle.replay_runner.proofs.Taken.{coordinators_alone, next_not_taken, next_taken_too, none_taken, not_coordinators, second_since, taken_on}
 
@@ -119,13 +121,13 @@ module _ {D K : Type 0} (state : D → DiskState) (s : Scenario) (r : Run D K) w
 
     -- ---- with the disks that were given back
 
-    module _ (had has : List ℕ → Type 0) (tells : Bool) (given_back : List ℕ → D → Type 0) (back : FirstGivenBack tells given_back s (server_disks r.nodes.coordinator.seat.node r.nodes.resources.items))
-        (taken : AreTaken had has s (length (server_disks r.nodes.coordinator.seat.node r.nodes.resources.items))) where
+    module _ (old new : ShelfState D) (back : FirstGivenBack new s (server_disks r.nodes.coordinator.seat.node r.nodes.resources.items))
+        (taken : AreTaken old new s (length (server_disks r.nodes.coordinator.seat.node r.nodes.resources.items))) where
       count_all : length (server_disks r.nodes.coordinator.seat.node r.nodes.resources.items) ≡ length r.nodes.resources.items + 1
-      count_all = count_servers s r.nodes.coordinator.seat.node r.nodes.resources.items (omega (arith, count)) tells given_back
+      count_all = count_servers r.nodes.coordinator.seat.node r.nodes.resources.items
 
       pub ended : (played : Result (Unit {0}) RunFault) (missed : RunFault) → played ≡ Err missed → (AllTell state → HasPlayed state s r [] played)
-          → IfErr played (HaveCountedAt (disks_at state r.nodes)) → GivesBack state had has tells given_back s (Err missed)
+          → IfErr played (HaveCountedAt (disks_at state r.nodes)) → GivesBack state old new s (Err missed)
       ended (Ok u) missed e has counted = absurd (let no : Ok u ≡ Err missed = e in cc)
       ended (Err why) missed e has counted =
           let same : why ≡ missed = let is : Err why ≡ Err missed = e in cc in
@@ -139,7 +141,7 @@ module _ {D K : Type 0} (state : D → DiskState) (s : Scenario) (r : Run D K) w
           }
 
       pub finished : (played : Result (Unit {0}) RunFault) (u : Unit {0}) → played ≡ Ok u → (AllTell state → HasPlayed state s r [] played) → (es : List Entry)
-          → ((ms : List Moment) → r.places.items ≡ places_of ms → AreTraces (trace_of r.network.items r.nodes) ms → es ≡ entries ms) → GivesBack state had has tells given_back s (Ok es)
+          → ((ms : List Moment) → r.places.items ≡ places_of ms → AreTraces (trace_of r.network.items r.nodes) ms → es ≡ entries ms) → GivesBack state old new s (Ok es)
       finished (Err missed) u e has es collected = absurd (let no : Err missed ≡ Ok u = e in cc)
       finished (Ok v) u e has es collected = record {
         disks = server_disks r.nodes.coordinator.seat.node r.nodes.resources.items;
@@ -153,7 +155,7 @@ module _ {D K : Type 0} (state : D → DiskState) (s : Scenario) (r : Run D K) w
           whole : HasPlayed state s r [] (Ok v) → Completed s left_disks es
           whole (ms, plays, left) = done ms plays left es (collected ms plays.standing (gathered state s r.network.items r.nodes ms plays.nodes plays.passed plays.legal))
 
-      pub unfinished : (played : Result (Unit {0}) RunFault) (u : Unit {0}) → played ≡ Ok u → (AllTell state → HasPlayed state s r [] played) → GivesBack state had has tells given_back s (Err fault.NoMemory)
+      pub unfinished : (played : Result (Unit {0}) RunFault) (u : Unit {0}) → played ≡ Ok u → (AllTell state → HasPlayed state s r [] played) → GivesBack state old new s (Err fault.NoMemory)
       unfinished (Err missed) u e has = absurd (let no : Err missed ≡ Ok u = e in cc)
       unfinished (Ok v) u e has = record {
         disks = server_disks r.nodes.coordinator.seat.node r.nodes.resources.items;
@@ -168,11 +170,11 @@ module _ {D K : Type 0} (state : D → DiskState) (s : Scenario) (r : Run D K) w
           whole (ms, plays, left) = uncollected ms plays
 
 -- the same on a shelf with whatever places
-pub gives_back_on : {D : Type 0} (state : D → DiskState) (had has : List ℕ → Type 0) (tells : Bool) (given_back : List ℕ → D → Type 0) (s : Scenario) (result : Result (List Entry) RunFault)
-    → GivesBack state (λ n. ⊥) has tells given_back s result → GivesBack state had has tells given_back s result
-gives_back_on state had has tells given_back s result g = record {
+pub gives_back_on : {D : Type 0} (state : D → DiskState) (old now new : ShelfState D) (s : Scenario) (result : Result (List Entry) RunFault)
+    → GivesBack state (without_places now) new s result → GivesBack state old new s result
+gives_back_on state old now new s result g = record {
   disks = g.disks;
-  taken = taken_on s had has (length g.disks) g.taken;
+  taken = taken_on s old now new (length g.disks) g.taken;
   back = g.back;
   count = g.count;
   counted = g.counted;
@@ -181,24 +183,21 @@ gives_back_on state had has tells given_back s result g = record {
 
 -- ---- a node that wasn't opened
 
-pub rose_between : (a b c d : ℕ) → a ≤ b → c ≤ d → Rose b c → Rose a d
-rose_between a b c d below above rose = omega (arith, below, above, rose)
-
--- a cause stays one when more is known to have risen
-pub shelf_fault : (at : Place) (rose more : Type 0) (missed : RunFault) → (rose → more) → IsShelfFault at rose missed → IsShelfFault at more missed
-shelf_fault at rose more (fault.Store p) grows f = (f.0, grows f.1)
-shelf_fault at rose more fault.NoMemory grows f = tt
-shelf_fault at rose more (fault.Full p full) grows f = absurd f
-shelf_fault at rose more (fault.Damaged p second offset) grows f = absurd f
-shelf_fault at rose more fault.Other grows f = absurd f
+-- a fault that was counted between two shelves was counted between an earlier one and a later one
+shelf_fault : {D : Type 0} (at : Place) (old now next new : ShelfState D) (missed : RunFault) → old.faults ≤ now.faults → next.faults ≤ new.faults → IsShelfFault at now next missed → IsShelfFault at old new missed
+shelf_fault at old now next new (fault.Store p) below above f = (f.0, let rose = f.1 in omega (arith, below, above, rose))
+shelf_fault at old now next new fault.NoMemory below above f = tt
+shelf_fault at old now next new (fault.Full p full) below above f = absurd f
+shelf_fault at old now next new (fault.Damaged p second offset) below above f = absurd f
+shelf_fault at old now next new fault.Other below above f = absurd f
 
 module _ {D : Type 0} (state : D → DiskState) (s : Scenario) where
   -- no disk was taken
-  pub takes_none : (old : Showing D) → Replays state old old s (Err fault.NoMemory)
-  takes_none old = inr (record {
+  pub takes_none : (shelf : ShelfState D) → Replays state shelf shelf s (Err fault.NoMemory)
+  takes_none shelf = inr (record {
     disks = [];
-    taken = none_taken s old.has_place old.has_place (λ n here. here);
-    back = none_back s old.tells old.given_back;
+    taken = none_taken s shelf;
+    back = none_back s shelf;
     next = omega arith;
     device = λ all. none_show s [];
     sized = none_sized s;
@@ -206,12 +205,12 @@ module _ {D : Type 0} (state : D → DiskState) (s : Scenario) where
   })
 
   -- the coordinator wasn't opened
-  pub coordinator_refused : IsRunnable s → (old new : Showing D) (missed : RunFault) → KeepsOthers coordinator_name old new → IsNotOpened state old new (coordinator_role s) coordinator_name s.disk missed
-      → Replays state old new s (Err missed)
+  pub coordinator_refused : IsRunnable s → (old new : ShelfState D) (missed : RunFault) → KeepsOthers (IsDiskName coordinator_name) old new
+      → IsNotOpened state old new (coordinator_role s) coordinator_name s.disk missed → Replays state old new s (Err missed)
   coordinator_refused runs old new missed keeps (inl n) = inr (record {
     disks = [];
-    taken = not_coordinators s old.has_place new.has_place runs keeps.made n.not_made;
-    back = none_back s old.tells new.given_back;
+    taken = not_coordinators s runs old new keeps n.not_made;
+    back = none_back s new;
     next = omega arith;
     device = λ all. none_show s [];
     sized = none_sized s;
@@ -219,8 +218,8 @@ module _ {D : Type 0} (state : D → DiskState) (s : Scenario) where
   })
   coordinator_refused runs old new missed keeps (inr g) = inl (record {
     disks = g.disks ∷ [];
-    taken = coordinators_alone s old.has_place new.has_place runs keeps.made g.taken;
-    back = coordinator_back s old.tells new.given_back g.disks (subst (λ (t : Bool). AreGivenBack t new.given_back coordinator_name g.disks) keeps.tells g.back);
+    taken = coordinators_alone s runs old new keeps g.taken;
+    back = coordinator_back s new g.disks g.back;
     count = omega arith;
     counted = failure_among (pair_of state g.disks ∷ []) place.Tc (pair_of state g.disks) refl missed g.counted;
     leaves = λ all. inr (record {
@@ -235,74 +234,46 @@ module _ {D : Type 0} (state : D → DiskState) (s : Scenario) where
     });
   })
 
-  -- a resource wasn't opened
-  pub next_refused : (old new : Showing D) (count : ℕ) (def : ResourceDef) (missed : RunFault) → new.tells ≡ old.tells → slice_get s.resources count ≡ Some def
-      → IsNotOpened state old new (resource_role s (count + 1) def) def.name s.disk missed
-      → StopsOpening state old.has_place new.has_place old.tells new.given_back (Rose old.faults new.faults) s count missed
-  next_refused old new count def missed same here (inl n) = record { def = def; there = here; refused = inl n }
-  next_refused old new count def missed same here (inr g) = record {
-    def = def;
-    there = here;
-    refused = inr (record {
-      disks = g.disks;
-      taken = g.taken;
-      back = subst (λ (t : Bool). AreGivenBack t new.given_back def.name g.disks) same g.back;
-      counted = g.counted;
-      unopened = g.unopened;
-    });
-  }
-
   -- memory was refused before a disk was taken
-  pub next_unasked : (has : List ℕ → Type 0) (tells : Bool) (given_back : List ℕ → D → Type 0) (rose : Type 0) (count : ℕ) (def : ResourceDef) → slice_get s.resources count ≡ Some def
-      → StopsOpening state has has tells given_back rose s count fault.NoMemory
-  next_unasked has tells given_back rose count def here = record { def = def; there = here; refused = inl (record { cause = tt; not_made = λ there. there }) }
+  pub next_unasked : (shelf : ShelfState D) (count : ℕ) (def : ResourceDef) → slice_get s.resources count ≡ Some def → StopsOpening state shelf shelf s count fault.NoMemory
+  next_unasked shelf count def here = record { def = def; there = here; refused = inl (record { cause = tt; not_made = λ there. there }) }
 
   -- said of the shelf before the resources that were opened
-  pub stops_later : IsRunnable s → (had now has : List ℕ → Type 0) (tells : Bool) (given_back : List ℕ → D → Type 0) (rose more : Type 0) (count : ℕ) (missed : RunFault) → (rose → more)
-      → ((n : List ℕ) → now n → had n ⊎ IsOfOne s.resources count n) → StopsOpening state now has tells given_back rose s count missed → StopsOpening state had has tells given_back more s count missed
-  stops_later runs had now has tells given_back rose more count missed grows made t = record { def = t.def; there = t.there; refused = by t.refused }
+  pub stops_later : IsRunnable s → (old now new : ShelfState D) (count : ℕ) (missed : RunFault) → KeepsOthers (IsOfOne s.resources count) old now
+      → StopsOpening state now new s count missed → StopsOpening state old new s count missed
+  stops_later runs old now new count missed keeps t = record { def = t.def; there = t.there; refused = by t.refused }
     where
-      by : IsNotHad (place.Res (count + 1)) rose now has t.def.name missed ⊎ IsReturned state has tells given_back (resource_role s (count + 1) t.def) t.def.name s.disk missed
-          → IsNotHad (place.Res (count + 1)) more had has t.def.name missed ⊎ IsReturned state has tells given_back (resource_role s (count + 1) t.def) t.def.name s.disk missed
+      by : IsNotOpened state now new (resource_role s (count + 1) t.def) t.def.name s.disk missed → IsNotOpened state old new (resource_role s (count + 1) t.def) t.def.name s.disk missed
       by (inl n) = inl (record {
-        cause = shelf_fault (place.Res (count + 1)) rose more missed grows n.cause;
-        not_made = λ there. second_since s runs count t.def t.there had now made (n.not_made there);
+        cause = shelf_fault (place.Res (count + 1)) old now new new missed keeps.faults (omega arith) n.cause;
+        not_made = λ there. second_since s runs old now count keeps t.def t.there (n.not_made there);
       })
       by (inr g) = inr g
 
   -- and the disks of the nodes before it were given back then
   module _ {K : Type 0} (runs : IsRunnable s) (managers resources : ℕ) (c : Coordinator D) (new : IsNewCoordinator state s managers resources c) (opened : List (Member (Resource D) K))
-      (first : AreFirst (IsNewResourceOf state s) s.resources opened) (old after : Showing D) (begun taken : List ℕ → Type 0) (before : List ℕ → D → Type 0) (rose : Type 0) (missed : RunFault)
-      (grows : rose → Rose old.faults after.faults)
-      (stays : (def : ResourceDef) → slice_get s.resources (length opened) ≡ Some def → SameUnder def.name before after.given_back × SameUnder (second_name def.name) before after.given_back)
-      (back : FirstGivenBack old.tells after.given_back s (server_disks c opened))
-      (made_first : (n : List ℕ) → begun n → old.has_place n ⊎ IsDiskName coordinator_name n) (made_then : (n : List ℕ) → taken n → begun n ⊎ IsOfOne s.resources (length opened + 1) n)
-      (same : SamePlaces taken after.has_place) (have : HaveTaken taken s.resources (length opened)) where
-    disks_count : length (server_disks c opened) ≡ length opened + 1
-    disks_count = count_servers s c opened first.few old.tells after.given_back
-
-    by_shelf : (t : StopsOpening state begun taken old.tells before rose s (length opened) missed) → IsNotHad (place.Res (length opened + 1)) rose begun taken t.def.name missed
-        → Replays state old after s (Err missed)
+      (first : AreFirst (IsNewResourceOf state s) s.resources opened) (old begun taken after : ShelfState D) (missed : RunFault) (one : KeepsOthers (IsDiskName coordinator_name) old begun)
+      (more : KeepsOthers (IsOfOne s.resources (length opened + 1)) begun taken) (only : GivesBackOnly (IsOfServer s.resources (length opened)) taken after)
+      (back : FirstGivenBack after s (server_disks c opened)) (have : HaveTaken taken s.resources (length opened)) where
+    by_shelf : (t : StopsOpening state begun taken s (length opened) missed) → IsNotHad (place.Res (length opened + 1)) begun taken t.def.name missed → Replays state old after s (Err missed)
     by_shelf t n = inr (record {
       disks = server_disks c opened;
-      taken = subst (AreTaken old.has_place after.has_place s) (sym disks_count)
-          (next_not_taken s runs old.has_place begun taken after.has_place (length opened) made_first made_then same have t.def t.there n.not_made);
+      taken = subst (AreTaken old after s) (sym (count_servers c opened)) (next_not_taken s runs old begun taken after (length opened) one more only.places have t.def t.there n.not_made);
       back = back;
-      next = let below = slice_get_within s.resources (length opened) t.def t.there in let size = disks_count in omega (arith, below, size);
-      device = λ all. first_show state s all managers resources c new opened first (length (server_disks c opened)) disks_count;
+      next = let below = slice_get_within s.resources (length opened) t.def t.there in let size = count_servers c opened in omega (arith, below, size);
+      device = λ all. first_show state s all managers resources c new opened first (length (server_disks c opened)) (count_servers c opened);
       sized = first_sized state s managers resources c new opened first;
-      cause = subst (λ (p : Place). IsShelfFault p (Rose old.faults after.faults) missed) (sym (place_behind (length opened) (length (server_disks c opened)) disks_count))
-          (shelf_fault (place.Res (length opened + 1)) rose (Rose old.faults after.faults) missed grows n.cause);
+      cause = subst (λ (p : Place). IsShelfFault p old after missed) (sym (place_behind (length opened) (length (server_disks c opened)) (count_servers c opened)))
+          (shelf_fault (place.Res (length opened + 1)) old begun taken after missed one.faults only.keeps.faults n.cause);
     })
 
-    by_disks : (t : StopsOpening state begun taken old.tells before rose s (length opened) missed)
-        → IsReturned state taken old.tells before (resource_role s (length opened + 1) t.def) t.def.name s.disk missed → Replays state old after s (Err missed)
+    by_disks : (t : StopsOpening state begun taken s (length opened) missed) → IsReturned state taken (resource_role s (length opened + 1) t.def) t.def.name s.disk missed → Replays state old after s (Err missed)
     by_disks t g = inl (record {
       disks = server_disks c opened ++ g.disks ∷ [];
-      taken = subst (AreTaken old.has_place after.has_place s) (sym (let more = length-append (server_disks c opened) (g.disks ∷ []) in let size = disks_count in omega (arith, more, size)))
-          (next_taken_too s runs old.has_place begun taken after.has_place (length opened) made_first made_then same have t.def t.there g.taken);
-      back = one_back s old.tells after.given_back (server_disks c opened) (length opened) t.def g.disks disks_count t.there
-          (let same = stays t.def t.there in both_stay old.tells before after.given_back t.def.name g.disks same.0 same.1 g.back) back;
+      taken = subst (AreTaken old after s) (sym (let more = length-append (server_disks c opened) (g.disks ∷ []) in let size = count_servers c opened in omega (arith, more, size)))
+          (next_taken_too s runs old begun taken after (length opened) one more only.places have t.def t.there g.taken);
+      back = one_back s after (server_disks c opened) (length opened) t.def g.disks (count_servers c opened) t.there
+          (both_stay (IsOfServer s.resources (length opened)) taken after only.keeps t.def.name g.disks (next_of_none s runs (length opened) t.def t.there) g.back) back;
       count = let more = length-append (server_disks c opened) (g.disks ∷ []) in omega (arith, more);
       counted = subst (λ (ds : List Pair). CountsFailure ds (Err missed)) (sym (map-append (pair_of state) (server_disks c opened) (g.disks ∷ [])))
           (failure_among (map (pair_of state) (server_disks c opened) ++ pair_of state g.disks ∷ []) (place.Res (length opened + 1)) (pair_of state g.disks)
@@ -325,10 +296,9 @@ module _ {D : Type 0} (state : D → DiskState) (s : Scenario) where
           }));
     })
 
-    pub resource_refused : StopsOpening state begun taken old.tells before rose s (length opened) missed → Replays state old after s (Err missed)
+    pub resource_refused : StopsOpening state begun taken s (length opened) missed → Replays state old after s (Err missed)
     resource_refused t = by t.refused
       where
-        by : IsNotHad (place.Res (length opened + 1)) rose begun taken t.def.name missed ⊎ IsReturned state taken old.tells before (resource_role s (length opened + 1) t.def) t.def.name s.disk missed
-            → Replays state old after s (Err missed)
+        by : IsNotOpened state begun taken (resource_role s (length opened + 1) t.def) t.def.name s.disk missed → Replays state old after s (Err missed)
         by (inl n) = by_shelf t n
         by (inr g) = by_disks t g

@@ -1,12 +1,11 @@
 -- One entry of a node of a replay.
 use Rattle.std.proofs.Common.{inl, inr, ◌≡◌, ◌-◌, ℕ, List, [], ◌∷◌, ◌++◌, length, slice_get, Option, Some, None, option_map, Ok, Err, refl, ap, ◌∙◌, arith, length-append}
 use Rattle.std.specs.Option.{option_and_then}
-use Rattle.journal_checkpoint.specs.Images.{Pair}
 use Rattle.seata_types.specs.declared.ids.Place.{Place}
 use Rattle.seata_types.specs.declared.messages.Outgoing.{Outgoing}
 use Rattle.frame_codec.specs.Packets.{Sent}
-use Rattle.history_rules.specs.Own.{Event, Own}
-use Rattle.history_rules.specs.Nodes.{Role}
+use Rattle.history_rules.specs.Own.{Event}
+use Rattle.node_steps.specs.Nodes.{NodeState}
 use Rattle.history_text.specs.declared.entries.Cause.{Cause}
 use Rattle.history_text.specs.declared.entries.Entry.{Entry}
 use Rattle.history_text.specs.Notes.{sent_of}
@@ -29,24 +28,26 @@ letter_is : (from : Place) (stamp : ℕ) (sent : Option Outgoing)
 letter_is from stamp None = refl
 letter_is from stamp (Some out) = refl
 
-module _ {N K : Type 0} (stands_for : N → Role → List Own → Type 0) (at : N → Place) (disks : N → Pair) (size : N → ℕ) (old new : Member N K) (stamp now : ℕ) (why : Cause) (event : Event) where
-  pub made_err : (missed : RunFault) → IsEntered stands_for at disks size old.seat.node new.seat.node old.seat.trace new.seat.trace stamp now why event (Err missed)
-      → IsMade stands_for at disks size old new stamp now why event (Err missed)
+-- where a node stands
+abbrev pub place_by : {N : Type 0} → (N → NodeState) → N → Place
+place_by state node = (state node).place
+
+module _ {N K : Type 0} (state : N → NodeState) (old new : Member N K) (stamp now : ℕ) (why : Cause) (event : Event) where
+  pub made_err : (missed : RunFault) → IsEntered state old.seat new.seat stamp now why event (Err missed) → IsMade state old new stamp now why event (Err missed)
   made_err missed (inl e) = inl e
   made_err missed (inr (is, step, e)) = inr (is, step, record { does = e.does; room = e.room; printed = e.printed; turned = tt; sent = tt })
 
-  pub made_ok : (packet : Option Sent) (letter : Option Letter) → IsEntered stands_for at disks size old.seat.node new.seat.node old.seat.trace new.seat.trace stamp now why event (Ok packet)
-      → new.turned ≡ turned_by why stamp old.turned → at new.seat.node ≡ at old.seat.node → letter ≡ letter_with (at new.seat.node) (receiver_in new.seat.trace) packet
-      → IsMade stands_for at disks size old new stamp now why event (Ok letter)
-  made_ok packet letter (step, e) turned same is = (
-    step,
-    record {
-      does = e.does;
-      room = e.room;
-      printed = e.printed;
-      turned = turned;
-      sent = is ∙ ap (λ p. letter_with p (receiver_in new.seat.trace) packet) same ∙ ap (λ t. letter_with (at old.seat.node) (receiver_in t) packet) e.printed
-          ∙ ap (λ r. letter_with (at old.seat.node) r packet) (receiver_snoc old.seat.trace _) ∙ ap (letter_with (at old.seat.node) (option_map place_sent (option_map sent_of step.sent))) e.packed
-          ∙ letter_is (at old.seat.node) stamp step.sent;
-    },
-  )
+  pub made_ok : (packet : Option Sent) (letter : Option Letter) → IsEntered state old.seat new.seat stamp now why event (Ok packet) → new.turned ≡ turned_by why stamp old.turned
+      → place_by state new.seat.node ≡ place_by state old.seat.node → letter ≡ letter_with (place_by state new.seat.node) (receiver_in new.seat.trace) packet → IsMade state old new stamp now why event (Ok letter)
+  made_ok packet letter (step, e) turned same is =
+      let at = place_by state old.seat.node in (
+        step,
+        record {
+          does = e.does;
+          room = e.room;
+          printed = e.printed;
+          turned = turned;
+          sent = is ∙ ap (λ p. letter_with p (receiver_in new.seat.trace) packet) same ∙ ap (λ t. letter_with at (receiver_in t) packet) e.printed
+              ∙ ap (λ r. letter_with at r packet) (receiver_snoc old.seat.trace _) ∙ ap (letter_with at (option_map place_sent (option_map sent_of step.sent))) e.packed ∙ letter_is at stamp step.sent;
+        },
+      )

@@ -11,15 +11,15 @@ use Rattle.seata_types.specs.declared.messages.Input.{Input}
 use Rattle.seata_types.specs.declared.messages.Step.{Step}
 use Rattle.history_rules.specs.Own.{Event, Given, Stopped, Crashed, Restarted, Own}
 use Rattle.history_rules.specs.ManagerRules.{Settings}
-use Rattle.history_rules.specs.Nodes.{ComesTo, Role, counted_at}
+use Rattle.history_rules.specs.Nodes.{ComesTo, counted_at}
 use Rattle.history_rules.specs.Nodes.{Manager as ManagerRole}
 use Rattle.history_rules.specs.Histories.{Moment, own, same_place}
 use Rattle.history_text.specs.declared.entries.Cause.{Cause}
 use Rattle.history_text.specs.History.{cause_of}
-use Rattle.history_text.specs.Promises.{StaysItself, no_disks}
+use Rattle.node_steps.specs.Nodes.{NodeState}
+use Rattle.node_steps.specs.Promises.{StaysItself, no_disks}
 use Rattle.coordinator_core.specs.declared.nodes.Coordinator.{Coordinator}
 use Rattle.coordinator_core.specs.Standing as coordinator
-use Rattle.coordinator_core.specs.Stepping as stepping
 use Rattle.resource_core.specs.declared.nodes.Resource.{Resource}
 use Rattle.resource_core.specs.NodeStanding as resource
 use Rattle.resource_core.specs.Shown as shown
@@ -50,17 +50,16 @@ Missed p now c disks missed = (missed ≡ fault.NoMemory) ⊎ Blames p c.role (o
 
 -- ---- a node of any kind
 
-module _ {N D K : Type 0} (state : D → DiskState) (stands_for : N → Role → List Own → Type 0) (place_at : N → Place) (disks : N → Pair) (size : N → ℕ)
-    (old new : Nodes D K) (before after : Member N K) (stamp now : ℕ) (p : Place) (printed : Cause) (given : Option Input) (c : Comes state old stamp p printed given)
-    (here : place_at before.seat.node ≡ p) (stood : stands_for before.seat.node c.role (own p c.ms)) (told : IsTold (disks before.seat.node) c.event)
-    (entered : (step : Step) (letter : Option Letter) → Makes stands_for place_at disks size before after (length c.ms + 1) now (cause_of c.why) c.event step (Ok letter) → AreNodes state c.s new (moment_by p now c step ∷ c.ms))
-    (stand : (os : List Moment) → ((q : Place) → same_place q p ≡ false → own q os ≡ own q c.ms) → stands_for after.seat.node c.role (own p os) → AllStand state c.s new os)
-    (fits_by : EventFits (disks before.seat.node) (size before.seat.node) c.role (own p c.ms) now c.event → EventFits (disks_at state old p) c.s.disk c.role (own p c.ms) now c.event)
-    (missed_by : (missed : RunFault) → Blames p c.role (own p c.ms) now c.event (disks after.seat.node) (size after.seat.node) missed → Missed p now c (disks_at state new p) missed) where
-  entered_by : (r : Result (Option Letter) RunFault) → IsMade stands_for place_at disks size before after (length c.ms + 1) now (cause_of c.why) c.event r → Entered state old new stamp now p printed given c r
+module _ {N D K : Type 0} (state : D → DiskState) (node_state : N → NodeState) (old new : Nodes D K) (before after : Member N K) (stamp now : ℕ) (p : Place) (printed : Cause) (given : Option Input)
+    (c : Comes state old stamp p printed given) (here : (node_state before.seat.node).place ≡ p) (stood : (node_state before.seat.node).stands_for c.role (own p c.ms)) (told : IsTold (node_state before.seat.node).disks c.event)
+    (entered : (step : Step) (letter : Option Letter) → Makes node_state before after (length c.ms + 1) now (cause_of c.why) c.event step (Ok letter) → AreNodes state c.s new (moment_by p now c step ∷ c.ms))
+    (stand : (os : List Moment) → ((q : Place) → same_place q p ≡ false → own q os ≡ own q c.ms) → (node_state after.seat.node).stands_for c.role (own p os) → AllStand state c.s new os)
+    (fits_by : EventFits (node_state before.seat.node).disks (node_state before.seat.node).size c.role (own p c.ms) now c.event → EventFits (disks_at state old p) c.s.disk c.role (own p c.ms) now c.event)
+    (missed_by : (missed : RunFault) → Blames p c.role (own p c.ms) now c.event (node_state after.seat.node).disks (node_state after.seat.node).size missed → Missed p now c (disks_at state new p) missed) where
+  entered_by : (r : Result (Option Letter) RunFault) → IsMade node_state before after (length c.ms + 1) now (cause_of c.why) c.event r → Entered state old new stamp now p printed given c r
   entered_by (Ok letter) (step, e) = record {
     step = step;
-    happens = member_happens stands_for p c.role place_at disks size before after c.ms now c.why c.event step (Ok letter) stood told e;
+    happens = member_happens node_state p c.role before after c.ms now c.why c.event step (Ok letter) stood told e;
     room = fits_by (e.room c.role (own p c.ms) stood);
     nodes = entered step letter e;
     sent = e.sent ∙ ap (λ q. option_map (letter_from q (length c.ms + 1)) step.sent) here;
@@ -68,39 +67,39 @@ module _ {N D K : Type 0} (state : D → DiskState) (stands_for : N → Role →
   entered_by (Err missed) (inl e) = inl (record {
     stands = stand c.ms (λ q away. refl) (e.misses.stands told c.role (own p c.ms) stood);
     cause = missed_by missed
-        (subst (λ q. Blames q c.role (own p c.ms) now c.event (disks after.seat.node) (size after.seat.node) missed) here
+        (subst (λ q. Blames q c.role (own p c.ms) now c.event (node_state after.seat.node).disks (node_state after.seat.node).size missed) here
         (e.misses.blames told c.role (own p c.ms) stood));
   })
   entered_by (Err missed) (inr (is, step, e)) = inr (record {
     memory = is;
     step = step;
-    happens = member_happens stands_for p c.role place_at disks size before after c.ms now c.why c.event step (Err missed) stood told e;
+    happens = member_happens node_state p c.role before after c.ms now c.why c.event step (Err missed) stood told e;
     room = fits_by (e.room c.role (own p c.ms) stood);
     stands = stand (moment_by p now c step ∷ c.ms) (λ q away. own_there q (moment_by p now c step) c.ms away)
-        (member_stands stands_for p c.role place_at disks size before after c.ms now c.why c.event step (Err missed) stood told e);
+        (member_stands node_state p c.role before after c.ms now c.why c.event step (Err missed) stood told e);
   })
 
-  entered_as : (r : Result (Option Letter) RunFault) → IsMade stands_for place_at disks size before after stamp now printed c.event r → Entered state old new stamp now p printed given c r
+  entered_as : (r : Result (Option Letter) RunFault) → IsMade node_state before after stamp now printed c.event r → Entered state old new stamp now p printed given c r
   entered_as r made =
       entered_by r
-      (subst (λ n. IsMade stands_for place_at disks size before after n now (cause_of c.why) c.event r) c.stamped
-      (subst (λ w. IsMade stands_for place_at disks size before after stamp now w c.event r) c.is_printed made))
+      (subst (λ n. IsMade node_state before after n now (cause_of c.why) c.event r) c.stamped
+      (subst (λ w. IsMade node_state before after stamp now w c.event r) c.is_printed made))
 
 -- ---- the coordinator
 
 module _ {D K : Type 0} (state : D → DiskState) (old : Nodes D K) (after : Member (Coordinator D) K) (stamp now : ℕ) (printed : Cause) (given : Option Input)
-    (same : StaysItself stepping.stands_at coordinator.serves (coordinator.disks_of state) old.coordinator.seat.node after.seat.node) (r : Result (Option Letter) RunFault) where
+    (same : StaysItself (coordinator.node_state state old.coordinator.seat.node) (coordinator.node_state state after.seat.node)) (r : Result (Option Letter) RunFault) where
   abbrev CoordinatorMade : Event → Type 0
-  CoordinatorMade event = IsMade (coordinator.StandsAs state) stepping.stands_at (coordinator.disks_of state) (coordinator.size_of state) old.coordinator after stamp now printed event r
+  CoordinatorMade event = IsMade (coordinator.node_state state) old.coordinator after stamp now printed event r
 
   coordinator_here : (c : Comes state old stamp place.Tc printed given) → CoordinatorMade c.event → Entered state old (with_coordinator old after) stamp now place.Tc printed given c r
   coordinator_here c made =
-      let is : IsServer (coordinator.StandsAs state) (coordinator.disks_of state) place.Tc c.role c.s.disk old.coordinator c.ms = c.nodes.each place.Tc c.role c.there in
+      let is : IsServer (coordinator.node_state state) place.Tc c.role c.s.disk old.coordinator c.ms = c.nodes.each place.Tc c.role c.there in
       let sized : HaveSize c.s.disk (coordinator.disks_of state after.seat.node) = record { first = same.first.size ∙ is.sized.first; second = same.second.size ∙ is.sized.second } in
-      entered_as state (coordinator.StandsAs state) stepping.stands_at (coordinator.disks_of state) (coordinator.size_of state) old (with_coordinator old after) old.coordinator after stamp now place.Tc printed given c
+      entered_as state (coordinator.node_state state) old (with_coordinator old after) old.coordinator after stamp now place.Tc printed given c
       refl is.member.stands (told_all (coordinator.disks_of state old.coordinator.seat.node) c.event is.told)
       (λ step letter e. nodes_coordinator state c.s old after c.role c.there c.ms (moment_by place.Tc now c step) refl c.nodes
-      (server_enters (coordinator.StandsAs state) (coordinator.disks_of state) place.Tc c.role c.s.disk stepping.stands_at (coordinator.size_of state) coordinator.serves old.coordinator after c.ms now c.why c.event step letter is refl same e))
+      (server_enters (coordinator.node_state state) place.Tc c.role c.s.disk old.coordinator after c.ms now c.why c.event step letter is refl same e))
       (λ os elsewhere stands. stand_coordinator state c.s old after c.role c.there c.ms os elsewhere c.nodes (record { stands = stands; sized = sized }))
       (λ fits. subst (λ n. EventFits (coordinator.disks_of state old.coordinator.seat.node) n c.role (own place.Tc c.ms) now c.event) (size_coordinator state c.s.disk old.coordinator.seat.node is.sized) fits)
       (λ missed b. inr (subst (λ n. Blames place.Tc c.role (own place.Tc c.ms) now c.event (coordinator.disks_of state after.seat.node) n missed) (size_coordinator state c.s.disk after.seat.node sized) b)) r made
@@ -115,21 +114,21 @@ module _ {D K : Type 0} (state : D → DiskState) (old : Nodes D K) (after : Mem
 
 module _ {D K : Type 0} (state : D → DiskState) (old : Nodes D K) (n : ℕ) (before after : Member (Resource D) K) (resources : Vec (Member (Resource D) K) Global) (stamp now : ℕ) (printed : Cause) (given : Option Input)
     (placed : counted_at old.resources.items n ≡ Some before) (changed : resources.items ≡ set old.resources.items (n - 1) after) (stands_here : shown.stands_at before.seat.node ≡ place.Res n)
-    (same : StaysItself shown.stands_at resource.serves (shown.disks_of state) before.seat.node after.seat.node) (r : Result (Option Letter) RunFault) where
+    (same : StaysItself (resource.node_state state before.seat.node) (resource.node_state state after.seat.node)) (r : Result (Option Letter) RunFault) where
   abbrev ResourceMade : Event → Type 0
-  ResourceMade event = IsMade (resource.StandsAs state) shown.stands_at (shown.disks_of state) (shown.size_of state) before after stamp now printed event r
+  ResourceMade event = IsMade (resource.node_state state) before after stamp now printed event r
 
   resource_here : (c : Comes state old stamp (place.Res n) printed given) → ResourceMade c.event → Entered state old (with_resources old resources) stamp now (place.Res n) printed given c r
   resource_here c made =
       let (x, found, kept) = c.nodes.each (place.Res n) c.role c.there in
-      let is : IsServer (resource.StandsAs state) (shown.disks_of state) (place.Res n) c.role c.s.disk before c.ms =
-      subst (λ (m : Member (Resource D) K). IsServer (resource.StandsAs state) (shown.disks_of state) (place.Res n) c.role c.s.disk m c.ms) (same_Some x before (sym found ∙ placed)) kept in
+      let is : IsServer (resource.node_state state) (place.Res n) c.role c.s.disk before c.ms =
+      subst (λ (m : Member (Resource D) K). IsServer (resource.node_state state) (place.Res n) c.role c.s.disk m c.ms) (same_Some x before (sym found ∙ placed)) kept in
       let sized : HaveSize c.s.disk (shown.disks_of state after.seat.node) = record { first = same.first.size ∙ is.sized.first; second = same.second.size ∙ is.sized.second } in
       let there : counted_at resources.items n ≡ Some after = ap (λ l. counted_at l n) changed ∙ counted_set old.resources.items n after before placed in
-      entered_as state (resource.StandsAs state) shown.stands_at (shown.disks_of state) (shown.size_of state) old (with_resources old resources) before after stamp now (place.Res n) printed given c
+      entered_as state (resource.node_state state) old (with_resources old resources) before after stamp now (place.Res n) printed given c
       stands_here is.member.stands (told_all (shown.disks_of state before.seat.node) c.event is.told)
       (λ step letter e. nodes_resource state c.s old n before after resources placed changed c.role c.there c.ms (moment_by (place.Res n) now c step) refl c.nodes
-      (server_enters (resource.StandsAs state) (shown.disks_of state) (place.Res n) c.role c.s.disk shown.stands_at (shown.size_of state) resource.serves before after c.ms now c.why c.event step letter is stands_here same e))
+      (server_enters (resource.node_state state) (place.Res n) c.role c.s.disk before after c.ms now c.why c.event step letter is stands_here same e))
       (λ os elsewhere stands. stand_resource state c.s old n before after resources placed changed c.role c.there c.ms os elsewhere c.nodes (record { stands = stands; sized = sized }))
       (λ fits. subst (λ (o : Option (Member (Resource D) K)). EventFits (member_disks state o) c.s.disk c.role (own (place.Res n) c.ms) now c.event) (sym placed)
       (subst (λ k. EventFits (shown.disks_of state before.seat.node) k c.role (own (place.Res n) c.ms) now c.event) (size_resource state c.s.disk before.seat.node is.sized) fits))
@@ -170,31 +169,22 @@ asks_none m owns now (Stopped calls) disks size = tt
 asks_none m owns now Crashed disks size = tt
 asks_none m owns now (Restarted pick calls) disks size = tt
 
-abbrev pub manager_at : Manager → Place
-manager_at m = place.Man (manager.settings m).number
-
-abbrev pub manager_disks : Manager → Pair
-manager_disks m = no_disks
-
-abbrev pub manager_size : Manager → ℕ
-manager_size m = 0
-
 module _ {D K : Type 0} (state : D → DiskState) (old : Nodes D K) (n : ℕ) (before after : Member Manager K) (managers : Vec (Member Manager K) Global) (stamp now : ℕ) (printed : Cause) (given : Option Input)
-    (placed : counted_at old.managers.items n ≡ Some before) (changed : managers.items ≡ set old.managers.items (n - 1) after) (stands_here : manager_at before.seat.node ≡ place.Man n) (r : Result (Option Letter) RunFault) where
+    (placed : counted_at old.managers.items n ≡ Some before) (changed : managers.items ≡ set old.managers.items (n - 1) after) (stands_here : (manager.node_state before.seat.node).place ≡ place.Man n) (r : Result (Option Letter) RunFault) where
   abbrev ManagerMade : Event → Type 0
-  ManagerMade event = IsMade manager.StandsAs manager_at manager_disks manager_size before after stamp now printed event r
+  ManagerMade event = IsMade manager.node_state before after stamp now printed event r
 
   manager_here : (c : Comes state old stamp (place.Man n) printed given) → ManagerMade c.event → Entered state old (with_managers old managers) stamp now (place.Man n) printed given c r
   manager_here c made =
       let (x, found, kept) = c.nodes.each (place.Man n) c.role c.there in
-      let is : IsMember manager.StandsAs (place.Man n) c.role before c.ms = subst (λ (m : Member Manager K). IsMember manager.StandsAs (place.Man n) c.role m c.ms) (same_Some x before (sym found ∙ placed)) kept in
+      let is : IsMember manager.node_state (place.Man n) c.role before c.ms = subst (λ (m : Member Manager K). IsMember manager.node_state (place.Man n) c.role m c.ms) (same_Some x before (sym found ∙ placed)) kept in
       let (settings, listed, role_is) = at_manager c.s n c.role c.there in
       let fits : ComesTo (ManagerRole settings) c.event = subst (λ role. ComesTo role c.event) role_is c.fits in
       let told : IsTold no_disks c.event = manager_told settings no_disks c.event fits in
-      entered_as state manager.StandsAs manager_at manager_disks manager_size old (with_managers old managers) before after stamp now (place.Man n) printed given c
+      entered_as state manager.node_state old (with_managers old managers) before after stamp now (place.Man n) printed given c
       stands_here is.stands told
       (λ step letter e. nodes_manager state c.s old n before after managers placed changed c.role c.there c.ms (moment_by (place.Man n) now c step) refl c.nodes
-      (member_enters manager.StandsAs (place.Man n) c.role manager_at manager_disks manager_size before after c.ms now c.why c.event step letter is stands_here told e))
+      (member_enters manager.node_state (place.Man n) c.role before after c.ms now c.why c.event step letter is stands_here told e))
       (λ os elsewhere stands. stand_manager state c.s old n before after managers placed changed c.role c.there c.ms os elsewhere c.nodes stands)
       (λ fits. subst (λ role. EventFits no_disks c.s.disk role (own (place.Man n) c.ms) now c.event) (sym role_is) (asks_none settings (own (place.Man n) c.ms) now c.event no_disks c.s.disk))
       (λ missed b. inl (only_memory settings (place.Man n) (own (place.Man n) c.ms) now c.event no_disks 0 missed fits

@@ -1,5 +1,5 @@
 -- The names of a scenario's disks: no two are the same.
-use Rattle.std.proofs.Common.{◌≡◌, ◌≢◌, ◌<◌, ◌≤◌, ℕ, zero, suc, nat_lt, ◌&&◌, ◌||◌, not, Bool, true, false, List, [], ◌∷◌, ◌++◌, map, slice_get, Some, None, option_map, codes, refl, ap, sym, subst, ◌∙◌, arith}
+use Rattle.std.proofs.Common.{◌≡◌, ◌≢◌, inl, inr, ◌+◌, ◌<◌, ◌≤◌, ℕ, zero, suc, nat_lt, ◌&&◌, ◌||◌, not, Bool, true, false, List, [], ◌∷◌, ◌++◌, map, slice_get, Some, None, option_map, codes, refl, ap, sym, subst, ◌∙◌, arith}
 use Rattle.std.specs.List.{AllByRecursion, IsDistinct, list_all}
 use Rattle.std.proofs.lemmas.Bool.{false≢true}
 use Rattle.std.proofs.lemmas.Bool.Decides.{nat_tests}
@@ -14,8 +14,8 @@ use Rattle.scenario_form.specs.declared.scenarios.Scenario.{Scenario}
 use Rattle.scenario_form.specs.Contents.{IsResource}
 use Rattle.scenario_form.specs.Names.{is_letter, is_node_name, is_word, is_word_byte}
 use Rattle.scenario_form.specs.Runnable.{IsRunnable, manager_name, node_names, resource_name}
-use Rattle.scenario_nodes.specs.Shelves.{coordinator_name, second_name}
-use Rattle.replay_runner.specs.Opened.{AreApart, AreDefsApart, IsOfNone}
+use Rattle.scenario_nodes.specs.Shelves.{IsDiskName, coordinator_name, second_name}
+use Rattle.replay_runner.specs.Opened.{AreApart, AreDefsApart, IsOfOne, IsOfServer}
 
 -- ---- tests
 
@@ -65,6 +65,24 @@ plain_apart a b one two differ = record {
   second = λ e. plain_not_second b a two (sym e);
   seconds = λ e. differ (append_cancel_right a b (codes ".2") e);
 }
+
+-- a name is of a disk of one of them alone
+pub apart_names : (a b : List ℕ) → AreApart a b → (name : List ℕ) → IsDiskName a name → IsDiskName b name → ⊥
+apart_names a b apart name (inl x) (inl y) = apart.firsts (sym x ∙ y)
+apart_names a b apart name (inl x) (inr y) = apart.other (sym x ∙ y)
+apart_names a b apart name (inr x) (inl y) = apart.second (sym x ∙ y)
+apart_names a b apart name (inr x) (inr y) = apart.seconds (sym x ∙ y)
+
+-- among the disks of more nodes
+pub of_next : (defs : List ResourceDef) (count size : ℕ) (def : ResourceDef) → slice_get defs count ≡ Some def → size ≡ count + 1 → (n : List ℕ) → IsDiskName def.name n → IsOfOne defs size n
+of_next defs count size def here grown n named = record { k = count; def = def; below = omega (arith, grown); there = here; named = named }
+
+pub of_more : (defs : List ResourceDef) (count more : ℕ) → count ≤ more → (n : List ℕ) → IsOfOne defs count n → IsOfOne defs more n
+of_more defs count more few n o = record { k = o.k; def = o.def; below = let below = o.below in omega (arith, below, few); there = o.there; named = o.named }
+
+pub of_more_servers : (defs : List ResourceDef) (count more : ℕ) → count ≤ more → (n : List ℕ) → IsOfServer defs count n → IsOfServer defs more n
+of_more_servers defs count more few n (inl named) = inl named
+of_more_servers defs count more few n (inr o) = inr (of_more defs count more few n o)
 
 node_plain : (name : List ℕ) → is_node_name name ≡ true → is_plain name ≡ true
 unfolding is_node_name
@@ -126,15 +144,12 @@ module _ (s : Scenario) (runs : IsRunnable s) where
   coordinator_apart k def at = plain_apart coordinator_name def.name refl (node_plain def.name (named k def at)) (not_coordinator def.name (named k def at))
 
   -- a disk of the coordinator is none of a resource
-  pub coordinator_of_none : (count : ℕ) → IsOfNone s.resources count coordinator_name × IsOfNone s.resources count (second_name coordinator_name)
-  coordinator_of_none count = (
-    (λ k def below at. let apart = coordinator_apart k def at in (apart.firsts, apart.other)),
-    (λ k def below at. let apart = coordinator_apart k def at in (apart.second, apart.seconds)),
-  )
+  pub coordinator_of_none : (count : ℕ) (name : List ℕ) → IsDiskName coordinator_name name → IsOfOne s.resources count name → ⊥
+  coordinator_of_none count name is o = apart_names coordinator_name o.def.name (coordinator_apart o.k o.def o.there) name is o.named
 
-  -- a disk of a resource is none of those before it
-  pub next_of_none : (count : ℕ) (def : ResourceDef) → slice_get s.resources count ≡ Some def → IsOfNone s.resources count def.name × IsOfNone s.resources count (second_name def.name)
-  next_of_none count def here = (
-    (λ k other below at. let apart = defs_apart count k def other (λ e. absurd (omega (arith, below, e))) here at in (apart.firsts, apart.other)),
-    (λ k other below at. let apart = defs_apart count k def other (λ e. absurd (omega (arith, below, e))) here at in (apart.second, apart.seconds)),
-  )
+  -- a disk of a resource is none of the nodes before it
+  pub next_of_none : (count : ℕ) (def : ResourceDef) → slice_get s.resources count ≡ Some def → (name : List ℕ) → IsDiskName def.name name → IsOfServer s.resources count name → ⊥
+  next_of_none count def here name is (inl named) = apart_names coordinator_name def.name (coordinator_apart count def here) name named is
+  next_of_none count def here name is (inr o) =
+      let below = o.below in
+      apart_names def.name o.def.name (defs_apart count o.k def o.def (λ e. omega (arith, below, e)) here o.there) name is o.named

@@ -3,7 +3,6 @@ use Rattle.std.proofs.Common.{◌≡◌, ◌+◌, ◌<◌, ◌≤◌, ℕ, zero,
 use Rattle.std.proofs.lemmas.Bool.Decides.{nat_tests}
 use Rattle.std.proofs.lemmas.Option.{same_Some, slice_get_within}
 use Rattle.disk_model.specs.Disk.{DiskState}
-use Rattle.journal_checkpoint.specs.Images.{Pair}
 use Rattle.seata_types.specs.declared.ids.Place.{Place}
 use Rattle.seata_types.specs.declared.ids.Place.TheVariants as place
 use Rattle.scenario_form.specs.declared.scenarios.ManagerDef.{ManagerDef}
@@ -11,18 +10,17 @@ use Rattle.scenario_form.specs.declared.scenarios.ResourceDef.{ResourceDef}
 use Rattle.scenario_form.specs.declared.scenarios.Scenario.{Scenario}
 use Rattle.history_rules.specs.Nodes.{Past, Role, World, no_past, role_at}
 use Rattle.history_rules.specs.Nodes.{Manager as ManagerRole, Resource as ResourceRole}
-use Rattle.history_rules.specs.Own.{Own}
 use Rattle.history_rules.specs.ManagerRules.{Settings}
 use Rattle.history_rules.specs.ResourceMemory.{Setup}
 use Rattle.history_text.specs.declared.entries.Entry.{Entry}
-use Rattle.history_text.specs.Promises.{AreTold}
+use Rattle.node_steps.specs.Nodes.{NodeState}
+use Rattle.node_steps.specs.Promises.{AreTold}
 use Rattle.history_text.specs.Worlds.{managers_from, resources_of, settings_of, setup_of, world_of}
 use Rattle.history_text.proofs.Worlds.{slice_get-managers}
 use Rattle.coordinator_core.specs.declared.nodes.Coordinator.{Coordinator}
 use Rattle.coordinator_core.specs.Standing as coordinator
 use Rattle.resource_core.specs.declared.nodes.Resource.{Resource}
 use Rattle.resource_core.specs.NodeStanding as resource
-use Rattle.resource_core.specs.Shown as shown
 use Rattle.manager_core.specs.declared.nodes.Manager.{Manager}
 use Rattle.manager_core.specs.Standing as manager
 use Rattle.node_seat.specs.Keeping.{IsBehind, IsFresh}
@@ -78,13 +76,13 @@ next_first P defs found more count def one t size is here new = (
 
 -- ---- a node that did nothing
 
-pub fresh_manager : (disks : Manager → Pair) (w : World) (past : Past) (s : Scenario) (k : ℕ) (def : ManagerDef) (m : Manager) → w ≡ world_of s → slice_get s.managers k ≡ Some def
-    → IsNewManager s (k + 1) def m → IsFresh manager.StandsAs disks w past m
-fresh_manager disks w past s k def m is here new =
+pub fresh_manager : (w : World) (past : Past) (s : Scenario) (k : ℕ) (def : ManagerDef) (m : Manager) → w ≡ world_of s → slice_get s.managers k ≡ Some def
+    → IsNewManager s (k + 1) def m → IsFresh w past (manager.node_state m)
+fresh_manager w past s k def m is here new =
     (manager_role s (k + 1) def, ap (λ (v : World). role_at v past (place.Man (k + 1))) is ∙ role_of_manager s k def here, λ told. new.stands)
 
 pub fresh_resource : {D : Type 0} (state : D → DiskState) (w : World) (past : Past) (s : Scenario) (k : ℕ) (def : ResourceDef) (r : Resource D) → w ≡ world_of s → past ≡ no_past
-    → slice_get s.resources k ≡ Some def → IsNewResource state s (k + 1) def r → IsFresh (resource.StandsAs state) (shown.disks_of state) w past r
+    → slice_get s.resources k ≡ Some def → IsNewResource state s (k + 1) def r → IsFresh w past (resource.node_state state r)
 fresh_resource state w past s k def r is none here new = (
   resource_role s (k + 1) def,
   ap (λ (v : World). role_at v past (place.Res (k + 1))) is ∙ ap (λ (x : Past). role_at (world_of s) x (place.Res (k + 1))) none ∙ role_of_resource s k def here,
@@ -92,7 +90,7 @@ fresh_resource state w past s k def r is none here new = (
 )
 
 pub fresh_coordinator : {D : Type 0} (state : D → DiskState) (w : World) (past : Past) (s : Scenario) (c : Coordinator D) (managers resources : ℕ) → w ≡ world_of s → past ≡ no_past
-    → IsNewCoordinator state s managers resources c → IsFresh (coordinator.StandsAs state) (coordinator.disks_of state) w past c
+    → IsNewCoordinator state s managers resources c → IsFresh w past (coordinator.node_state state c)
 fresh_coordinator state w past s c managers resources is none new = (
   coordinator_role s,
   ap (λ (v : World). role_at v past place.Tc) is ∙ ap (λ (x : Past). role_at (world_of s) x place.Tc) none,
@@ -129,19 +127,19 @@ manager_def s (suc k) role e =
 module _ {D K : Type 0} (state : D → DiskState) (s : Scenario) (n : Nodes D K) (new : AreNewNodes state s n) where
   -- where the disks tell their bytes, they stand for the empty history
   module _ (all : AllTell state) where
-    server : {N : Type 0} (stands_for : N → Role → List Own → Type 0) (disks : N → Pair) (p : Place) (role : Role) (m : Member N K) → stands_for m.seat.node role [] → AreTold (disks m.seat.node)
-        → HaveSize s.disk (disks m.seat.node) → m.seat.trace ≡ [] → m.turned ≡ 0 → IsServer stands_for disks p role s.disk m []
-    server stands_for disks p role m stands told sized traced turned = record {
+    server : {N : Type 0} (node_state : N → NodeState) (p : Place) (role : Role) (m : Member N K) → (node_state m.seat.node).stands_for role [] → AreTold (node_state m.seat.node).disks
+        → HaveSize s.disk (node_state m.seat.node).disks → m.seat.trace ≡ [] → m.turned ≡ 0 → IsServer node_state p role s.disk m []
+    server node_state p role m stands told sized traced turned = record {
       member = record { stands = stands; traced = traced; turned = turned };
       told = told;
       picked = λ pick e. absurd (let no : None ≡ Some pick = e in cc);
       sized = sized;
     }
 
-    has_coordinator : IsServer (coordinator.StandsAs state) (coordinator.disks_of state) place.Tc (coordinator_role s) s.disk n.coordinator []
+    has_coordinator : IsServer (coordinator.node_state state) place.Tc (coordinator_role s) s.disk n.coordinator []
     has_coordinator =
         let c = new.coordinator in
-        server (coordinator.StandsAs state) (coordinator.disks_of state) place.Tc (coordinator_role s) n.coordinator (c.node.stands (c.node.told all)) (c.node.told all) c.node.sized c.traced c.turned
+        server (coordinator.node_state state) place.Tc (coordinator_role s) n.coordinator (c.node.stands (c.node.told all)) (c.node.told all) c.node.sized c.traced c.turned
 
     has_resource : (k : ℕ) (def : ResourceDef) → slice_get s.resources k ≡ Some def → HasNode state s.disk n [] (place.Res (k + 1)) (resource_role s (k + 1) def)
     has_resource k def here =
@@ -151,7 +149,7 @@ module _ {D K : Type 0} (state : D → DiskState) (s : Scenario) (n : Nodes D K)
         let r = new.resources.first.each k def m here there in (
           m,
           counted_next n.resources.items k ∙ there,
-          server (resource.StandsAs state) (shown.disks_of state) (place.Res (k + 1)) (resource_role s (k + 1) def) m (r.node.stands (r.node.told all)) (r.node.told all) r.node.sized r.traced r.turned,
+          server (resource.node_state state) (place.Res (k + 1)) (resource_role s (k + 1) def) m (r.node.stands (r.node.told all)) (r.node.told all) r.node.sized r.traced r.turned,
         )
 
     has_manager : (k : ℕ) (def : ManagerDef) → slice_get s.managers k ≡ Some def → HasNode state s.disk n [] (place.Man (k + 1)) (manager_role s (k + 1) def)
@@ -165,7 +163,7 @@ module _ {D K : Type 0} (state : D → DiskState) (s : Scenario) (n : Nodes D K)
     has_each : (p : Place) (role : Role) → role_at (world_of s) no_past p ≡ Some role → HasNode state s.disk n [] p role
     has_each place.Net role e = absurd (let no : None ≡ Some role = e in cc)
     has_each place.Tc role e =
-        subst (λ r. IsServer (coordinator.StandsAs state) (coordinator.disks_of state) place.Tc r s.disk n.coordinator []) (same_Some (coordinator_role s) role e) has_coordinator
+        subst (λ r. IsServer (coordinator.node_state state) place.Tc r s.disk n.coordinator []) (same_Some (coordinator_role s) role e) has_coordinator
     has_each (place.Res j) role e =
         let (k, def, number, here, is) = resource_def s j role e in
         subst (λ i. HasNode state s.disk n [] (place.Res i) role) (sym number) (subst (λ r. HasNode state s.disk n [] (place.Res (k + 1)) r) (sym is) (has_resource k def here))

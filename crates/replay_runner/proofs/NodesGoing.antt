@@ -5,19 +5,17 @@ use Rattle.std.proofs.lemmas.Option.{same_Some}
 use Rattle.std.specs.Prelude.{Vec}
 use Rattle.std.specs.declared.alloc.Global.{Global}
 use Rattle.disk_model.specs.Disk.{DiskState}
-use Rattle.journal_checkpoint.specs.Images.{Pair}
 use Rattle.seata_types.specs.declared.ids.Place.{Place}
 use Rattle.seata_types.specs.declared.ids.Place.TheVariants as place
 use Rattle.seata_types.specs.declared.messages.Step.{Step}
-use Rattle.history_rules.specs.Own.{Event, Own}
-use Rattle.history_rules.specs.Nodes.{Role}
+use Rattle.history_rules.specs.Own.{Event}
 use Rattle.history_text.specs.declared.entries.Cause.{Cause}
 use Rattle.history_text.specs.declared.entries.Entry.{Entry}
-use Rattle.history_text.specs.Promises.{StaysItself}
+use Rattle.node_steps.specs.Nodes.{NodeState}
+use Rattle.node_steps.specs.Promises.{StaysItself}
 use Rattle.coordinator_core.specs.declared.nodes.Coordinator.{Coordinator}
 use Rattle.seata_types.specs.declared.limits.TheConstants.{NODE_STEPS}
 use Rattle.coordinator_core.specs.Standing as coordinator
-use Rattle.coordinator_core.specs.Stepping as stepping
 use Rattle.resource_core.specs.declared.nodes.Resource.{Resource}
 use Rattle.resource_core.specs.NodeStanding as resource
 use Rattle.resource_core.specs.Shown as shown
@@ -33,7 +31,6 @@ use Rattle.replay_runner.specs.Going.{CanGoOn, IsKthManager, IsKthResource, Node
 use Rattle.replay_runner.specs.Members.{IsMade}
 use Rattle.replay_runner.proofs.Entered.{with_coordinator, with_managers, with_resources}
 use Rattle.replay_runner.proofs.Lists.{slice_get-set_other, slice_get-set_same}
-use Rattle.replay_runner.proofs.Making.{manager_at, manager_disks, manager_size}
 
 -- ---- entries that stand behind the next one
 
@@ -89,10 +86,10 @@ module _ {N K : Type 0} (left : N → ℕ) (steps stamp now : ℕ) where
     able = let able = g.able in omega (arith, able, counted);
   }
 
-  goes_made : (stands_for : N → Role → List Own → Type 0) (at : N → Place) (disks : N → Pair) (size : N → ℕ) (old new : Member N K) (why : Cause) (event : Event) (letter : Option Letter)
-      → CanGoOn left steps stamp now old → left old.seat.node ≤ left new.seat.node + 1 → IsMade stands_for at disks size old new stamp now why event (Ok letter)
+  goes_made : (state : N → NodeState) (old new : Member N K) (why : Cause) (event : Event) (letter : Option Letter)
+      → CanGoOn left steps stamp now old → left old.seat.node ≤ left new.seat.node + 1 → IsMade state old new stamp now why event (Ok letter)
       → CanGoOn left steps (stamp + 1) now new
-  goes_made stands_for at disks size old new why event letter g counted (step, e) = goes_with old new (at old.seat.node) why step g e.printed counted
+  goes_made state old new why event letter g counted (step, e) = goes_with old new (state old.seat.node).place why step g e.printed counted
 
 -- ---- a later moment
 
@@ -127,11 +124,11 @@ module _ {D K : Type 0} (state : D → DiskState) (managers resources stamp now 
 
   -- of the coordinator
   pub goes_coordinator : (new : Member (Coordinator D) K) (r : Result (Option Letter) RunFault) → coordinator.steps_left old.coordinator.seat.node ≤ coordinator.steps_left new.seat.node + 1
-      → StaysItself stepping.stands_at coordinator.serves (coordinator.disks_of state) old.coordinator.seat.node new.seat.node
-      → IsMade (coordinator.StandsAs state) stepping.stands_at (coordinator.disks_of state) (coordinator.size_of state) old.coordinator new stamp now why event r
+      → StaysItself (coordinator.node_state state old.coordinator.seat.node) (coordinator.node_state state new.seat.node)
+      → IsMade (coordinator.node_state state) old.coordinator new stamp now why event r
       → OnOk r (NodesGo managers resources (stamp + 1) now (with_coordinator old new))
   goes_coordinator new (Ok letter) counted same made = record {
-    coordinator = goes_made coordinator.steps_left NODE_STEPS stamp now (coordinator.StandsAs state) stepping.stands_at (coordinator.disks_of state) (coordinator.size_of state)
+    coordinator = goes_made coordinator.steps_left NODE_STEPS stamp now (coordinator.node_state state)
         old.coordinator new why event letter g.coordinator counted made;
     serving = λ given may framable. same.same_inputs given (g.serving given may framable);
     resource_count = g.resource_count;
@@ -144,8 +141,8 @@ module _ {D K : Type 0} (state : D → DiskState) (managers resources stamp now 
   -- of the k-th resource
   module _ (k : ℕ) (before after : Member (Resource D) K) (list : Vec (Member (Resource D) K) Global) (placed : slice_get old.resources.items k ≡ Some before) (changed : list.items ≡ set old.resources.items k after) where
     pub goes_resource : (r : Result (Option Letter) RunFault) → shown.steps_left before.seat.node ≤ shown.steps_left after.seat.node + 1
-        → StaysItself shown.stands_at resource.serves (shown.disks_of state) before.seat.node after.seat.node
-        → IsMade (resource.StandsAs state) shown.stands_at (shown.disks_of state) (shown.size_of state) before after stamp now why event r
+        → StaysItself (resource.node_state state before.seat.node) (resource.node_state state after.seat.node)
+        → IsMade (resource.node_state state) before after stamp now why event r
         → OnOk r (NodesGo managers resources (stamp + 1) now (with_resources old list))
     goes_resource (Ok letter) counted same made = record {
       coordinator = next_coordinator;
@@ -160,7 +157,7 @@ module _ {D K : Type 0} (state : D → DiskState) (managers resources stamp now 
         this =
             let kept = g.each_resource k before placed in
             record {
-              goes = goes_made shown.steps_left NODE_STEPS stamp now (resource.StandsAs state) shown.stands_at (shown.disks_of state) (shown.size_of state) before after why event letter kept.goes counted made;
+              goes = goes_made shown.steps_left NODE_STEPS stamp now (resource.node_state state) before after why event letter kept.goes counted made;
               at = same.same_place ∙ kept.at;
               serving = λ given serves. same.same_inputs given (kept.serving given serves);
             }
@@ -177,8 +174,8 @@ module _ {D K : Type 0} (state : D → DiskState) (managers resources stamp now 
 
   -- of the k-th manager
   module _ (k : ℕ) (before after : Member Manager K) (list : Vec (Member Manager K) Global) (placed : slice_get old.managers.items k ≡ Some before) (changed : list.items ≡ set old.managers.items k after) where
-    pub goes_manager : (r : Result (Option Letter) RunFault) → manager.steps_of before.seat.node ≤ manager.steps_of after.seat.node + 1 → manager_at after.seat.node ≡ manager_at before.seat.node
-        → IsMade manager.StandsAs manager_at manager_disks manager_size before after stamp now why event r → OnOk r (NodesGo managers resources (stamp + 1) now (with_managers old list))
+    pub goes_manager : (r : Result (Option Letter) RunFault) → manager.steps_of before.seat.node ≤ manager.steps_of after.seat.node + 1 → (manager.node_state after.seat.node).place ≡ (manager.node_state before.seat.node).place
+        → IsMade manager.node_state before after stamp now why event r → OnOk r (NodesGo managers resources (stamp + 1) now (with_managers old list))
     goes_manager (Ok letter) counted same made = record {
       coordinator = next_coordinator;
       serving = g.serving;
@@ -192,7 +189,7 @@ module _ {D K : Type 0} (state : D → DiskState) (managers resources stamp now 
         this =
             let kept = g.each_manager k before placed in
             record {
-              goes = goes_made manager.steps_of NODE_STEPS stamp now manager.StandsAs manager_at manager_disks manager_size before after why event letter kept.goes counted made;
+              goes = goes_made manager.steps_of NODE_STEPS stamp now manager.node_state before after why event letter kept.goes counted made;
               number = same_number (manager.settings after.seat.node).number (manager.settings before.seat.node).number same ∙ kept.number;
             }
           where

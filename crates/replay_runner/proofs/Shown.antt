@@ -14,14 +14,14 @@ use Rattle.history_rules.specs.Devices.{last_pick}
 use Rattle.history_rules.specs.Nodes.{Role, counted_at, no_past, role_at}
 use Rattle.history_rules.specs.Nodes.{Coordinator as CoordinatorRole, Manager as ManagerRole, Resource as ResourceRole}
 use Rattle.history_rules.specs.Histories.{Moment, own}
-use Rattle.history_text.specs.Durable.{AreNodeDisks}
+use Rattle.node_steps.specs.Durable.{AreNodeDisks}
 use Rattle.history_text.specs.Worlds.{world_of}
 use Rattle.coordinator_core.specs.declared.nodes.Coordinator.{Coordinator}
 use Rattle.coordinator_core.specs.Standing as coordinator
-use Rattle.coordinator_core.specs.NodeLaws.{device as coordinator_device}
+use Rattle.coordinator_core.specs.NodeLaws.{lawful as coordinator_lawful}
 use Rattle.resource_core.specs.declared.nodes.Resource.{Resource}
 use Rattle.resource_core.specs.NodeStanding as resource
-use Rattle.resource_core.specs.NodeLaws.{device as resource_device}
+use Rattle.resource_core.specs.NodeLaws.{lawful as resource_lawful}
 use Rattle.resource_core.specs.Shown as shown
 use Rattle.manager_core.specs.declared.nodes.Manager.{Manager}
 use Rattle.manager_core.specs.Standing as manager
@@ -41,27 +41,27 @@ use Rattle.replay_runner.proofs.Roles.{role_of_resource}
 
 module _ {D : Type 0} (state : D → DiskState) where
   coordinator_shows : (c : Coordinator D) (role : Role) (owns : List Own) → coordinator.StandsAs state c role owns → AreNodeDisks role owns (pair_of state (coordinator_disks c))
-  coordinator_shows c (CoordinatorRole times past) owns stands = let d = coordinator_device state c (CoordinatorRole times past) owns stands in record { images = d.images; counted = d.counted }
+  coordinator_shows c (CoordinatorRole times past) owns stands = let d = (coordinator_lawful state c).device (CoordinatorRole times past) owns stands in record { images = d.images; counted = d.counted }
   coordinator_shows c (ResourceRole setup past) owns stands = absurd stands
   coordinator_shows c (ManagerRole settings) owns stands = absurd stands
 
   coordinator_leaves : (c : Coordinator D) (role : Role) (owns : List Own) → coordinator.StandsAs state c role owns → HaveLast (last_pick owns) (coordinator.disks_of state c)
       → AreLeft role owns (pair_of state (coordinator_disks c))
   coordinator_leaves c (CoordinatorRole times past) owns stands last =
-      let d = coordinator_device state c (CoordinatorRole times past) owns stands in
+      let d = (coordinator_lawful state c).device (CoordinatorRole times past) owns stands in
       record { images = d.images; counted = let counted = d.counted in omega (arith, counted); picked = λ pick e. last pick e }
   coordinator_leaves c (ResourceRole setup past) owns stands last = absurd stands
   coordinator_leaves c (ManagerRole settings) owns stands last = absurd stands
 
   resource_shows : (r : Resource D) (role : Role) (owns : List Own) → resource.StandsAs state r role owns → AreNodeDisks role owns (pair_of state (resource_disks r))
-  resource_shows r (ResourceRole setup past) owns stands = let d = resource_device state r (ResourceRole setup past) owns stands in record { images = d.images; counted = d.counted }
+  resource_shows r (ResourceRole setup past) owns stands = let d = (resource_lawful state r).device (ResourceRole setup past) owns stands in record { images = d.images; counted = d.counted }
   resource_shows r (CoordinatorRole times past) owns stands = absurd stands
   resource_shows r (ManagerRole settings) owns stands = absurd stands
 
   resource_leaves : (r : Resource D) (role : Role) (owns : List Own) → resource.StandsAs state r role owns → HaveLast (last_pick owns) (shown.disks_of state r)
       → AreLeft role owns (pair_of state (resource_disks r))
   resource_leaves r (ResourceRole setup past) owns stands last =
-      let d = resource_device state r (ResourceRole setup past) owns stands in
+      let d = (resource_lawful state r).device (ResourceRole setup past) owns stands in
       record { images = d.images; counted = let counted = d.counted in omega (arith, counted); picked = λ pick e. last pick e }
   resource_leaves r (CoordinatorRole times past) owns stands last = absurd stands
   resource_leaves r (ManagerRole settings) owns stands last = absurd stands

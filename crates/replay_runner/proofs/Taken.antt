@@ -1,198 +1,141 @@
 -- Of how many nodes the disks were taken.
-use Rattle.std.proofs.Common.{◌≡◌, ◌≢◌, ◌⊎◌, inl, inr, ◌+◌, ◌<◌, ◌≤◌, ℕ, zero, suc, nat_lt, Bool, true, false, List, length, slice_get, Some, refl, ap, sym, subst, ◌∙◌, arith}
+use Rattle.std.proofs.Common.{◌≡◌, ◌⊎◌, ⊎_elim, inl, inr, ◌+◌, ◌<◌, ◌≤◌, ℕ, zero, suc, nat_lt, Bool, true, false, List, length, slice_get, Some, refl, ap, sym, subst, ◌∙◌, arith}
 use Rattle.std.proofs.lemmas.Bool.Decides.{nat_tests}
 use Rattle.std.proofs.lemmas.List.{length-map}
 use Rattle.std.proofs.lemmas.Option.{same_Some, slice_get-map, slice_get_within}
+use Rattle.disk_model.specs.Shelf.{KeepsOthers, SamePlaces, ShelfState}
 use Rattle.scenario_form.specs.declared.scenarios.ResourceDef.{ResourceDef}
 use Rattle.scenario_form.specs.declared.scenarios.Scenario.{Scenario}
 use Rattle.scenario_form.specs.Runnable.{IsRunnable, resource_name}
 use Rattle.coordinator_core.specs.declared.nodes.Coordinator.{Coordinator}
 use Rattle.resource_core.specs.declared.nodes.Resource.{Resource}
-use Rattle.scenario_nodes.specs.Shelves.{HasBoth, IsDiskName, SamePlaces, coordinator_name, second_name}
+use Rattle.scenario_nodes.specs.Shelves.{HasBoth, IsDiskName, coordinator_name, second_name}
+use Rattle.scenario_nodes.proofs.Returned.{keeps_then}
 use Rattle.replay_runner.specs.declared.members.Member.{Member}
 use Rattle.replay_runner.specs.Leaving.{AreTaken, server_names}
-use Rattle.replay_runner.specs.Opened.{HaveTaken, IsOfOne, server_disks}
-use Rattle.replay_runner.proofs.Closed.{count_servers, taken_more}
-use Rattle.replay_runner.proofs.Names.{coordinator_apart, next_of_none}
-use Rattle.replay_runner.proofs.Returning.{of_more}
+use Rattle.replay_runner.specs.OnShelves.{without_places}
+use Rattle.replay_runner.specs.Opened.{HaveTaken, IsOfOne, IsOfServer, server_disks}
+use Rattle.replay_runner.proofs.Closed.{both_stay_taken, count_servers, taken_more, taken_stay}
+use Rattle.replay_runner.proofs.Names.{next_of_none, of_more_servers}
 use Rattle.replay_runner.proofs.Roles.{from_map}
 
 -- the resource behind the coordinator, among the names
 resource_at : (s : Scenario) (k : ℕ) (name : List ℕ) → slice_get (server_names s) (suc k) ≡ Some name → (def : ResourceDef) × (slice_get s.resources k ≡ Some def) × (name ≡ def.name)
 resource_at s k name here = from_map resource_name (slice_get s.resources k) name (sym (slice_get-map resource_name s.resources k) ∙ here)
 
--- ---- names of other nodes
+-- ---- places that were made for the coordinator and so many resources
 
-module _ (s : Scenario) (runs : IsRunnable s) (k : ℕ) (def : ResourceDef) (here : slice_get s.resources k ≡ Some def) where
-  -- the second disk of a resource has no name of a disk of the coordinator
-  not_coordinator : IsDiskName coordinator_name (second_name def.name) → ⊥
-  not_coordinator (inl same) = (coordinator_apart s runs k def here).other (sym same)
-  not_coordinator (inr same) = (coordinator_apart s runs k def here).seconds (sym same)
+module _ {D : Type 0} (s : Scenario) (runs : IsRunnable s) (old new : ShelfState D) (count : ℕ) (made : (n : List ℕ) → new.has_place n → old.has_place n ⊎ IsOfServer s.resources count n) where
+  -- none is the second one of a node behind them
+  beyond : (k : ℕ) (def : ResourceDef) → count ≤ k → slice_get s.resources k ≡ Some def → new.has_place (second_name def.name) → old.has_place (second_name def.name)
+  beyond k def past here has =
+      ⊎_elim (λ had. had) (λ its. absurd (next_of_none s runs k def here (second_name def.name) (inr refl) (of_more_servers s.resources count k past (second_name def.name) its))) (made (second_name def.name) has)
 
-  -- nor one of a resource before it
-  pub not_before : (count : ℕ) → count ≤ k → IsOfOne s.resources count (second_name def.name) → ⊥
-  not_before count past o = by o.named
-    where
-      away : (second_name def.name ≢ o.def.name) × (second_name def.name ≢ second_name o.def.name)
-      away = (next_of_none s runs k def here).1 o.k o.def (let below = o.below in omega (arith, below, past)) o.there
-
-      by : IsDiskName o.def.name (second_name def.name) → ⊥
-      by (inl same) = away.0 same
-      by (inr same) = away.1 same
+  behind : (k : ℕ) (name : List ℕ) → count + 1 ≤ k → slice_get (server_names s) k ≡ Some name → new.has_place (second_name name) → old.has_place (second_name name)
+  behind zero name past here = absurd (omega (arith, past))
+  behind (suc k) name past here =
+      let (def, there, same) = resource_at s k name here in
+      subst (λ n. new.has_place (second_name n) → old.has_place (second_name n)) (sym same) (beyond k def (omega (arith, past)) there)
 
 -- ---- the coordinator
 
-module _ (s : Scenario) (had has : List ℕ → Type 0) where
-  -- no disk was taken
-  pub none_taken : ((n : List ℕ) → has n → had n) → AreTaken had has s 0
-  none_taken none = record { both = λ k name below here. absurd (omega (arith, below)); no_more = λ k name past here has_it. none (second_name name) has_it }
+-- no disk was taken
+pub none_taken : {D : Type 0} (s : Scenario) (shelf : ShelfState D) → AreTaken shelf shelf s 0
+none_taken s shelf = record { both = λ k name below here. absurd (omega (arith, below)); no_more = λ k name past here has. has }
 
-  module _ (runs : IsRunnable s) (made : (n : List ℕ) → has n → had n ⊎ IsDiskName coordinator_name n) where
-    later : (k : ℕ) (def : ResourceDef) → slice_get s.resources k ≡ Some def → has (second_name def.name) → had (second_name def.name)
-    later k def here has_it = by (made (second_name def.name) has_it)
-      where
-        by : had (second_name def.name) ⊎ IsDiskName coordinator_name (second_name def.name) → had (second_name def.name)
-        by (inl had_it) = had_it
-        by (inr named) = absurd (not_coordinator s runs k def here named)
+module _ {D : Type 0} (s : Scenario) (runs : IsRunnable s) (old new : ShelfState D) (keeps : KeepsOthers (IsDiskName coordinator_name) old new) where
+  made_first : (n : List ℕ) → new.has_place n → old.has_place n ⊎ IsOfServer s.resources 0 n
+  made_first n has = ⊎_elim (λ had. inl had) (λ named. inr (inl named)) (keeps.made n has)
 
-    behind : (k : ℕ) (name : List ℕ) → slice_get (server_names s) (suc k) ≡ Some name → has (second_name name) → had (second_name name)
-    behind k name here =
-        let (def, there, same) = resource_at s k name here in
-        subst (λ n. has (second_name n) → had (second_name n)) (sym same) (later k def there)
+  -- its second disk wasn't had
+  pub not_coordinators : (new.has_place (second_name coordinator_name) → old.has_place (second_name coordinator_name)) → AreTaken old new s 0
+  not_coordinators not_made = record { both = λ k name below here. absurd (omega (arith, below)); no_more = by }
+    where
+      by : (k : ℕ) (name : List ℕ) → 0 ≤ k → slice_get (server_names s) k ≡ Some name → new.has_place (second_name name) → old.has_place (second_name name)
+      by zero name past here = subst (λ n. new.has_place (second_name n) → old.has_place (second_name n)) (same_Some coordinator_name name here) not_made
+      by (suc k) name past here = behind s runs old new 0 made_first (suc k) name (omega arith) here
 
-    -- its second disk wasn't had
-    pub not_coordinators : (has (second_name coordinator_name) → had (second_name coordinator_name)) → AreTaken had has s 0
-    not_coordinators not_made = record { both = λ k name below here. absurd (omega (arith, below)); no_more = by }
-      where
-        by : (k : ℕ) (name : List ℕ) → 0 ≤ k → slice_get (server_names s) k ≡ Some name → has (second_name name) → had (second_name name)
-        by zero name past here = subst (λ n. has (second_name n) → had (second_name n)) (same_Some coordinator_name name here) not_made
-        by (suc k) name past here = behind k name here
-
-    -- both its disks were, and none behind it
-    pub coordinators_alone : HasBoth has coordinator_name → AreTaken had has s 1
-    coordinators_alone taken = record { both = both; no_more = more }
-      where
-        both : (k : ℕ) (name : List ℕ) → k < 1 → slice_get (server_names s) k ≡ Some name → HasBoth has name
-        both zero name below here = subst (HasBoth has) (same_Some coordinator_name name here) taken
-        both (suc k) name below here = absurd (omega (arith, below))
-
-        more : (k : ℕ) (name : List ℕ) → 1 ≤ k → slice_get (server_names s) k ≡ Some name → has (second_name name) → had (second_name name)
-        more zero name past here = absurd (omega (arith, past))
-        more (suc k) name past here = behind k name here
+  -- both its disks were, and none behind it
+  pub coordinators_alone : HasBoth new coordinator_name → AreTaken old new s 1
+  coordinators_alone taken = record { both = both; no_more = behind s runs old new 0 made_first }
+    where
+      both : (k : ℕ) (name : List ℕ) → k < 1 → slice_get (server_names s) k ≡ Some name → HasBoth new name
+      both zero name below here = subst (HasBoth new) (same_Some coordinator_name name here) taken
+      both (suc k) name below here = absurd (omega (arith, below))
 
 -- ---- the coordinator and resources
 
 -- both disks of the first nodes
-pub both_first : (s : Scenario) (has : List ℕ → Type 0) (count : ℕ) → HaveTaken has s.resources count → (k : ℕ) (name : List ℕ) → k < count + 1 → slice_get (server_names s) k ≡ Some name → HasBoth has name
-both_first s has count taken zero name below here = subst (HasBoth has) (same_Some coordinator_name name here) taken.coordinator
-both_first s has count taken (suc k) name below here =
+both_first : {D : Type 0} (s : Scenario) (shelf : ShelfState D) (count : ℕ) → HaveTaken shelf s.resources count → (k : ℕ) (name : List ℕ) → k < count + 1 → slice_get (server_names s) k ≡ Some name → HasBoth shelf name
+both_first s shelf count taken zero name below here = subst (HasBoth shelf) (same_Some coordinator_name name here) taken.coordinator
+both_first s shelf count taken (suc k) name below here =
     let (def, there, same) = resource_at s k name here in
-    subst (HasBoth has) (sym same) (taken.resources k def (omega (arith, below)) there)
+    subst (HasBoth shelf) (sym same) (taken.resources k def (omega (arith, below)) there)
 
 -- those that stay
-taken_still : (s : Scenario) (had has : List ℕ → Type 0) (count : ℕ) → SamePlaces had has → HaveTaken had s.resources count → HaveTaken has s.resources count
-taken_still s had has count same taken = record {
-  coordinator = record { first = (same coordinator_name).1 taken.coordinator.first; second = (same (second_name coordinator_name)).1 taken.coordinator.second };
-  resources = λ k def below here. let both = taken.resources k def below here in record { first = (same def.name).1 both.first; second = (same (second_name def.name)).1 both.second };
+taken_still : {D : Type 0} (s : Scenario) (old new : ShelfState D) (count : ℕ) → SamePlaces old new → HaveTaken old s.resources count → HaveTaken new s.resources count
+taken_still s old new count same taken = record {
+  coordinator = both_stay_taken old new coordinator_name (λ n. (same n).1) taken.coordinator;
+  resources = taken_stay old new s.resources count (λ n. (same n).1) taken.resources;
 }
 
--- of all nodes, whatever had a place before
-pub all_taken : (s : Scenario) (old had has : List ℕ → Type 0) (count : ℕ) → count ≡ length s.resources + 1 → SamePlaces had has → HaveTaken had s.resources (length s.resources) → AreTaken old has s count
-all_taken s old had has count all same taken = record {
-  both = λ k name below here. both_first s has (length s.resources) (taken_still s had has (length s.resources) same taken) k name (omega (arith, below, all)) here;
-  no_more = λ k name past here. absurd (
-      let within = slice_get_within (server_names s) k name here in
-      let size = length-map s.resources resource_name in
-      omega (arith, within, size, past, all));
-}
+-- those of all nodes, which are closed together, whatever had a place before
+pub taken_servers : {D K : Type 0} (s : Scenario) (c : Coordinator D) (resources : List (Member (Resource D) K)) (before old new : ShelfState D) → length resources ≡ length s.resources → SamePlaces old new
+    → HaveTaken old s.resources (length s.resources) → AreTaken before new s (length (server_disks c resources))
+taken_servers s c resources before old new count same taken =
+    let servers = count_servers c resources in record {
+      both = λ k name below here. both_first s new (length s.resources) (taken_still s old new (length s.resources) same taken) k name (omega (arith, below, servers, count)) here;
+      no_more = λ k name past here has. absurd (
+          let within = slice_get_within (server_names s) k name here in
+          let size = length-map s.resources resource_name in
+          omega (arith, within, size, past, servers, count));
+    }
 
--- those of nodes that are closed together
-pub taken_servers : {D K : Type 0} (s : Scenario) (c : Coordinator D) (resources : List (Member (Resource D) K)) (old had has : List ℕ → Type 0) → length resources ≡ length s.resources → SamePlaces had has
-    → HaveTaken had s.resources (length s.resources) → AreTaken old has s (length (server_disks c resources))
-taken_servers s c resources old had has count same taken =
-    let size = count_servers s c resources (omega (arith, count)) true (λ n d. ⊥) in
-    all_taken s old had has (length (server_disks c resources)) (omega (arith, size, count)) same taken
-
--- whatever had a place before, where this is said as of no places
-pub taken_on : (s : Scenario) (had has : List ℕ → Type 0) (count : ℕ) → AreTaken (λ n. ⊥) has s count → AreTaken had has s count
-taken_on s had has count t = record { both = t.both; no_more = λ k name past here has_it. absurd (t.no_more k name past here has_it) }
+-- where this is said as of no places
+pub taken_on : {D : Type 0} (s : Scenario) (old now new : ShelfState D) (count : ℕ) → AreTaken (without_places now) new s count → AreTaken old new s count
+taken_on s old now new count t = record { both = t.both; no_more = λ k name past here has. absurd (t.no_more k name past here has) }
 
 -- The coordinator was opened, and so many resources; then came what was asked for the next one, and the disks that were taken were given back.
-module _ (s : Scenario) (runs : IsRunnable s) (had first asked has : List ℕ → Type 0) (count : ℕ) (made_first : (n : List ℕ) → first n → had n ⊎ IsDiskName coordinator_name n)
-    (made_then : (n : List ℕ) → asked n → first n ⊎ IsOfOne s.resources (count + 1) n) (same : SamePlaces asked has) (taken : HaveTaken asked s.resources count) where
-  at_first : (k : ℕ) (def : ResourceDef) → slice_get s.resources k ≡ Some def → first (second_name def.name) → had (second_name def.name)
-  at_first k def here there = later s had first runs made_first k def here there
-
-  -- of the nodes behind all that were asked for
-  beyond : (k : ℕ) (def : ResourceDef) → count + 1 ≤ k → slice_get s.resources k ≡ Some def → has (second_name def.name) → had (second_name def.name)
-  beyond k def past here has_it = by (made_then (second_name def.name) ((same (second_name def.name)).0 has_it))
-    where
-      by : first (second_name def.name) ⊎ IsOfOne s.resources (count + 1) (second_name def.name) → had (second_name def.name)
-      by (inl there) = at_first k def here there
-      by (inr o) = absurd (not_before s runs k def here (count + 1) past o)
+module _ {D : Type 0} (s : Scenario) (runs : IsRunnable s) (old begun asked new : ShelfState D) (count : ℕ) (one : KeepsOthers (IsDiskName coordinator_name) old begun)
+    (more : KeepsOthers (IsOfOne s.resources (count + 1)) begun asked) (same : SamePlaces asked new) (taken : HaveTaken asked s.resources count) where
+  made_all : (n : List ℕ) → new.has_place n → old.has_place n ⊎ IsOfServer s.resources (count + 1) n
+  made_all n has =
+      (keeps_then (IsDiskName coordinator_name) (IsOfOne s.resources (count + 1)) (IsOfServer s.resources (count + 1)) old begun asked (λ n named. inl named) (λ n o. inr o) one more).made n ((same n).0 has)
 
   -- its disks weren't had
-  pub next_not_taken : (def : ResourceDef) → slice_get s.resources count ≡ Some def → (asked (second_name def.name) → first (second_name def.name)) → AreTaken had has s (count + 1)
-  next_not_taken def there not_made = record { both = both_first s has count (taken_still s asked has count same taken); no_more = more }
+  pub next_not_taken : (def : ResourceDef) → slice_get s.resources count ≡ Some def → (asked.has_place (second_name def.name) → begun.has_place (second_name def.name)) → AreTaken old new s (count + 1)
+  next_not_taken def there not_made = record { both = both_first s new count (taken_still s asked new count same taken); no_more = no_more }
     where
-      at : (k : ℕ) (other : ResourceDef) → count ≤ k → slice_get s.resources k ≡ Some other → (b : Bool) → nat_lt count k ≡ b → has (second_name other.name) → had (second_name other.name)
-      at k other past here true e has_it = beyond k other (let above : count < k = grind (arith, nat_tests) in omega (arith, above)) here has_it
-      at k other past here false e has_it =
+      at : (k : ℕ) (other : ResourceDef) → count ≤ k → slice_get s.resources k ≡ Some other → (b : Bool) → nat_lt count k ≡ b → new.has_place (second_name other.name) → old.has_place (second_name other.name)
+      at k other past here true e has = beyond s runs old new (count + 1) made_all k other (let above : count < k = grind (arith, nat_tests) in omega (arith, above)) here has
+      at k other past here false e has =
           let low : k ≤ count = grind (arith, nat_tests) in
           let end : k ≡ count = omega (arith, past, low) in
           let is : def ≡ other = same_Some def other (sym there ∙ ap (slice_get s.resources) (sym end) ∙ here) in
-          at_first k other here (subst (λ (d : ResourceDef). asked (second_name d.name) → first (second_name d.name)) is not_made ((same (second_name other.name)).0 has_it))
+          beyond s runs old begun 0 (made_first s runs old begun one) k other (omega arith) here
+          (subst (λ (d : ResourceDef). asked.has_place (second_name d.name) → begun.has_place (second_name d.name)) is not_made ((same (second_name other.name)).0 has))
 
-      more : (k : ℕ) (name : List ℕ) → count + 1 ≤ k → slice_get (server_names s) k ≡ Some name → has (second_name name) → had (second_name name)
-      more zero name past here = absurd (omega (arith, past))
-      more (suc k) name past here =
+      no_more : (k : ℕ) (name : List ℕ) → count + 1 ≤ k → slice_get (server_names s) k ≡ Some name → new.has_place (second_name name) → old.has_place (second_name name)
+      no_more zero name past here = absurd (omega (arith, past))
+      no_more (suc k) name past here =
           let (other, found, is) = resource_at s k name here in
-          subst (λ n. has (second_name n) → had (second_name n)) (sym is) (at k other (omega (arith, past)) found (nat_lt count k) refl)
+          subst (λ n. new.has_place (second_name n) → old.has_place (second_name n)) (sym is) (at k other (omega (arith, past)) found (nat_lt count k) refl)
 
   -- they were, and no node was opened on them
-  pub next_taken_too : (def : ResourceDef) → slice_get s.resources count ≡ Some def → HasBoth asked def.name → AreTaken had has s (count + 2)
-  next_taken_too def there both = record { both = λ k name below here. both_first s has (count + 1) all k name (omega (arith, below)) here; no_more = more }
+  pub next_taken_too : (def : ResourceDef) → slice_get s.resources count ≡ Some def → HasBoth asked def.name → AreTaken old new s (count + 2)
+  next_taken_too def there both = record {
+    both = λ k name below here. both_first s new (count + 1) all k name (omega (arith, below)) here;
+    no_more = λ k name past here. behind s runs old new (count + 1) made_all k name (omega (arith, past)) here;
+  }
     where
-      all : HaveTaken has s.resources (count + 1)
-      all = taken_still s asked has (count + 1) same (record {
+      all : HaveTaken new s.resources (count + 1)
+      all = taken_still s asked new (count + 1) same (record {
         coordinator = taken.coordinator;
         resources = taken_more asked asked s.resources count (count + 1) def (λ n here. here) taken.resources there both refl;
       })
 
-      more : (k : ℕ) (name : List ℕ) → count + 2 ≤ k → slice_get (server_names s) k ≡ Some name → has (second_name name) → had (second_name name)
-      more zero name past here = absurd (omega (arith, past))
-      more (suc k) name past here =
-          let (other, found, is) = resource_at s k name here in
-          subst (λ n. has (second_name n) → had (second_name n)) (sym is) (beyond k other (omega (arith, past)) found)
-
--- ---- the next resource, among those that were opened one after the other
-
--- a second place of it was there before the others were opened
-pub second_since : (s : Scenario) → IsRunnable s → (count : ℕ) (def : ResourceDef) → slice_get s.resources count ≡ Some def → (had now : List ℕ → Type 0)
-    → ((n : List ℕ) → now n → had n ⊎ IsOfOne s.resources count n) → now (second_name def.name) → had (second_name def.name)
-second_since s runs count def here had now made there = by (made (second_name def.name) there)
-  where
-    by : had (second_name def.name) ⊎ IsOfOne s.resources count (second_name def.name) → had (second_name def.name)
-    by (inl had_it) = had_it
-    by (inr o) = absurd (not_before s runs count def here count (omega arith) o)
-
--- said of more resources
-pub made_wider : (defs : List ResourceDef) (had has : List ℕ → Type 0) (count more : ℕ) → count ≤ more → ((n : List ℕ) → has n → had n ⊎ IsOfOne defs count n) → (n : List ℕ) → has n → had n ⊎ IsOfOne defs more n
-made_wider defs had has count more few made n there = by (made n there)
-  where
-    by : had n ⊎ IsOfOne defs count n → had n ⊎ IsOfOne defs more n
-    by (inl had_it) = inl had_it
-    by (inr o) = inr (of_more defs count more few n o)
-
--- one resource more was asked for
-pub made_since : (defs : List ResourceDef) (had now has : List ℕ → Type 0) (count next : ℕ) → count ≤ next → ((n : List ℕ) → now n → had n ⊎ IsOfOne defs count n)
-    → ((n : List ℕ) → has n → now n ⊎ IsOfOne defs next n) → (n : List ℕ) → has n → had n ⊎ IsOfOne defs next n
-made_since defs had now has count next few made more n there = by (more n there)
-  where
-    earlier : had n ⊎ IsOfOne defs count n → had n ⊎ IsOfOne defs next n
-    earlier (inl had_it) = inl had_it
-    earlier (inr o) = inr (of_more defs count next few n o)
-
-    by : now n ⊎ IsOfOne defs next n → had n ⊎ IsOfOne defs next n
-    by (inl there_now) = earlier (made n there_now)
-    by (inr o) = inr o
+-- the second place of the next resource was there before the others were opened
+pub second_since : {D : Type 0} (s : Scenario) → IsRunnable s → (old now : ShelfState D) (count : ℕ) → KeepsOthers (IsOfOne s.resources count) old now → (def : ResourceDef) → slice_get s.resources count ≡ Some def
+    → now.has_place (second_name def.name) → old.has_place (second_name def.name)
+second_since s runs old now count keeps def here =
+    beyond s runs old now count (λ n has. ⊎_elim (λ had. inl had) (λ o. inr (inr o)) (keeps.made n has)) count def (omega arith) here

@@ -6,7 +6,7 @@ use Rattle.scenario_form.specs.declared.scenarios.Scenario.{Scenario}
 use Rattle.history_rules.specs.Own.{Event}
 use Rattle.history_rules.specs.Nodes.{Role, no_past, role_at}
 use Rattle.history_rules.specs.Histories.{Moment, own}
-use Rattle.history_text.specs.Durable.{own_faults}
+use Rattle.node_steps.specs.Durable.{own_faults}
 use Rattle.history_text.specs.Worlds.{world_of}
 use Rattle.node_seat.specs.Faults.{Blames}
 use Rattle.node_seat.specs.declared.faults.RunFault.{RunFault}

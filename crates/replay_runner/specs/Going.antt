@@ -15,7 +15,7 @@ use Rattle.scenario_form.specs.Contents.{IsBetween}
 use Rattle.scenario_form.specs.Runnable.{IsPlaceAmong, IsServerAmong}
 use Rattle.durable_records.specs.SessionOrder.{has_resource, is_counted}
 use Rattle.history_text.specs.declared.entries.Cause.{Cause}
-use Rattle.history_text.specs.Framing.{ComesFramable}
+use Rattle.node_steps.specs.Framing.{ComesFramable}
 use Rattle.seata_types.specs.declared.limits.TheConstants.{NODE_STEPS}
 use Rattle.coordinator_core.specs.Standing as coordinator
 use Rattle.resource_core.specs.declared.nodes.Resource.{Resource}

@@ -1,6 +1,7 @@
 -- What a replay leaves on a shelf: the history, and what the disks that are given back show of it.
-use Rattle.std.specs.Prelude.{◌≡◌, ◌⊎◌, ◌+◌, ◌<◌, ◌≤◌, ℕ, zero, suc, Bool, IsTrue, List, [], ◌∷◌, length, map, slice_get, Some, Result, Ok, Err}
+use Rattle.std.specs.Prelude.{◌≡◌, ◌⊎◌, ◌+◌, ◌<◌, ◌≤◌, ℕ, zero, suc, IsTrue, List, [], ◌∷◌, length, map, slice_get, Some, Result, Ok, Err}
 use Rattle.disk_model.specs.Disk.{DiskState, Rose}
+use Rattle.disk_model.specs.Shelf.{ShelfState}
 use Rattle.journal_checkpoint.specs.Images.{Pair}
 use Rattle.seata_types.specs.declared.ids.Place.{Place}
 use Rattle.seata_types.specs.declared.ids.Place.TheVariants as place
@@ -11,15 +12,15 @@ use Rattle.history_rules.specs.Nodes.{Role, Coordinator, Resource, Manager, no_p
 use Rattle.history_rules.specs.Histories.{Moment, own, Legal}
 use Rattle.history_rules.specs.Schedules.{Follows}
 use Rattle.history_text.specs.declared.entries.Entry.{Entry}
-use Rattle.history_text.specs.Durable.{AreCoordinatorDisks, AreNodeDisks, AreResourceDisks, own_faults}
+use Rattle.node_steps.specs.Durable.{AreCoordinatorDisks, AreNodeDisks, AreResourceDisks, own_faults}
 use Rattle.history_text.specs.History.{entries, IsRun}
-use Rattle.history_text.specs.Promises.{no_disks}
+use Rattle.node_steps.specs.Promises.{no_disks}
 use Rattle.history_text.specs.Worlds.{items_of, world_of}
 use Rattle.node_seat.specs.declared.faults.RunFault.{RunFault}
 use Rattle.node_seat.specs.declared.faults.RunFault.TheVariants as fault
 use Rattle.scenario_nodes.specs.Nodes.{HaveSize}
 use Rattle.scenario_nodes.specs.Opening.{HaveNoEntry, IsOpenFault, IsShelfFault}
-use Rattle.scenario_nodes.specs.Shelves.{AllTell, AreGivenBack, HasBoth, IsDiskName, Showing, coordinator_name, pair_of, second_name}
+use Rattle.scenario_nodes.specs.Shelves.{AllTell, AreGivenBack, HasBoth, IsDiskName, coordinator_name, pair_of, second_name}
 use Rattle.replay_runner.specs.Ends.{IsCause}
 
 -- ---- the nodes with disks, in order: the coordinator, and the resources
@@ -43,6 +44,10 @@ abbrev pub disks_in : List Pair → Place → Pair
 disks_in disks place.Tc = nth_pair disks 0
 disks_in disks (place.Res k) = nth_pair disks k
 disks_in disks _ = no_disks
+
+-- the name of a disk of one of these nodes
+abbrev pub IsServerDisk : Scenario → List ℕ → Type 0
+IsServerDisk s name = (k : ℕ) × (node : List ℕ) × (slice_get (server_names s) k ≡ Some node) × IsDiskName node name
 
 -- ---- how a replay ends
 
@@ -106,14 +111,14 @@ Leaves s disks (Err missed) = Broken s disks missed ⊎ Unopened s disks missed
 
 -- Both disks of so many of the first nodes were taken, and no second disk of a node behind them. Where none of these names had a place
 -- before, this says how many nodes they are.
-pub record AreTaken (had has : List ℕ → Type 0) (s : Scenario) (count : ℕ) : Type 0 where
-  pub both : (k : ℕ) (name : List ℕ) → k < count → slice_get (server_names s) k ≡ Some name → HasBoth has name
-  pub no_more : (k : ℕ) (name : List ℕ) → count ≤ k → slice_get (server_names s) k ≡ Some name → has (second_name name) → had (second_name name)
+pub record AreTaken {D : Type 0} (old new : ShelfState D) (s : Scenario) (count : ℕ) : Type 0 where
+  pub both : (k : ℕ) (name : List ℕ) → k < count → slice_get (server_names s) k ≡ Some name → HasBoth new name
+  pub no_more : (k : ℕ) (name : List ℕ) → count ≤ k → slice_get (server_names s) k ≡ Some name → new.has_place (second_name name) → old.has_place (second_name name)
 
 -- these disks of the first nodes were given back, each pair under its node's name
-pub record FirstGivenBack {D : Type 0} (tells : Bool) (given_back : List ℕ → D → Type 0) (s : Scenario) (disks : List (D × D)) : Type 0 where
+pub record FirstGivenBack {D : Type 0} (shelf : ShelfState D) (s : Scenario) (disks : List (D × D)) : Type 0 where
   pub few : length disks ≤ length s.resources + 1
-  pub each : (k : ℕ) (name : List ℕ) (d : D × D) → slice_get (server_names s) k ≡ Some name → slice_get disks k ≡ Some d → AreGivenBack tells given_back name d
+  pub each : (k : ℕ) (name : List ℕ) (d : D × D) → slice_get (server_names s) k ≡ Some name → slice_get disks k ≡ Some d → AreGivenBack shelf name d
 
 -- how many nodes' disks these are: those of all, where the replay was done, and else the coordinator's at least
 abbrev pub IsNodeCount : Scenario → Result (List Entry) RunFault → ℕ → Type 0
@@ -122,42 +127,38 @@ IsNodeCount s (Err missed) count = 1 ≤ count
 
 -- the disks of all nodes that were taken were given back; those that failed counted a fault, and where disks tell their bytes, they show how
 -- the replay ended
-pub record GivesBack {D : Type 0} (state : D → DiskState) (had has : List ℕ → Type 0) (tells : Bool) (given_back : List ℕ → D → Type 0) (s : Scenario) (result : Result (List Entry) RunFault) : Type 0 where
+pub record GivesBack {D : Type 0} (state : D → DiskState) (old new : ShelfState D) (s : Scenario) (result : Result (List Entry) RunFault) : Type 0 where
   pub disks : List (D × D)
-  pub taken : AreTaken had has s (length disks)
-  pub back : FirstGivenBack tells given_back s disks
+  pub taken : AreTaken old new s (length disks)
+  pub back : FirstGivenBack new s disks
   pub count : IsNodeCount s result (length disks)
   pub counted : CountsFailure (map (pair_of state) disks) result
   pub leaves : AllTell state → Leaves s (map (pair_of state) disks) result
 
 -- A disk wasn't had for the next node of the scenario, behind those whose disks were taken and given back: the shelf failed, or memory was
 -- refused. These were opened, and no entry was made, which their disks, of the scenario's size, show.
-pub record IsNotTaken {D : Type 0} (state : D → DiskState) (had has : List ℕ → Type 0) (tells : Bool) (given_back : List ℕ → D → Type 0) (rose : Type 0) (s : Scenario) (missed : RunFault) : Type 0 where
+pub record IsNotTaken {D : Type 0} (state : D → DiskState) (old new : ShelfState D) (s : Scenario) (missed : RunFault) : Type 0 where
   pub disks : List (D × D)
-  pub taken : AreTaken had has s (length disks)
-  pub back : FirstGivenBack tells given_back s disks
+  pub taken : AreTaken old new s (length disks)
+  pub back : FirstGivenBack new s disks
   pub next : length disks < length s.resources + 1
   pub device : AllTell state → ShowOpened s (length disks) (map (pair_of state) disks)
   pub sized : HaveSizes s (map (pair_of state) disks)
-  pub cause : IsShelfFault (server_at (length disks)) rose missed
+  pub cause : IsShelfFault (server_at (length disks)) old new missed
 
-abbrev pub TakesNone : {D : Type 0} → (D → DiskState) → (old new : Showing D) → Scenario → Result (List Entry) RunFault → Type 0
+abbrev pub TakesNone : {D : Type 0} → (D → DiskState) → (old new : ShelfState D) → Scenario → Result (List Entry) RunFault → Type 0
 TakesNone state old new s (Ok es) = ⊥
-TakesNone state old new s (Err missed) = IsNotTaken state old.has_place new.has_place old.tells new.given_back (Rose old.faults new.faults) s missed
+TakesNone state old new s (Err missed) = IsNotTaken state old new s missed
 
 -- what a replay does with a shelf
-abbrev pub Replays : {D : Type 0} → (D → DiskState) → (old new : Showing D) → Scenario → Result (List Entry) RunFault → Type 0
-Replays state old new s result = GivesBack state old.has_place new.has_place old.tells new.given_back s result ⊎ TakesNone state old new s result
+abbrev pub Replays : {D : Type 0} → (D → DiskState) → (old new : ShelfState D) → Scenario → Result (List Entry) RunFault → Type 0
+Replays state old new s result = GivesBack state old new s result ⊎ TakesNone state old new s result
 
 -- ---- where nothing fails
 
--- the name of a disk of one of these nodes
-abbrev pub IsServerDisk : Scenario → List ℕ → Type 0
-IsServerDisk s name = (k : ℕ) × (node : List ℕ) × (slice_get (server_names s) k ≡ Some node) × IsDiskName node name
-
 -- The shelf tells what was given back to it, and its disks their bytes. In a call it didn't fail, and no disk of a node of the scenario
 -- that was given back to it has counted a fault.
-pub record IsCalmShelf {D : Type 0} (state : D → DiskState) (s : Scenario) (old new : Showing D) : Type 0 where
+pub record IsCalmShelf {D : Type 0} (state : D → DiskState) (s : Scenario) (old new : ShelfState D) : Type 0 where
   pub tells : IsTrue old.tells
   pub told : AllTell state
   pub shelf : ¬ Rose old.faults new.faults

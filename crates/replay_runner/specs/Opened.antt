@@ -1,8 +1,8 @@
 -- The nodes of a replay before its first entry, and how their opening ends early.
-use Rattle.std.specs.Prelude.{◌≡◌, ◌≢◌, ◌⊎◌, ◌+◌, ◌<◌, ◌≤◌, ℕ, Bool, List, [], ◌∷◌, length, map, slice_get, Some, String, string_bytes}
+use Rattle.std.specs.Prelude.{◌≡◌, ◌≢◌, ◌⊎◌, ◌+◌, ◌<◌, ◌≤◌, ℕ, List, [], ◌∷◌, length, map, slice_get, Some, String, string_bytes}
 use Rattle.std.specs.declared.alloc.Global.{Global}
 use Rattle.disk_model.specs.Disk.{DiskState}
-use Rattle.seata_types.specs.declared.ids.Place.TheVariants as place
+use Rattle.disk_model.specs.Shelf.{ShelfState}
 use Rattle.scenario_form.specs.declared.scenarios.ManagerDef.{ManagerDef}
 use Rattle.scenario_form.specs.declared.scenarios.ResourceDef.{ResourceDef}
 use Rattle.scenario_form.specs.declared.scenarios.Scenario.{Scenario}
@@ -11,7 +11,7 @@ use Rattle.resource_core.specs.declared.nodes.Resource.{Resource}
 use Rattle.manager_core.specs.declared.nodes.Manager.{Manager}
 use Rattle.node_seat.specs.declared.faults.RunFault.{RunFault}
 use Rattle.scenario_nodes.specs.Nodes.{IsNewCoordinator, IsNewManager, IsNewResource, coordinator_disks, resource_disks, resource_role}
-use Rattle.scenario_nodes.specs.Opening.{IsNotHad, IsReturned}
+use Rattle.scenario_nodes.specs.Opening.{IsNotOpened}
 use Rattle.scenario_nodes.specs.Shelves.{AreGivenBack, HasBoth, IsDiskName, coordinator_name, second_name}
 use Rattle.replay_runner.specs.declared.members.Member.{Member}
 use Rattle.replay_runner.specs.declared.nodes.Nodes.{Nodes}
@@ -45,15 +45,7 @@ pub record AreApart (a b : List ℕ) : Type 0 where
 abbrev pub AreDefsApart : List ResourceDef → Type 0
 AreDefsApart defs = (j k : ℕ) (a b : ResourceDef) → j ≢ k → slice_get defs j ≡ Some a → slice_get defs k ≡ Some b → AreApart a.name b.name
 
--- a name of no disk of the first of these resources
-abbrev pub IsOfNone : List ResourceDef → (count : ℕ) → List ℕ → Type 0
-IsOfNone defs count name = (k : ℕ) (def : ResourceDef) → k < count → slice_get defs k ≡ Some def → (name ≢ def.name) × (name ≢ second_name def.name)
-
--- nor of the coordinator
-abbrev pub IsOfNoServer : List ResourceDef → (count : ℕ) → List ℕ → Type 0
-IsOfNoServer defs count name = (name ≢ coordinator_name) × (name ≢ second_name coordinator_name) × IsOfNone defs count name
-
--- a name of a disk of one of them
+-- a name of a disk of one of the first of these resources
 pub record IsOfOne (defs : List ResourceDef) (count : ℕ) (name : List ℕ) : Type 0 where
   pub k : ℕ
   pub def : ResourceDef
@@ -88,13 +80,13 @@ pub record AreNewNodes {D K : Type 0} (state : D → DiskState) (s : Scenario) (
 -- ---- disks
 
 -- both disks of each of the first of these resources were taken
-abbrev pub HaveBoth : (has_place : List ℕ → Type 0) → List ResourceDef → (count : ℕ) → Type 0
-HaveBoth has_place defs count = (k : ℕ) (def : ResourceDef) → k < count → slice_get defs k ≡ Some def → HasBoth has_place def.name
+abbrev pub HaveBoth : {D : Type 0} → ShelfState D → List ResourceDef → (count : ℕ) → Type 0
+HaveBoth shelf defs count = (k : ℕ) (def : ResourceDef) → k < count → slice_get defs k ≡ Some def → HasBoth shelf def.name
 
 -- so were the coordinator's
-pub record HaveTaken (has_place : List ℕ → Type 0) (defs : List ResourceDef) (count : ℕ) : Type 0 where
-  pub coordinator : HasBoth has_place coordinator_name
-  pub resources : HaveBoth has_place defs count
+pub record HaveTaken {D : Type 0} (shelf : ShelfState D) (defs : List ResourceDef) (count : ℕ) : Type 0 where
+  pub coordinator : HasBoth shelf coordinator_name
+  pub resources : HaveBoth shelf defs count
 
 abbrev pub member_pair : {D K : Type 0} → Member (Resource D) K → D × D
 member_pair m = resource_disks m.seat.node
@@ -104,13 +96,12 @@ abbrev pub server_disks : {D K : Type 0} → Coordinator D → List (Member (Res
 server_disks c resources = coordinator_disks c ∷ map member_pair resources
 
 -- the disks of these resources were given back
-abbrev pub AreReturned : {D K : Type 0} → (tells : Bool) → (List ℕ → D → Type 0) → List ResourceDef → List (Member (Resource D) K) → Type 0
-AreReturned {D} {K} tells given_back defs resources =
-    (k : ℕ) (def : ResourceDef) (m : Member (Resource D) K) → slice_get defs k ≡ Some def → slice_get resources k ≡ Some m
-    → AreGivenBack tells given_back def.name (resource_disks m.seat.node)
+abbrev pub AreReturned : {D K : Type 0} → ShelfState D → List ResourceDef → List (Member (Resource D) K) → Type 0
+AreReturned {D} {K} shelf defs resources =
+    (k : ℕ) (def : ResourceDef) (m : Member (Resource D) K) → slice_get defs k ≡ Some def → slice_get resources k ≡ Some m → AreGivenBack shelf def.name (resource_disks m.seat.node)
 
 -- so many resources were opened, and the next one wasn't
-pub record StopsOpening {D : Type 0} (state : D → DiskState) (had has : List ℕ → Type 0) (tells : Bool) (given_back : List ℕ → D → Type 0) (rose : Type 0) (s : Scenario) (count : ℕ) (missed : RunFault) : Type 0 where
+pub record StopsOpening {D : Type 0} (state : D → DiskState) (old new : ShelfState D) (s : Scenario) (count : ℕ) (missed : RunFault) : Type 0 where
   pub def : ResourceDef
   pub there : slice_get s.resources count ≡ Some def
-  pub refused : IsNotHad (place.Res (count + 1)) rose had has def.name missed ⊎ IsReturned state has tells given_back (resource_role s (count + 1) def) def.name s.disk missed
+  pub refused : IsNotOpened state old new (resource_role s (count + 1) def) def.name s.disk missed

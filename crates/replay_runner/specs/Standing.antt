@@ -9,7 +9,8 @@ use Rattle.history_rules.specs.Own.{Own}
 use Rattle.history_rules.specs.Devices.{last_pick}
 use Rattle.history_rules.specs.Nodes.{Role, counted_at, no_past, role_at}
 use Rattle.history_rules.specs.Histories.{Moment, own}
-use Rattle.history_text.specs.Promises.{AreTold, no_disks}
+use Rattle.node_steps.specs.Nodes.{NodeState}
+use Rattle.node_steps.specs.Promises.{AreTold, no_disks}
 use Rattle.history_text.specs.Worlds.{world_of}
 use Rattle.coordinator_core.specs.Standing as coordinator
 use Rattle.resource_core.specs.declared.nodes.Resource.{Resource}
@@ -26,22 +27,20 @@ use Rattle.replay_runner.specs.Members.{IsMember}
 -- ---- one node
 
 -- a node with disks of so many bytes, which tell their bytes and have the pick of its last restart
-pub record IsServer {N K : Type 0} (stands_for : N → Role → List Own → Type 0) (disks : N → Pair) (p : Place) (role : Role) (bytes : ℕ) (m : Member N K) (ms : List Moment) : Type 0 where
-  pub member : IsMember stands_for p role m ms
-  pub told : AreTold (disks m.seat.node)
-  pub picked : HaveLast (last_pick (own p ms)) (disks m.seat.node)
-  pub sized : HaveSize bytes (disks m.seat.node)
+pub record IsServer {N K : Type 0} (state : N → NodeState) (p : Place) (role : Role) (bytes : ℕ) (m : Member N K) (ms : List Moment) : Type 0 where
+  pub member : IsMember state p role m ms
+  pub told : AreTold (state m.seat.node).disks
+  pub picked : HaveLast (last_pick (own p ms)) (state m.seat.node).disks
+  pub sized : HaveSize bytes (state m.seat.node).disks
 
 -- the node at a place has this role, after these moments
 abbrev pub HasNode : {D K : Type 0} → (D → DiskState) → (bytes : ℕ) → Nodes D K → List Moment → Place → Role → Type 0
 HasNode state bytes n ms place.Net role = ⊥
-HasNode state bytes n ms place.Tc role =
-    IsServer (coordinator.StandsAs state) (coordinator.disks_of state) place.Tc role bytes n.coordinator ms
+HasNode state bytes n ms place.Tc role = IsServer (coordinator.node_state state) place.Tc role bytes n.coordinator ms
 HasNode {D} {K} state bytes n ms (place.Res k) role =
-    (m : Member (Resource D) K) × (counted_at n.resources.items k ≡ Some m)
-    × IsServer (resource.StandsAs state) (shown.disks_of state) (place.Res k) role bytes m ms
+    (m : Member (Resource D) K) × (counted_at n.resources.items k ≡ Some m) × IsServer (resource.node_state state) (place.Res k) role bytes m ms
 HasNode {D} {K} state bytes n ms (place.Man k) role =
-    (m : Member Manager K) × (counted_at n.managers.items k ≡ Some m) × IsMember manager.StandsAs (place.Man k) role m ms
+    (m : Member Manager K) × (counted_at n.managers.items k ≡ Some m) × IsMember manager.node_state (place.Man k) role m ms
 
 -- ---- all nodes of a scenario, after these moments
 
@@ -53,16 +52,16 @@ pub record AreNodes {D K : Type 0} (state : D → DiskState) (s : Scenario) (n :
 -- ---- once a replay has ended
 
 -- a node stands for these own entries, on disks of so many bytes
-pub record StandsOn {N : Type 0} (stands_for : N → Role → List Own → Type 0) (disks : N → Pair) (bytes : ℕ) (node : N) (role : Role) (os : List Own) : Type 0 where
-  pub stands : stands_for node role os
-  pub sized : HaveSize bytes (disks node)
+pub record StandsOn (bytes : ℕ) (node : NodeState) (role : Role) (os : List Own) : Type 0 where
+  pub stands : node.stands_for role os
+  pub sized : HaveSize bytes node.disks
 
 -- so does the node at a place
 abbrev pub StandsAt : {D K : Type 0} → (D → DiskState) → (bytes : ℕ) → Nodes D K → Place → Role → List Own → Type 0
 StandsAt state bytes n place.Net role os = ⊥
-StandsAt state bytes n place.Tc role os = StandsOn (coordinator.StandsAs state) (coordinator.disks_of state) bytes n.coordinator.seat.node role os
+StandsAt state bytes n place.Tc role os = StandsOn bytes (coordinator.node_state state n.coordinator.seat.node) role os
 StandsAt {D} {K} state bytes n (place.Res k) role os =
-    (m : Member (Resource D) K) × (counted_at n.resources.items k ≡ Some m) × StandsOn (resource.StandsAs state) (shown.disks_of state) bytes m.seat.node role os
+    (m : Member (Resource D) K) × (counted_at n.resources.items k ≡ Some m) × StandsOn bytes (resource.node_state state m.seat.node) role os
 StandsAt {D} {K} state bytes n (place.Man k) role os = (m : Member Manager K) × (counted_at n.managers.items k ≡ Some m) × manager.StandsAs m.seat.node role os
 
 -- each node stands for its own, on disks of the scenario's size

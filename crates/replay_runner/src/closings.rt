@@ -6,11 +6,11 @@ ghost use Rattle.history_rules.specs.Histories.{Moment};
 ghost use Rattle.history_text.specs.declared.entries.Entry.{Entry as TheEntry};
 ghost use Rattle.history_text.specs.History.{entries};
 ghost use Rattle.scenario_nodes.specs.Nodes.{resource_disks};
-ghost use Rattle.scenario_nodes.specs.Shelves.{HasBoth, second_name, showing};
+ghost use Rattle.scenario_nodes.specs.Shelves.{AreGivenBack, HasBoth, IsDiskName, second_name};
 ghost use Rattle.replay_runner.specs.Collecting.{AreTraces, AreTracesOf, trace_of};
 ghost use Rattle.replay_runner.specs.Leaving.{FirstGivenBack};
-ghost use Rattle.replay_runner.specs.OnShelves.{ClosesNode, GivesBackOnly};
-ghost use Rattle.replay_runner.specs.Opened.{AreAll, AreDefsApart, AreReturned, HaveBoth, HaveTaken, IsOfNoServer, IsOfNone, IsSecondName, server_disks};
+ghost use Rattle.replay_runner.specs.OnShelves.{GivesBackOnly};
+ghost use Rattle.replay_runner.specs.Opened.{AreAll, AreDefsApart, AreReturned, HaveBoth, HaveTaken, IsOfOne, IsOfServer, IsSecondName, server_disks};
 ghost use Rattle.replay_runner.specs.Traces.{places_of};
 
 use crate::collecting::{Traces, collected, put};
@@ -29,7 +29,8 @@ use std::alloc::Global;
 
 /// Adds a trace, if there is memory.
 fn keep(traces: &mut Vec<Vec<Entry>>, trace: List<Entry>) -> bool
-    ensures { result ≡ true → (kept : TheVec TheEntry TheGlobal) × (kept.items ≡ trace) × (traces.new.items ≡ traces.old.items ++ kept ∷ []) }
+    ensures { result ≡ true → (kept : TheVec TheEntry TheGlobal) × (kept.items ≡ trace)
+        × (traces.new.items ≡ traces.old.items ++ kept ∷ []) }
 {
     put(traces, trace.into_vec()).is_ok()
 }
@@ -43,9 +44,11 @@ fn close_member<H: Shelf, K: RunName>(
     traces: &mut Vec<Vec<Entry>>,
 ) -> bool
     requires second { second.now ≡ second_name def.now.name }
-    requires both { HasBoth (H.has_place shelf.old) def.now.name }
-    ensures closed { ClosesNode def.now.name (resource_disks member.seat.node) (showing H.has_place H.given_back H.faults H.tells shelf.old) (showing H.has_place H.given_back H.faults H.tells shelf.new) }
-    ensures kept { result ≡ true → (kept : TheVec TheEntry TheGlobal) × (kept.items ≡ member.seat.trace) × (traces.new.items ≡ traces.old.items ++ kept ∷ []) }
+    requires both { HasBoth (H.state shelf.old) def.now.name }
+    ensures back { AreGivenBack (H.state shelf.new) def.now.name (resource_disks member.seat.node) }
+    ensures only { GivesBackOnly (IsDiskName def.now.name) (H.state shelf.old) (H.state shelf.new) }
+    ensures kept { result ≡ true → (kept : TheVec TheEntry TheGlobal)
+        × (kept.items ≡ member.seat.trace) × (traces.new.items ≡ traces.old.items ++ kept ∷ []) }
 {
     let (resource, trace) = member.seat.finish();
     close_resource(shelf, def.name.as_str(), second, resource);
@@ -63,9 +66,10 @@ fn close_resources<H: Shelf, K: RunName>(
     requires few { length resources.items ≤ length defs.now }
     requires seconds { AreAll IsSecondName defs.now seconds.now }
     requires apart { AreDefsApart defs.now }
-    requires taken { HaveBoth (H.has_place shelf.old) defs.now (length resources.items) }
-    ensures back { AreReturned (H.tells shelf.old) (H.given_back shelf.new) defs.now resources.items }
-    ensures only { GivesBackOnly (IsOfNone defs.now (length resources.items)) (showing H.has_place H.given_back H.faults H.tells shelf.old) (showing H.has_place H.given_back H.faults H.tells shelf.new) }
+    requires taken { HaveBoth (H.state shelf.old) defs.now (length resources.items) }
+    ensures back { AreReturned (H.state shelf.new) defs.now resources.items }
+    ensures only { GivesBackOnly (IsOfOne defs.now (length resources.items))
+        (H.state shelf.old) (H.state shelf.new) }
     ensures traces { IfOk result (λ traces. AreTracesOf resources.items traces.items) }
 {
     let mut traces = Vec::new(alloc);
@@ -89,9 +93,11 @@ pub fn close_servers<H: Shelf, K: RunName>(
     requires runnable { IsRunnable scenario.now }
     requires few { length resources.items ≤ length scenario.now.resources }
     requires seconds { AreAll IsSecondName scenario.now.resources seconds.now }
-    requires taken { HaveTaken (H.has_place shelf.old) scenario.now.resources (length resources.items) }
-    ensures back { FirstGivenBack (H.tells shelf.old) (H.given_back shelf.new) scenario.now (server_disks coordinator resources.items) }
-    ensures only { GivesBackOnly (IsOfNoServer scenario.now.resources (length resources.items)) (showing H.has_place H.given_back H.faults H.tells shelf.old) (showing H.has_place H.given_back H.faults H.tells shelf.new) }
+    requires taken { HaveTaken (H.state shelf.old) scenario.now.resources (length resources.items) }
+    ensures back { FirstGivenBack (H.state shelf.new) scenario.now
+        (server_disks coordinator resources.items) }
+    ensures only { GivesBackOnly (IsOfServer scenario.now.resources (length resources.items))
+        (H.state shelf.old) (H.state shelf.new) }
     ensures traces { IfOk result (λ traces. AreTracesOf resources.items traces.items) }
 {
     close_coordinator(shelf, coordinator);
@@ -125,10 +131,16 @@ pub fn close<H: Shelf, K: RunName>(
     requires runnable { IsRunnable scenario.now }
     requires few { length run.nodes.resources.items ≤ length scenario.now.resources }
     requires seconds { AreAll IsSecondName scenario.now.resources seconds.now }
-    requires taken { HaveTaken (H.has_place shelf.old) scenario.now.resources (length run.nodes.resources.items) }
-    ensures back { FirstGivenBack (H.tells shelf.old) (H.given_back shelf.new) scenario.now (server_disks run.nodes.coordinator.seat.node run.nodes.resources.items) }
-    ensures only { GivesBackOnly (IsOfNoServer scenario.now.resources (length run.nodes.resources.items)) (showing H.has_place H.given_back H.faults H.tells shelf.old) (showing H.has_place H.given_back H.faults H.tells shelf.new) }
-    ensures history { IfOk result (λ history. (ms : Items Moment) → run.places.items ≡ places_of ms → AreTraces (trace_of run.network.items run.nodes) ms → history ≡ entries ms) }
+    requires taken { HaveTaken (H.state shelf.old) scenario.now.resources
+        (length run.nodes.resources.items) }
+    ensures back { FirstGivenBack (H.state shelf.new) scenario.now
+        (server_disks run.nodes.coordinator.seat.node run.nodes.resources.items) }
+    ensures only { GivesBackOnly
+        (IsOfServer scenario.now.resources (length run.nodes.resources.items))
+        (H.state shelf.old) (H.state shelf.new) }
+    ensures history { IfOk result (λ history. (ms : Items Moment) →
+        run.places.items ≡ places_of ms → AreTraces (trace_of run.network.items run.nodes) ms →
+        history ≡ entries ms) }
 {
     let Run {
         nodes,

@@ -30,14 +30,17 @@ pub fn put<T: Drop>(list: &mut Vec<T>, item: T) -> Result<(), NoMemory>
 
 /// Takes out the newest entry.
 fn pop_entry(trace: &mut Vec<Entry>) -> Option<Entry>
-    ensures { (front : Items TheEntry) (e : TheEntry) → trace.old.items ≡ front ++ e ∷ [] → (result ≡ Some e) × (trace.new.items ≡ front) }
+    ensures { (front : Items TheEntry) (e : TheEntry) → trace.old.items ≡ front ++ e ∷ [] →
+        (result ≡ Some e) × (trace.new.items ≡ front) }
 {
     trace.pop()
 }
 
 /// Takes out the newest entry of one of these traces, counted from 1.
 fn pop_among(traces: &mut Vec<Vec<Entry>>, n: usize) -> Option<Entry>
-    ensures { (front : Items TheEntry) (e : TheEntry) → trace_among traces.old.items n ≡ Some (front ++ e ∷ []) → (result ≡ Some e) × IsShortened traces.old.items traces.new.items n front }
+    ensures { (front : Items TheEntry) (e : TheEntry) →
+        trace_among traces.old.items n ≡ Some (front ++ e ∷ []) →
+        (result ≡ Some e) × IsShortened traces.old.items traces.new.items n front }
 {
     if n == 0 || n > traces.len() {
         return None;
@@ -51,7 +54,8 @@ impl Traces {
 
     /// Takes out the newest entry of a place.
     fn pop(&mut self, place: Place) -> Option<Entry>
-        ensures { (m : Moment) (ms : Items Moment) → AreTraces (trace_at self.old) (m ∷ ms) → m.place ≡ place → (result ≡ Some (entry_of m)) × AreTraces (trace_at self.new) ms }
+        ensures { (m : Moment) (ms : Items Moment) → AreTraces (trace_at self.old) (m ∷ ms) →
+            m.place ≡ place → (result ≡ Some (entry_of m)) × AreTraces (trace_at self.new) ms }
     {
         match place {
             Place::Net => pop_entry(&mut self.network),
@@ -63,7 +67,10 @@ impl Traces {
 
     /// Moves the newest entry of a place behind those of a history.
     fn move_newest(&mut self, place: Place, history: &mut Vec<Entry>) -> Result<(), NoMemory>
-        ensures { OnOk result ((m : Moment) (ms : Items Moment) → AreTraces (trace_at self.old) (m ∷ ms) → m.place ≡ place → (history.new.items ≡ history.old.items ++ entry_of m ∷ []) × AreTraces (trace_at self.new) ms) }
+        ensures { OnOk result ((m : Moment) (ms : Items Moment) →
+            AreTraces (trace_at self.old) (m ∷ ms) → m.place ≡ place →
+            (history.new.items ≡ history.old.items ++ entry_of m ∷ [])
+            × AreTraces (trace_at self.new) ms) }
     {
         match self.pop(place) {
             Some(entry) => put(history, entry),
@@ -82,7 +89,8 @@ fn from_end(places: &[Place], k: usize) -> Place
 
 /// The history whose entries stand at these places one after the other, out of the traces of each place.
 pub fn collected(alloc: Global, places: &[Place], traces: Traces) -> Result<List<Entry>, NoMemory>
-    ensures { IfOk result (λ history. (ms : Items Moment) → places.now ≡ places_of ms → AreTraces (trace_at traces) ms → history ≡ entries ms) }
+    ensures { IfOk result (λ history. (ms : Items Moment) → places.now ≡ places_of ms →
+        AreTraces (trace_at traces) ms → history ≡ entries ms) }
 {
     let mut traces = traces;
     let mut history = Vec::with_capacity(alloc, places.len())?;

@@ -3,8 +3,9 @@ ghost use Rattle.std.specs.Prelude.{◌≡◌};
 ghost use Rattle.replay_runner.specs.Members as members;
 
 use crate::messages::{Letter, letter_of};
-use history_text::{Cause, Node};
+use history_text::Cause;
 use node_seat::{RunFault, RunName, Seat};
+use node_steps::Node;
 use seata_types::Input;
 use std::alloc::Global;
 
@@ -18,7 +19,7 @@ pub struct Member<N: Node, K: RunName> {
 impl<N: Node, K: RunName> Member<N, K> {
     ghost use Rattle.std.specs.Prelude.{◌≡◌, ◌≤◌, ◌+◌, [], Some, IfErr};
     ghost use Rattle.history_rules.specs.Own.{Event};
-    ghost use Rattle.history_text.specs.Promises.{StaysItself};
+    ghost use Rattle.node_steps.specs.Promises.{StaysItself};
     ghost use Rattle.node_seat.specs.Entering.{event_by};
     ghost use Rattle.node_seat.specs.Faults.{CountsFault};
     ghost use Rattle.node_seat.specs.Keeping.{IsFresh, MayEnter};
@@ -26,7 +27,7 @@ impl<N: Node, K: RunName> Member<N, K> {
 
     /// A node that did nothing yet.
     pub fn new(alloc: Global, node: N) -> Member<N, K>
-        requires fresh { IsFresh N.stands_for N.disks K.world K.past node }
+        requires fresh { IsFresh K.world K.past (N.state node) }
         ensures node { result.seat.node ≡ node }
         ensures trace { result.seat.trace ≡ [] }
         ensures turned { result.turned ≡ 0 }
@@ -46,12 +47,15 @@ impl<N: Node, K: RunName> Member<N, K> {
         cause: Cause,
         input: Option<Input>,
     ) -> Result<Option<Letter>, RunFault>
-        requires { MayEnter N.stops N.left N.serves self.old.seat.node self.old.seat.trace stamp now cause input }
+        requires { MayEnter (N.state self.old.seat.node) self.old.seat.trace
+            stamp now cause input }
         ensures made { (event : Event) → event_by cause input ≡ Some event
-            → IsMade N.stands_for N.stands_at N.disks N.size self.old self.new stamp now cause event result }
-        ensures failed { IfErr result (CountsFault (N.stands_at self.old.seat.node) (N.disks self.old.seat.node) (N.disks self.new.seat.node)) }
-        ensures same { StaysItself N.stands_at N.serves N.disks self.old.seat.node self.new.seat.node }
-        ensures counted { N.left self.old.seat.node ≤ N.left self.new.seat.node + 1 }
+            → IsMade N.state self.old self.new stamp now cause event result }
+        ensures failed { IfErr result
+            (CountsFault (N.state self.old.seat.node) (N.state self.new.seat.node)) }
+        ensures same { StaysItself (N.state self.old.seat.node) (N.state self.new.seat.node) }
+        ensures counted { (N.state self.old.seat.node).left
+            ≤ (N.state self.new.seat.node).left + 1 }
     {
         let packet = match self.seat.enter(alloc, stamp, now, cause, input) {
             Ok(packet) => packet,

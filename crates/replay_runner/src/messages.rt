@@ -76,7 +76,8 @@ impl Messages {
 
     /// The message that the entry with this stamp sent, if it is there and sent one.
     pub fn delivery(&self, alloc: Global, stamp: u32) -> Result<Option<Delivery>, NoMemory>
-        ensures found { IfOk result (λ found. found ≡ option_map delivery_of (letter_at stamp self.now.letters.items)) }
+        ensures found { IfOk result
+            (λ found. found ≡ option_map delivery_of (letter_at stamp self.now.letters.items)) }
         ensures framable { IfOk result (λ found. IfSome found IsFramableDelivery) }
     {
         if stamp == 0 {
@@ -90,7 +91,8 @@ impl Messages {
 
     /// Adds what the next entry sent.
     pub fn add(&mut self, letter: Option<Letter>) -> Result<(), NoMemory>
-        ensures letters { OnOk result (self.new.letters.items ≡ self.old.letters.items ++ letter ∷ []) }
+        ensures letters { OnOk result
+            (self.new.letters.items ≡ self.old.letters.items ++ letter ∷ []) }
         ensures taken { OnOk result (self.new.taken.items ≡ self.old.taken.items ++ false ∷ []) }
         ensures waiting { self.new.waiting ≡ self.old.waiting }
     {
@@ -124,8 +126,11 @@ impl Messages {
         requires marked { length self.old.taken.items ≡ length self.old.letters.items }
         requires within { self.old.waiting ≤ length self.old.letters.items }
         requires short { length self.old.letters.items ≤ STEPS }
-        ensures none { (k : ℕ) → self.old.waiting ≤ k → k < self.new.waiting → waits self.old.letters.items self.old.taken.items k ≡ false }
-        ensures found { IfSome result (λ stamp. (stamp ≡ self.new.waiting + 1) × (self.new.waiting < length self.old.letters.items) × (waits self.old.letters.items self.old.taken.items self.new.waiting ≡ true)) }
+        ensures none { (k : ℕ) → self.old.waiting ≤ k → k < self.new.waiting →
+            waits self.old.letters.items self.old.taken.items k ≡ false }
+        ensures found { IfSome result (λ stamp. (stamp ≡ self.new.waiting + 1)
+            × (self.new.waiting < length self.old.letters.items)
+            × (waits self.old.letters.items self.old.taken.items self.new.waiting ≡ true)) }
         ensures all { result ≡ None → self.new.waiting ≡ length self.old.letters.items }
         ensures later { self.old.waiting ≤ self.new.waiting }
         ensures letters { self.new.letters ≡ self.old.letters }

@@ -6,9 +6,10 @@ use crate::members::Member;
 use crate::messages::Letter;
 use coordinator_core::Coordinator;
 use disk_model::Disk;
-use history_text::{Cause, Node};
+use history_text::Cause;
 use manager_core::Manager;
 use node_seat::{RunFault, RunName};
+use node_steps::Node;
 use resource_core::Resource;
 use seata_types::{Input, Place};
 use std::alloc::Global;
@@ -40,9 +41,12 @@ impl<D: Disk, K: RunName> Nodes<D, K> {
         input: Option<Input>,
     ) -> Result<Option<Letter>, RunFault>
         requires can { CanEnter self.old stamp now place cause input }
-        ensures entered { (c : Comes D.state self.old stamp place cause input) → Entered D.state self.old self.new stamp now place cause input c result }
+        ensures entered { (c : Comes D.state self.old stamp place cause input) →
+            Entered D.state self.old self.new stamp now place cause input c result }
         ensures failed { IfErr result (HaveCountedAt (disks_at D.state self.new)) }
-        ensures goes { OnOk result (NodesGo (length self.old.managers.items) (length self.old.resources.items) (stamp + 1) now self.new) }
+        ensures goes { OnOk result
+            (NodesGo (length self.old.managers.items) (length self.old.resources.items)
+            (stamp + 1) now self.new) }
         ensures count { length self.new.resources.items ≡ length self.old.resources.items }
     {
         match place {
@@ -55,9 +59,11 @@ impl<D: Disk, K: RunName> Nodes<D, K> {
 
     /// The node whose last turn is the earliest; of several the first in the order coordinator, resources, managers.
     pub fn longest_waiting(&self) -> Place
-        requires numbered { (stamp now : ℕ) × NodesGo (length self.now.managers.items) (length self.now.resources.items) stamp now self.now }
+        requires numbered { (stamp now : ℕ) × NodesGo (length self.now.managers.items)
+            (length self.now.resources.items) stamp now self.now }
         ensures earliest { IsEarliest D.state self.now result }
-        ensures there { IsPlaceAmong (length self.now.resources.items) (length self.now.managers.items) result }
+        ensures there { IsPlaceAmong (length self.now.resources.items)
+            (length self.now.managers.items) result }
     {
         let first = (Place::Tc, self.coordinator.turned);
         let first = earlier(first, self.resources.as_slice());
@@ -67,7 +73,7 @@ impl<D: Disk, K: RunName> Nodes<D, K> {
 
 /// Of a place with the stamp of its last turn and of these nodes, the one whose last turn is the earliest; of several the first.
 fn earlier<N: Node, K: RunName>(first: (Place, u32), others: &[Member<N, K>]) -> (Place, u32)
-    ensures { result ≡ members.earliest_of first (map (members.turn_of N.stands_at) others.now) }
+    ensures { result ≡ members.earliest_of first (map (members.turn_of N.state) others.now) }
 {
     let (mut place, mut turned) = first;
     for member in others {

@@ -2,9 +2,8 @@
 ghost use Rattle.std.specs.Prelude.{◌≡◌, ◌<◌, ◌+◌, [], IfOk, IfErr, OnOk, OnErr, length};
 ghost use Rattle.scenario_form.specs.Runnable.{IsRunnable};
 ghost use Rattle.history_text.specs.Worlds.{world_of};
-ghost use Rattle.scenario_nodes.specs.Shelves.{showing};
-ghost use Rattle.replay_runner.specs.OnShelves.{CanOpen, OpensFirst, StopsBetween};
-ghost use Rattle.replay_runner.specs.Opened.{AreAll, AreFirst, HaveBoth, IsNewManagerOf, IsNewResourceOf, IsSecondName};
+ghost use Rattle.replay_runner.specs.OnShelves.{CanOpen, OpensFirst};
+ghost use Rattle.replay_runner.specs.Opened.{AreAll, AreFirst, HaveBoth, IsNewManagerOf, IsNewResourceOf, IsSecondName, StopsOpening};
 
 use crate::collecting::put;
 use crate::members::Member;
@@ -35,7 +34,8 @@ pub fn new_managers<K: RunName>(
 ) -> Result<Vec<Member<Manager, K>>, NoMemory>
     requires runnable { IsRunnable scenario.now }
     requires world { K.world ≡ world_of scenario.now }
-    ensures { IfOk result (λ managers. AreAll (IsNewManagerOf scenario.now) scenario.now.managers managers.items) }
+    ensures { IfOk result (λ managers. AreAll (IsNewManagerOf scenario.now)
+        scenario.now.managers managers.items) }
 {
     let mut made = Vec::new(alloc);
     for (k, def) in scenario.managers.as_slice().iter().enumerate() {
@@ -57,12 +57,15 @@ fn open_next<H: Shelf, K: RunName>(
     requires can { CanOpen K.world K.past scenario.now seconds.now }
     requires there { k < length scenario.now.resources }
     requires next { length opened.old.items ≡ k }
-    requires opened { AreFirst (IsNewResourceOf H.D.state scenario.now) scenario.now.resources opened.old.items }
-    requires taken { HaveBoth (H.has_place shelf.old) scenario.now.resources k }
-    ensures opens { OpensFirst H.D.state scenario.now (showing H.has_place H.given_back H.faults H.tells shelf.old) (showing H.has_place H.given_back H.faults H.tells shelf.new) opened.new.items (k + 1) }
+    requires opened { AreFirst (IsNewResourceOf H.D.state scenario.now)
+        scenario.now.resources opened.old.items }
+    requires taken { HaveBoth (H.state shelf.old) scenario.now.resources k }
+    ensures opens { OpensFirst H.D.state scenario.now (H.state shelf.old) (H.state shelf.new)
+        opened.new.items (k + 1) }
     ensures more { OnOk result (length opened.new.items ≡ k + 1) }
     ensures same { OnErr result (opened.new.items ≡ opened.old.items) }
-    ensures refused { IfErr result (StopsBetween H.D.state (showing H.has_place H.given_back H.faults H.tells shelf.old) (showing H.has_place H.given_back H.faults H.tells shelf.new) scenario.now k) }
+    ensures refused { IfErr result (StopsOpening H.D.state (H.state shelf.old) (H.state shelf.new)
+        scenario.now k) }
 {
     if opened.reserve(1).is_err() {
         return Err(RunFault::NoMemory);
@@ -88,9 +91,11 @@ pub fn open_resources<H: Shelf, K: RunName>(
 ) -> Result<(), RunFault>
     requires can { CanOpen K.world K.past scenario.now seconds.now }
     requires none { opened.old.items ≡ [] }
-    ensures opens { OpensFirst H.D.state scenario.now (showing H.has_place H.given_back H.faults H.tells shelf.old) (showing H.has_place H.given_back H.faults H.tells shelf.new) opened.new.items (length opened.new.items + 1) }
+    ensures opens { OpensFirst H.D.state scenario.now (H.state shelf.old) (H.state shelf.new)
+        opened.new.items (length opened.new.items + 1) }
     ensures whole { OnOk result (length opened.new.items ≡ length scenario.now.resources) }
-    ensures refused { IfErr result (StopsBetween H.D.state (showing H.has_place H.given_back H.faults H.tells shelf.old) (showing H.has_place H.given_back H.faults H.tells shelf.new) scenario.now (length opened.new.items)) }
+    ensures refused { IfErr result (StopsOpening H.D.state (H.state shelf.old) (H.state shelf.new)
+        scenario.now (length opened.new.items)) }
 {
     for k in 0..seconds.len() {
         if let Err(fault) = open_next(alloc, scenario, shelf, seconds, k, opened) {

@@ -1,11 +1,12 @@
 //! Replays on the disks of a shelf.
 ghost use Rattle.std.specs.Prelude.{◌≡◌, IsTrue, List as Items, length, ℕ};
+ghost use Rattle.disk_model.specs.Shelf.{KeepsOthers};
 ghost use Rattle.scenario_form.specs.Runnable.{IsRunnable};
 ghost use Rattle.history_rules.specs.Nodes.{no_past};
 ghost use Rattle.history_text.specs.Worlds.{world_of};
-ghost use Rattle.scenario_nodes.specs.Shelves.{HasDisk, ReturnsAll, showing};
-ghost use Rattle.replay_runner.specs.Leaving.{GivesBack, IsCalmEnd, IsCalmShelf, Replays};
-ghost use Rattle.replay_runner.specs.OnShelves.{CanOpen, OpensNodes};
+ghost use Rattle.scenario_nodes.specs.Shelves.{HasDisk, ReturnsAll};
+ghost use Rattle.replay_runner.specs.Leaving.{GivesBack, IsCalmEnd, IsCalmShelf, IsServerDisk, Replays};
+ghost use Rattle.replay_runner.specs.OnShelves.{CanOpen, OpensNodes, without_places};
 ghost use Rattle.replay_runner.specs.Opened.{AreAll, AreNewNodes, HaveTaken, IsNewManagerOf, IsOfServer, IsSecondName};
 
 use crate::closings::{close, close_servers};
@@ -33,7 +34,8 @@ fn open_nodes<H: Shelf, K: RunName>(
 ) -> Result<Nodes<H::D, K>, RunFault>
     requires can { CanOpen K.world K.past scenario.now seconds.now }
     requires managers { AreAll (IsNewManagerOf scenario.now) scenario.now.managers managers.items }
-    ensures opens { OpensNodes H.D.state scenario.now (showing H.has_place H.given_back H.faults H.tells shelf.old) (showing H.has_place H.given_back H.faults H.tells shelf.new) result }
+    ensures opens { OpensNodes H.D.state scenario.now
+        (H.state shelf.old) (H.state shelf.new) result }
 {
     let coordinator = match open_coordinator(alloc, scenario, shelf) {
         Ok(coordinator) => coordinator,
@@ -63,10 +65,15 @@ fn play<H: Shelf, K: RunName>(
     requires runnable { IsRunnable scenario.now }
     requires seconds { AreAll IsSecondName scenario.now.resources seconds.now }
     requires new { AreNewNodes H.D.state scenario.now nodes }
-    requires taken { HaveTaken (H.has_place shelf.old) scenario.now.resources (length scenario.now.resources) }
-    ensures back { GivesBack H.D.state (λ n. ⊥) (H.has_place shelf.new) (H.tells shelf.old) (H.given_back shelf.new) scenario.now result }
-    ensures given { IsTrue (H.tells shelf.old) → (n : Items ℕ) → IsOfServer scenario.now.resources (length scenario.now.resources) n → HasDisk (H.given_back shelf.new) n }
-    ensures returned { ReturnsAll (H.tells shelf.old) (H.has_place shelf.old) (H.has_place shelf.new) (H.given_back shelf.old) (H.given_back shelf.new) }
+    requires taken { HaveTaken (H.state shelf.old) scenario.now.resources
+        (length scenario.now.resources) }
+    ensures back { GivesBack H.D.state (without_places (H.state shelf.old)) (H.state shelf.new)
+        scenario.now result }
+    ensures given { IsTrue (H.state shelf.old).tells → (n : Items ℕ) →
+        IsOfServer scenario.now.resources (length scenario.now.resources) n →
+        HasDisk (H.state shelf.new) n }
+    ensures returned { ReturnsAll (H.state shelf.old) (H.state shelf.new) }
+    ensures keeps { KeepsOthers (IsServerDisk scenario.now) (H.state shelf.old) (H.state shelf.new) }
 {
     let mut run = Run::<H::D, K>::new(alloc, nodes);
     let locals = scenario.locals.as_slice();
@@ -91,8 +98,10 @@ fn replay_named<H: Shelf, K: RunName>(
     requires runnable { IsRunnable scenario.now }
     requires world { K.world ≡ world_of scenario.now }
     requires past { K.past ≡ no_past }
-    ensures replays { Replays H.D.state (showing H.has_place H.given_back H.faults H.tells shelf.old) (showing H.has_place H.given_back H.faults H.tells shelf.new) scenario.now result }
-    ensures returned { ReturnsAll (H.tells shelf.old) (H.has_place shelf.old) (H.has_place shelf.new) (H.given_back shelf.old) (H.given_back shelf.new) }
+    ensures replays { Replays H.D.state (H.state shelf.old) (H.state shelf.new)
+        scenario.now result }
+    ensures returned { ReturnsAll (H.state shelf.old) (H.state shelf.new) }
+    ensures keeps { KeepsOthers (IsServerDisk scenario.now) (H.state shelf.old) (H.state shelf.new) }
 {
     let Ok(seconds) = second_names(alloc, scenario.resources.as_slice()) else {
         return Err(RunFault::NoMemory);
@@ -109,16 +118,19 @@ fn replay_named<H: Shelf, K: RunName>(
 /// Replays the schedule of a scenario, step by step, with the coordinator and each resource on two disks of the shelf, which
 /// are given back however it ends: the entries of its history, or why it ended early. `Store` comes only by a fault that the
 /// shelf or a disk of the node counted, whatever the disks tell. Where they tell their bytes, `Damaged` and `Other` never
-/// come: blank disks are no other scenario's, and each message fits a node.
+/// come: blank disks are no other scenario's, and each message fits a node. Disks under other names stay as they are.
 pub fn replay<H: Shelf>(
     alloc: Global,
     scenario: &Scenario,
     shelf: &mut H,
 ) -> Result<List<Entry>, RunFault>
     requires runnable { IsRunnable scenario.now }
-    ensures replays { Replays H.D.state (showing H.has_place H.given_back H.faults H.tells shelf.old) (showing H.has_place H.given_back H.faults H.tells shelf.new) scenario.now result }
-    ensures calm { IsCalmShelf H.D.state scenario.now (showing H.has_place H.given_back H.faults H.tells shelf.old) (showing H.has_place H.given_back H.faults H.tells shelf.new) → IsCalmEnd result }
-    ensures returned { ReturnsAll (H.tells shelf.old) (H.has_place shelf.old) (H.has_place shelf.new) (H.given_back shelf.old) (H.given_back shelf.new) }
+    ensures replays { Replays H.D.state (H.state shelf.old) (H.state shelf.new)
+        scenario.now result }
+    ensures calm { IsCalmShelf H.D.state scenario.now (H.state shelf.old) (H.state shelf.new) →
+        IsCalmEnd result }
+    ensures returned { ReturnsAll (H.state shelf.old) (H.state shelf.new) }
+    ensures keeps { KeepsOthers (IsServerDisk scenario.now) (H.state shelf.old) (H.state shelf.new) }
 {
     replay_named::<H, Brand>(alloc, scenario, shelf)
 }

@@ -29,7 +29,8 @@ pub struct Run<D: Disk, K: RunName> {
 /// The place of the resource of a local transaction, counted from 1.
 fn place_of(locals: &[(u16, List<Stmt>)], number: u16) -> Place
     requires { IsBetween 1 (length locals.now) number }
-    ensures { (local : ℕ × Items TheStmt) → slice_get locals.now (number - 1) ≡ Some local → result ≡ places.Res local.0 }
+    ensures { (local : ℕ × Items TheStmt) → slice_get locals.now (number - 1) ≡ Some local →
+        result ≡ places.Res local.0 }
 {
     Place::Res(locals[number as usize - 1].0)
 }
@@ -51,8 +52,10 @@ impl<D: Disk, K: RunName> Run<D, K> {
 
     /// A replay that made no entry yet.
     pub fn new(alloc: Global, nodes: Nodes<D, K>) -> Run<D, K>
-        requires going { NodesGo (length nodes.managers.items) (length nodes.resources.items) 1 0 nodes }
-        ensures plays { (s : TheScenario) → AreNodes D.state s nodes [] → Plays D.state s result [] }
+        requires going { NodesGo (length nodes.managers.items) (length nodes.resources.items)
+            1 0 nodes }
+        ensures plays { (s : TheScenario) → AreNodes D.state s nodes [] →
+            Plays D.state s result [] }
         ensures goes { Goes (length nodes.managers.items) (length nodes.resources.items) 0 result }
     {
         Run {
@@ -76,8 +79,10 @@ impl<D: Disk, K: RunName> Run<D, K> {
     /// Keeps where the newest entry stands, and the message that it sent.
     fn keep(&mut self, place: Place, letter: Option<Letter>) -> Result<(), NoMemory>
         ensures places { OnOk result (self.new.places.items ≡ self.old.places.items ++ place ∷ []) }
-        ensures letters { OnOk result (self.new.messages.letters.items ≡ self.old.messages.letters.items ++ letter ∷ []) }
-        ensures taken { OnOk result (self.new.messages.taken.items ≡ self.old.messages.taken.items ++ false ∷ []) }
+        ensures letters { OnOk result
+            (self.new.messages.letters.items ≡ self.old.messages.letters.items ++ letter ∷ []) }
+        ensures taken { OnOk result
+            (self.new.messages.taken.items ≡ self.old.messages.taken.items ++ false ∷ []) }
         ensures waiting { self.new.messages.waiting ≡ self.old.messages.waiting }
         ensures nodes { self.new.nodes ≡ self.old.nodes }
         ensures network { self.new.network ≡ self.old.network }
@@ -97,7 +102,8 @@ impl<D: Disk, K: RunName> Run<D, K> {
         input: Option<Input>,
     ) -> Result<(), RunFault>
         requires can { CanMake self.old place cause input }
-        ensures made { (b : Brings D.state self.old place cause input) → Made D.state self.old self.new place cause input b result }
+        ensures made { (b : Brings D.state self.old place cause input) →
+            Made D.state self.old self.new place cause input b result }
         ensures gone { HasGone D.state self.old self.new 1 result }
     {
         let stamp = self.next_stamp();
@@ -141,8 +147,10 @@ impl<D: Disk, K: RunName> Run<D, K> {
     /// Gives a node a turn.
     fn turn(&mut self, alloc: Global, place: Place) -> Result<(), RunFault>
         requires can { CanGo self.old 1 }
-        requires there { IsPlaceAmong (length self.old.nodes.resources.items) (length self.old.nodes.managers.items) place }
-        ensures made { (names : Names D.state self.old (TurnOf place)) → HasMade D.state self.old self.new names.here result }
+        requires there { IsPlaceAmong (length self.old.nodes.resources.items)
+            (length self.old.nodes.managers.items) place }
+        ensures made { (names : Names D.state self.old (TurnOf place)) →
+            HasMade D.state self.old self.new names.here result }
         ensures gone { HasGone D.state self.old self.new 1 result }
     {
         self.make(alloc, place, Cause::Turn, Some(Input::Turn))
@@ -151,9 +159,11 @@ impl<D: Disk, K: RunName> Run<D, K> {
     /// Gives a node a message that was sent. One that fits no node ends the replay; where disks tell their bytes, none is sent.
     fn hear(&mut self, alloc: Global, stamp: u32, delivery: Delivery) -> Result<(), RunFault>
         requires can { CanGo self.old 1 }
-        requires sent { option_map delivery_of (letter_at stamp self.old.messages.letters.items) ≡ Some delivery }
+        requires sent { option_map delivery_of (letter_at stamp self.old.messages.letters.items)
+            ≡ Some delivery }
         requires framable { IsFramable delivery.message }
-        ensures made { (hears : Hears D.state self.old stamp delivery) → HasMade D.state self.old self.new hears.step.here result }
+        ensures made { (hears : Hears D.state self.old stamp delivery) →
+            HasMade D.state self.old self.new hears.step.here result }
         ensures gone { HasGone D.state self.old self.new 1 result }
     {
         if !fits(
@@ -176,7 +186,8 @@ impl<D: Disk, K: RunName> Run<D, K> {
     /// Delivers the message that the entry with this stamp sent.
     fn deliver(&mut self, alloc: Global, stamp: u32) -> Result<(), RunFault>
         requires can { CanGo self.old 1 }
-        ensures made { (names : Names D.state self.old (DeliverOf stamp)) → HasMade D.state self.old self.new names.here result }
+        ensures made { (names : Names D.state self.old (DeliverOf stamp)) →
+            HasMade D.state self.old self.new names.here result }
         ensures gone { HasGone D.state self.old self.new 1 result }
     {
         match self.messages.delivery(alloc, stamp) {
@@ -189,7 +200,8 @@ impl<D: Disk, K: RunName> Run<D, K> {
     /// Delivers the oldest message that no entry delivered, or else gives a turn to the node whose last turn is the earliest.
     fn choose(&mut self, alloc: Global) -> Result<(), RunFault>
         requires can { CanGo self.old 1 }
-        ensures made { (names : Names D.state self.old (Auto 1)) → HasMade D.state self.old self.new names.here result }
+        ensures made { (names : Names D.state self.old (Auto 1)) →
+            HasMade D.state self.old self.new names.here result }
         ensures gone { HasGone D.state self.old self.new 1 result }
     {
         match self.messages.oldest() {
@@ -204,7 +216,8 @@ impl<D: Disk, K: RunName> Run<D, K> {
     /// Makes so many steps that the replay chooses itself.
     fn choose_each(&mut self, alloc: Global, steps: u32) -> Result<(), RunFault>
         requires can { CanGo self.old steps }
-        ensures played { (ready : Ready D.state self.old (times steps (Auto 1))) → HasPlayed D.state ready.s self.new ready.rest result }
+        ensures played { (ready : Ready D.state self.old (times steps (Auto 1))) →
+            HasPlayed D.state ready.s self.new ready.rest result }
         ensures gone { HasGone D.state self.old self.new steps result }
     {
         for _ in 0..steps {
@@ -224,8 +237,10 @@ impl<D: Disk, K: RunName> Run<D, K> {
     ) -> Result<(), RunFault>
         requires can { CanGo self.old (steps_of item) }
         requires locals { AreLocals (length self.old.nodes.resources.items) locals.now }
-        requires fits { FitsNodes (length self.old.nodes.resources.items) (length self.old.nodes.managers.items) (length locals.now) item }
-        ensures played { (ready : ReadyWith D.state self.old locals.now (singles_of (item_of item))) → HasPlayed D.state ready.ready.s self.new ready.ready.rest result }
+        requires fits { FitsNodes (length self.old.nodes.resources.items)
+            (length self.old.nodes.managers.items) (length locals.now) item }
+        ensures played { (ready : ReadyWith D.state self.old locals.now (singles_of (item_of item)))
+            → HasPlayed D.state ready.ready.s self.new ready.ready.rest result }
         ensures gone { HasGone D.state self.old self.new (steps_of item) result }
     {
         match item {
@@ -267,10 +282,14 @@ impl<D: Disk, K: RunName> Run<D, K> {
     ) -> Result<(), RunFault>
         requires can { CanGo self.old (all_steps schedule.now) }
         requires locals { AreLocals (length self.old.nodes.resources.items) locals.now }
-        requires fits { All (FitsNodes (length self.old.nodes.resources.items) (length self.old.nodes.managers.items) (length locals.now)) schedule.now }
-        ensures played { (s : TheScenario) → IsRunnable s → s.locals ≡ locals.now → s.schedule ≡ schedule.now → Plays D.state s self.old [] → HasPlayed D.state s self.new [] result }
+        requires fits { All (FitsNodes (length self.old.nodes.resources.items)
+            (length self.old.nodes.managers.items) (length locals.now)) schedule.now }
+        ensures played { (s : TheScenario) → IsRunnable s → s.locals ≡ locals.now →
+            s.schedule ≡ schedule.now → Plays D.state s self.old [] →
+            HasPlayed D.state s self.new [] result }
         ensures failed { IfErr result (HaveCountedAt (disks_at D.state self.new.nodes)) }
-        ensures count { length self.new.nodes.resources.items ≡ length self.old.nodes.resources.items }
+        ensures count { length self.new.nodes.resources.items
+            ≡ length self.old.nodes.resources.items }
     {
         for item in schedule {
             if let Err(fault) = self.play(alloc, locals, *item) {

@@ -31,8 +31,8 @@ use Rattle.history_rules.specs.Own.{Given, still}
 use Rattle.history_rules.specs.ResourceMemory.{Memory, next_ticket, opening_tables, opened_for, resource_asked, memory_after}
 use Rattle.history_rules.specs.ResourceRules as rules
 use Rattle.history_rules.specs.ResourceRules.{least_branch, requests}
-use Rattle.history_text.specs.Framing.{SendsFramable}
-use Rattle.history_text.specs.Promises.{own_step}
+use Rattle.node_steps.specs.Framing.{SendsFramable}
+use Rattle.node_steps.specs.Promises.{own_step}
 use Rattle.record_places.specs.Laws.{HasKeysOf}
 use Rattle.resource_store.specs.Keeping.{known, setting_of, is_down, KeepsRecords}
 use Rattle.resource_core.specs.Holding.{setup_of, Holds}

@@ -29,7 +29,7 @@ use Rattle.local_tables.specs.declared.schemas.Effect.{Effect}
 use Rattle.local_txn.specs.OpenTickets.{Open, Owner, OfCall, OfLocal, busy_in, busy_row, lesser_row, ticket_with, with_ticket, open_at}
 use Rattle.durable_records.specs.ResourceOrder.{image_keys, read_keys}
 use Rattle.history_rules.specs.ResourceRules.{requests, untouched}
-use Rattle.history_text.specs.Framing.{SendsFramable}
+use Rattle.node_steps.specs.Framing.{SendsFramable}
 use Rattle.at_branch.specs.Steps.{commit_step, granted_step, rollback_step}
 use Rattle.at_branch.specs.declared.answers.Committed.{Committed}
 use Rattle.at_branch.specs.declared.answers.Committed.TheVariants as commits

@@ -12,7 +12,7 @@ use Rattle.history_rules.specs.Nodes.{Resource, down_answer, given_answer, happe
 use Rattle.history_rules.specs.Own.{Given, Own, still}
 use Rattle.history_rules.specs.ResourceMemory.{Setup, memory}
 use Rattle.history_rules.specs.ResourceRules.{resource_answer}
-use Rattle.history_text.specs.Promises.{own_step}
+use Rattle.node_steps.specs.Promises.{own_step}
 use Rattle.resource_store.specs.Keeping.{setting_of}
 use Rattle.resource_store.specs.Meaning.{Setting}
 use Rattle.resource_core.specs.Holding.{Holds, setup_of}

@@ -30,3 +30,5 @@ pub mod FramingLaws
 pub mod KeyFrames
 pub mod NodeOpened
 pub mod StatementLaws
+pub mod OpenSendable
+pub mod Sendable

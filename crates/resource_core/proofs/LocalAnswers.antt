@@ -20,7 +20,7 @@ use Rattle.resource_store.specs.declared.store.Store.{Store}
 use Rattle.resource_store.specs.Keeping.{setting_of, is_down}
 use Rattle.resource_store.specs.Answers.{GivesBy, Leaves, tables_now}
 use Rattle.local_guard.specs.Locals.{freed, local_number, closed}
-use Rattle.history_text.specs.Framing.{SendsFramable}
+use Rattle.node_steps.specs.Framing.{SendsFramable}
 use Rattle.local_guard.specs.Steps.{freed_step}
 use Rattle.resource_core.specs.Holding.{Holds}
 use Rattle.resource_core.specs.Stepping.{Answers, Hears, KeepsSettings, with_tickets}

@@ -29,8 +29,8 @@ use Rattle.history_rules.specs.Own.{Given, added, still}
 use Rattle.history_rules.specs.ResourceMemory.{Memory, next_ticket, opening_tables, local_of, local_committed_of, opened_for, or_empty, or_none, effect_on, resource_asked, memory_after}
 use Rattle.history_rules.specs.ResourceRules as rules
 use Rattle.history_rules.specs.ResourceRules.{requests}
-use Rattle.history_text.specs.Framing.{SendsFramable}
-use Rattle.history_text.specs.Promises.{own_step}
+use Rattle.node_steps.specs.Framing.{SendsFramable}
+use Rattle.node_steps.specs.Promises.{own_step}
 use Rattle.resource_store.specs.Keeping.{setting_of, is_down, known}
 use Rattle.resource_store.proofs.AnswerLaws.{tables_of}
 use Rattle.local_guard.specs.Locals.{freed, freed_by, local_number, number_by}

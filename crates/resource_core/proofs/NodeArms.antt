@@ -18,7 +18,7 @@ use Rattle.history_rules.specs.Devices.{is_down as down_by}
 use Rattle.history_rules.specs.ResourceMemory.{Setup, memory}
 use Rattle.history_rules.specs.Nodes.{Coordinator, Manager, happens}
 use Rattle.history_rules.specs.Nodes.{Resource as ResourceRole}
-use Rattle.history_text.specs.Promises.{Does, own_entry}
+use Rattle.node_steps.specs.Promises.{Does, own_entry}
 use Rattle.resource_memory.specs.Known.{Known}
 use Rattle.resource_store.specs.declared.store.Store.{Store}
 use Rattle.resource_store.specs.Keeping.{twin, known, setting_of, is_down as store_is_down, BringsBack, KeepsRecords, with_disk}
@@ -27,7 +27,7 @@ use Rattle.record_places.specs.Within.{IsTableWithin}
 use Rattle.resource_core.specs.declared.nodes.Resource.{Resource}
 use Rattle.resource_core.specs.Holding.{Holds}
 use Rattle.resource_core.specs.NodeMoving.{ArmsPair, ArmsStore, with_store}
-use Rattle.resource_core.specs.NodeStanding.{IsSound, StandsAs, StandsOver}
+use Rattle.resource_core.specs.NodeStanding.{IsSound, StandsOver, node_state}
 use Rattle.resource_core.specs.NodeStepping.{ArmsBy, CrashesBy}
 use Rattle.resource_core.specs.Ready.{AreTicketsWithin}
 use Rattle.resource_core.specs.Setups.{actions_of}
@@ -206,7 +206,7 @@ module _ {D : Type 0} (state : D → DiskState) (law : (d : Stoppable D) → IsL
           fallen = λ e. false_true (sym (upon setup past owns s) ∙ e);
         }
 
-    arm_does : (now : ℕ) → Does (StandsAs state) r (with_store r s') (Stopped calls) now (still act.Armed)
+    arm_does : (now : ℕ) → Does (node_state state r) (node_state state (with_store r s')) (Stopped calls) now (still act.Armed)
     arm_does now (ResourceRole setup past) owns s = (armed_happens setup past owns now calls (upon setup past owns s), armed_so setup past owns now s)
     arm_does now (Coordinator times past) owns s = absurd s
     arm_does now (Manager settings) owns s = absurd s
@@ -246,7 +246,7 @@ module _ {D : Type 0} (state : D → DiskState) (law : (d : Stoppable D) → IsL
           fallen = λ e. record { flight = refl; count = counts ∙ ap (λ (k : Known). k.acts) h.keeps.knows; closed = refl };
         }
 
-    crash_does : (now : ℕ) → Does (StandsAs state) r crashed Crashed now (still (act.Down None None))
+    crash_does : (now : ℕ) → Does (node_state state r) (node_state state crashed) Crashed now (still (act.Down None None))
     crash_does now (ResourceRole setup past) owns s = (crashed_happens setup past owns now (upon setup past owns s), crashed_so setup past owns now s)
     crash_does now (Coordinator times past) owns s = absurd s
     crash_does now (Manager settings) owns s = absurd s

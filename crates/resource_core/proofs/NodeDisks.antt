@@ -19,8 +19,8 @@ use Rattle.durable_records.specs.declared.resources.ResourceRecord.{ResourceReco
 use Rattle.history_rules.specs.Own.{Given, Left, leaves}
 use Rattle.history_rules.specs.Devices.{fault_of, is_short, left_after, may_stand, spent, down_after}
 use Rattle.history_rules.specs.ResourceMemory.{booted}
-use Rattle.history_text.specs.Durable.{own_faults, SamePicks}
-use Rattle.history_text.specs.Promises.{DisksFail}
+use Rattle.node_steps.specs.Durable.{own_faults, SamePicks}
+use Rattle.node_steps.specs.Promises.{DisksFail}
 use Rattle.resource_store.specs.declared.store.Store.{Store}
 use Rattle.resource_store.specs.Keeping.{twin, setting_of, KeepsRecords, Loses, Moves, WithOrWithout}
 use Rattle.resource_store.specs.Meaning.{Setting}

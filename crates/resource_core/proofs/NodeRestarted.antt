@@ -28,8 +28,9 @@ use Rattle.history_rules.specs.Devices.{calls_left, fails, fault_entries, flight
 use Rattle.history_rules.specs.ResourceMemory.{Memory, Setup, booted, boot_over, memory, memory_after}
 use Rattle.history_rules.specs.Nodes.{Role, Coordinator, Manager, happens}
 use Rattle.history_rules.specs.Nodes.{Resource as ResourceRole}
-use Rattle.history_text.specs.Durable.{HavePick, keepable, own_faults}
-use Rattle.history_text.specs.Promises.{AreTold, DisksFail, IsRestartError, Restarts, StandsAsBefore, own_entry}
+use Rattle.node_steps.specs.Durable.{HavePick, keepable, own_faults}
+use Rattle.node_steps.specs.Nodes.{NodeState}
+use Rattle.node_steps.specs.Promises.{AreTold, DisksFail, FailsRestart, IsRestartError, Restarts, StandsAsBefore, own_entry}
 use Rattle.resource_log.specs.Records.{fields_bytes, record_bytes}
 use Rattle.resource_memory.specs.Changes.{after}
 use Rattle.resource_memory.specs.Known.{Known}
@@ -41,7 +42,7 @@ use Rattle.resource_store.proofs.OpeningLaws.{boot_sound, came_back}
 use Rattle.record_places.specs.Within.{IsTableWithin}
 use Rattle.resource_core.specs.declared.nodes.Resource.{Resource}
 use Rattle.resource_core.specs.NodeMoving.{ArmsPair, ArmsWith, Boots, kept_of, with_store}
-use Rattle.resource_core.specs.NodeStanding.{IsFallen, IsSound, StandsAs, StandsForEither, StandsOver}
+use Rattle.resource_core.specs.NodeStanding.{IsFallen, IsSound, StandsAs, StandsForEither, StandsOver, node_state}
 use Rattle.resource_core.specs.NodeStepping.{RestartsBy}
 use Rattle.resource_core.specs.Shown.{active_of, disks_of, is_down, pair_of, size_of, store_of}
 use Rattle.resource_core.proofs.NodeArms.{moved_armed, setup_still}
@@ -89,7 +90,7 @@ boot_length n k = refl
 
 -- ---- two disks
 
-fails_more : (a b c : ℕ) → a ≤ b → Rose b c → Rose a c
+pub fails_more : (a b c : ℕ) → a ≤ b → Rose b c → Rose a c
 fails_more a b c one rose = omega (arith, one, rose)
 
 both_grow : (a b a' b' : ℕ) → a ≤ a' → b ≤ b' → min (a + b) (2 ^ 64 - 1) ≤ min (a' + b') (2 ^ 64 - 1)
@@ -205,7 +206,7 @@ module _ {D : Type 0} (state : D → DiskState) (r : Resource D) (s' : Store (St
           fallen = λ e. let f = s.fallen e in record { flight = f.flight; count = f.count; closed = f.closed };
         }
 
-    pub after_error : StandsAsBefore (StandsAs state) r (with_store r s')
+    pub after_error : StandsAsBefore (node_state state r) (node_state state (with_store r s'))
     after_error (ResourceRole setup past) owns s = stands_fallen setup past owns s
     after_error (Coordinator times past) owns s = absurd s
     after_error (Manager settings) owns s = absurd s
@@ -219,11 +220,11 @@ always state r setup past owns s a b one two = by (memory setup past owns).left 
     by left (inl e) = (left.records, e)
     by left (inr (q, is, e)) = (q ∷ left.records, e)
 
-cause_by : (setup : Setup) (past : List ResourceRecord) (failed : Type 0) (pair : Pair) (size : ℕ) (e : OpenError) → IsNoDamage e → (e ≡ open_error.Failed → failed) → IsRestartError (ResourceRole setup past) failed pair size e
-cause_by setup past failed pair size open_error.Failed none fails = fails refl
-cause_by setup past failed pair size (open_error.Damaged second at) none fails = absurd none
-cause_by setup past failed pair size (open_error.Full full) none fails = absurd none
-cause_by setup past failed pair size open_error.NoMemory none fails = tt
+cause_by : (setup : Setup) (past : List ResourceRecord) (old new : NodeState) (e : OpenError) → IsNoDamage e → (e ≡ open_error.Failed → DisksFail old.disks new.disks) → IsRestartError (ResourceRole setup past) old new e
+cause_by setup past old new open_error.Failed none fails = fails refl
+cause_by setup past old new (open_error.Damaged second at) none fails = absurd none
+cause_by setup past old new (open_error.Full full) none fails = absurd none
+cause_by setup past old new open_error.NoMemory none fails = tt
 
 -- ---- all that is promised of a restart
 
@@ -251,8 +252,7 @@ module _ {D : Type 0} (state : D → DiskState) (law : (d : Stoppable D) → IsL
       → RestartsBy state r (with_store r s1) pick calls now (Err e)
   not_back e up recovers cause = record {
     restarts = λ told. tt;
-    after = λ told. after_error state r s1 down setting go_on (up_grown false pick (disks_of state r) (pair_of state s1) up);
-    cause = λ told role owns s. by told role owns s;
+    after = λ told role owns s. (after_error state r s1 down setting go_on (up_grown false pick (disks_of state r) (pair_of state s1) up) role owns s, by told role owns s);
     not_due = stays;
     settles = λ told. tt;
     picked = tt;
@@ -266,8 +266,8 @@ module _ {D : Type 0} (state : D → DiskState) (law : (d : Stoppable D) → IsL
       failing : e ≡ open_error.Failed → DisksFail (disks_of state r) (pair_of state s1)
       failing is = either_fails (disks_of state r).first.counts (disks_of state r).second.counts (pair_of state s1).first.counts (pair_of state s1).second.counts up.first.own up.second.own (cause is)
 
-      by : AreTold (disks_of state r) → (role : Role) (owns : List Own) → StandsAs state r role owns → IsRestartError role (DisksFail (disks_of state r) (pair_of state s1)) (pair_of state s1) (size_of state (with_store r s1)) e
-      by told (ResourceRole setup past) owns s = cause_by setup past (DisksFail (disks_of state r) (pair_of state s1)) (pair_of state s1) (size_of state (with_store r s1)) e (recovers told (always state r setup past owns s)) failing
+      by : AreTold (disks_of state r) → (role : Role) (owns : List Own) → StandsAs state r role owns → IsRestartError role (node_state state r) (node_state state (with_store r s1)) e
+      by told (ResourceRole setup past) owns s = cause_by setup past (node_state state r) (node_state state (with_store r s1)) e (recovers told (always state r setup past owns s)) failing
       by told (Coordinator times past) owns s = absurd s
       by told (Manager settings) owns s = absurd s
 
@@ -411,7 +411,7 @@ module _ {D : Type 0} (state : D → DiskState) (law : (d : Stoppable D) → IsL
               fallen = λ e. false_true e;
             }
 
-        restarts_up : AreTold (disks_of state r) → Restarts (StandsAs state) (DisksFail (disks_of state r) (disks_of state booting)) r booting pick calls now (act.Restarted (kept_of r2))
+        restarts_up : AreTold (disks_of state r) → Restarts (node_state state r) (node_state state booting) pick calls now (act.Restarted (kept_of r2))
         restarts_up told (ResourceRole setup past) owns s =
             let c = brought setup past owns s told in
             (false, c.keeps, sym (happens_back setup past owns s false c.keeps (kept_of r2) false c.is long), stands_up setup past owns s c, λ e. false_true e)
@@ -440,7 +440,6 @@ module _ {D : Type 0} (state : D → DiskState) (law : (d : Stoppable D) → IsL
         is_up = record {
           restarts = restarts_up;
           after = λ told. tt;
-          cause = λ told role owns s. tt;
           not_due = tt;
           settles = λ told. record { back = s2; setting = setting2; brings = armed.back pick (store_of r) (back told); boots = made };
           picked = have_pick (pair_of state s3) moved3.first_pick moved3.second_pick;
@@ -503,7 +502,7 @@ module _ {D : Type 0} (state : D → DiskState) (law : (d : Stoppable D) → IsL
         fell setup past owns s c (inl short) = (false, c.keeps, sym (happens_back setup past owns s false c.keeps (kept_of r2) true c.is short), stands_down setup past owns s c, λ e. false_true e)
         fell setup past owns s c (inr fail) = (true, c.keeps, sym (happens_back setup past owns s true c.keeps (kept_of r2) true c.is refl), stands_down setup past owns s c, λ e. fail)
 
-        restarts_down : AreTold (disks_of state r) → Restarts (StandsAs state) (DisksFail (disks_of state r) (disks_of state falling)) r falling pick calls now (act.Down (kept_of r2) (Some durable.Boot))
+        restarts_down : AreTold (disks_of state r) → Restarts (node_state state r) (node_state state falling) pick calls now (act.Down (kept_of r2) (Some durable.Boot))
         restarts_down told (ResourceRole setup past) owns s = fell setup past owns s (brought setup past owns s told) cause
         restarts_down told (Coordinator times past) owns s = absurd s
         restarts_down told (Manager settings) owns s = absurd s
@@ -526,7 +525,6 @@ module _ {D : Type 0} (state : D → DiskState) (law : (d : Stoppable D) → IsL
         is_falling = record {
           restarts = restarts_down;
           after = λ told. tt;
-          cause = λ told role owns s. tt;
           not_due = tt;
           settles = λ told. record { back = s2; setting = setting2; brings = armed.back pick (store_of r) (back told); boots = lost };
           picked = have_pick (pair_of state s3) moved_lost.first_pick moved_lost.second_pick;
@@ -541,12 +539,11 @@ module _ {D : Type 0} (state : D → DiskState) (law : (d : Stoppable D) → IsL
     -- ---- the boot isn't made, and nothing more changed
 
     not_booted : (e : OpenError) → (e ≡ open_error.Failed → DisksFail (disks_of state r) (pair_of state s2))
-        → (AreTold (disks_of state r) → (role : Role) (owns : List Own) → StandsAs state r role owns → IsRestartError role (DisksFail (disks_of state r) (pair_of state s2)) (pair_of state s2) (size_of state r2) e)
+        → (AreTold (disks_of state r) → (role : Role) (owns : List Own) → StandsAs state r role owns → IsRestartError role (node_state state r) (node_state state r2) e)
         → RestartsBy state r r2 pick calls now (Err e)
     not_booted e failing causes = record {
       restarts = λ told. tt;
-      after = λ told. after_error state r s2 down setting2 go_on2 grown2;
-      cause = causes;
+      after = λ told role owns s. (after_error state r s2 down setting2 go_on2 grown2 role owns s, causes told role owns s);
       not_due = λ short x y one two. stays short x y (armed.pair.first_leaves x one) (armed.pair.second_leaves y two);
       settles = λ told. tt;
       picked = tt;
@@ -559,7 +556,7 @@ module _ {D : Type 0} (state : D → DiskState) (law : (d : Stoppable D) → IsL
 
     -- a boot that doesn't fit
     too_full : (full : Full) → Changes (state_of state) (boot_record (known s2)) (Err (store_error.Full full)) s2 s2 → AreTold (disks_of state r) → (role : Role) (owns : List Own) → StandsAs state r role owns
-        → IsRestartError role (DisksFail (disks_of state r) (pair_of state s2)) (pair_of state s2) (size_of state r2) (open_error.Full full)
+        → IsRestartError role (node_state state r) (node_state state r2) (open_error.Full full)
     too_full full changes told (ResourceRole setup past) owns s =
         let c = brought setup past owns s told in
         let kept = subst (λ (t : Setting). KeepsRecords (state_of state) t (came setup past owns s (kept_of r2)) s2) (sym setting2) c.stands in
@@ -568,7 +565,7 @@ module _ {D : Type 0} (state : D → DiskState) (law : (d : Stoppable D) → IsL
     too_full full changes told (Coordinator times past) owns s = absurd s
     too_full full changes told (Manager settings) owns s = absurd s
 
-    free : (role : Role) (owns : List Own) → StandsAs state r role owns → IsRestartError role (DisksFail (disks_of state r) (pair_of state s2)) (pair_of state s2) (size_of state r2) open_error.NoMemory
+    free : (role : Role) (owns : List Own) → StandsAs state r role owns → IsRestartError role (node_state state r) (node_state state r2) open_error.NoMemory
     free (ResourceRole setup past) owns s = tt
     free (Coordinator times past) owns s = absurd s
     free (Manager settings) owns s = absurd s

@@ -28,8 +28,8 @@ use Rattle.history_rules.specs.ResourceMemory.{Memory, Setup, memory, memory_aft
 use Rattle.history_rules.specs.ResourceRules.{resource_answer}
 use Rattle.history_rules.specs.Nodes.{Coordinator, Manager, happens, left_at}
 use Rattle.history_rules.specs.Nodes.{Resource as ResourceRole}
-use Rattle.history_text.specs.Durable.{own_faults}
-use Rattle.history_text.specs.Promises.{AfterError, TakesStep, FailsAt, StaysItself, Overflows, Fits, HadPlace, own_step, cut, goes_down, steps_of, DisksFail}
+use Rattle.node_steps.specs.Durable.{own_faults}
+use Rattle.node_steps.specs.Promises.{AfterError, TakesStep, FailsAt, StaysItself, Overflows, Fits, HadPlace, own_step, cut, goes_down, steps_of, DisksFail}
 use Rattle.resource_log.specs.Records.{record_bytes}
 use Rattle.resource_memory.specs.Known.{Known}
 use Rattle.resource_store.specs.declared.store.Store.{Store}
@@ -43,11 +43,11 @@ use Rattle.seata_types.specs.declared.limits.TheConstants.{NODE_STEPS}
 use Rattle.resource_core.specs.Holding.{Holds}
 use Rattle.resource_core.specs.NodeMoving.{Misses}
 use Rattle.resource_core.specs.NodeLaws.{on_same}
-use Rattle.resource_core.specs.NodeStanding.{IsSound, OnDisks, StandsAs, StandsForEither, StandsOver, serves}
-use Rattle.history_text.proofs.Places.{has_place}
+use Rattle.resource_core.specs.NodeStanding.{IsSound, OnDisks, StandsForEither, StandsOver, node_state, serves}
+use Rattle.node_steps.proofs.Places.{has_place}
 use Rattle.resource_core.specs.NodeStepping.{HasRoom, HadRoom, StepsBy}
 use Rattle.resource_core.specs.Ready.{AreTicketsWithin, HasActionWithin, HasStmtsWithin, IsReady}
-use Rattle.resource_core.specs.Shown.{active_of, disks_of, is_down, needs, pair_of, size_of, stands_at, store_of}
+use Rattle.resource_core.specs.Shown.{active_of, disks_of, is_down, needs, pair_of, size_of, store_of}
 use Rattle.resource_core.specs.Stepping.{Answers, KeepsSettings, asked_record, made_as}
 use Rattle.resource_core.proofs.HappensLaws as happening
 use Rattle.resource_core.proofs.HappensLaws.{same_setup}
@@ -222,7 +222,7 @@ module _ {D : Type 0} (state : D → DiskState) (law : (d : Stoppable D) → IsL
               let d = durable_some (resource_record setup (kept_records step.act m.left) m.opens (Given given)) asked step.act q recorded some in
               made d.0 q d.1 (subst (λ (o : Option ResourceRecord). Does {A = Unit {0}} (state_of state) o (Ok tt) (store_of r) (store_of r')) some does)
 
-    pub takes_step : TakesStep (StandsAs state) r r' given now step
+    pub takes_step : TakesStep (node_state state r) (node_state state r') given now step
     takes_step (ResourceRole setup past) owns s = done setup past owns s
     takes_step (Coordinator times past) owns s = absurd s
     takes_step (Manager settings) owns s = absurd s
@@ -280,14 +280,14 @@ module _ {D : Type 0} (state : D → DiskState) (law : (d : Stoppable D) → IsL
           by None none does = absurd (let no : store_error.Failed ≡ store_error.NoMemory = does.0 in cc)
           by (Some q) some does = fell q some does
 
-    pub fails_at : FailsAt (StandsAs state) (DisksFail (disks_of state r) (disks_of state r')) r r' given now flight
+    pub fails_at : FailsAt (node_state state r) (node_state state r') given now flight
     fails_at (ResourceRole setup past) owns s = failed setup past owns s
     fails_at (Coordinator times past) owns s = absurd s
     fails_at (Manager settings) owns s = absurd s
 
   -- ---- a record that doesn't fit
 
-  pub overflows : (full : Full) (b' : Branches (Stoppable D)) → Answers (state_of state) r.branches b' given (Err (error.Full full)) → Overflows (StandsAs state) (disks_of state r) (size_of state r) r given now full
+  pub overflows : (full : Full) (b' : Branches (Stoppable D)) → Answers (state_of state) r.branches b' given (Err (error.Full full)) → Overflows (node_state state r) (node_state state r) given now full
   overflows full b' a (ResourceRole setup past) owns s =
       let m : Memory = memory setup past owns in
       let h = s.holds (upon setup past owns s) in
@@ -307,7 +307,7 @@ module _ {D : Type 0} (state : D → DiskState) (law : (d : Stoppable D) → IsL
   -- ---- a record that was taken
 
   -- what fits has a place behind the records that the disks hold
-  pub placed : HasRoom state r given now → Fits (StandsAs state) (disks_of state r) (size_of state r) r given now
+  pub placed : HasRoom state r given now → Fits (node_state state r) given now
   placed room (ResourceRole setup past) owns s bytes e =
       let h = s.holds (upon setup past owns s) in
       has_place (state_of state) law h.keeps.found (twin (store_of r)) h.keeps.kept.pair (size_of state r) (length bytes) (room (ResourceRole setup past) owns s bytes e)
@@ -355,7 +355,7 @@ same_branches old new store txns same = λ i. record {
 }
 
 pub stays_itself : {D : Type 0} (state : D → DiskState) (r r' : Resource D) → r'.branches.number ≡ r.branches.number → (IsSound r → IsSound r')
-    → SameKind (disks_of state r).first (disks_of state r').first → SameKind (disks_of state r).second (disks_of state r').second → StaysItself stands_at serves (disks_of state) r r'
+    → SameKind (disks_of state r).first (disks_of state r').first → SameKind (disks_of state r).second (disks_of state r').second → StaysItself (node_state state r) (node_state state r')
 stays_itself state r r' number sound first second = record {
   same_place = ap place.Res number;
   same_inputs = λ given s. (sound s.0, s.1);
@@ -403,8 +403,8 @@ module _ {D : Type 0} (state : D → DiskState) (law : (d : Stoppable D) → IsL
       }
 
   -- nothing changed
-  itself : (e : NodeError) → AfterError (StandsAs state) (DisksFail (disks_of state r) (disks_of state r)) (disks_of state r) (size_of state r) r r given now e → HadRoom state r given now (Err e)
-      → HadPlace (StandsAs state) (disks_of state r) (size_of state r) r given now (Err e) → steps_of (Err e) ≡ 0
+  itself : (e : NodeError) → AfterError (node_state state r) (node_state state r) given now e → HadRoom state r given now (Err e)
+      → HadPlace (node_state state r) given now (Err e) → steps_of (Err e) ≡ 0
       → goes_down (Err e) ≡ false → StepsBy state r r given now (Err e)
   itself e after room place none not = record {
     answers = tt;

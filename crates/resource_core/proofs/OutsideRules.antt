@@ -25,8 +25,8 @@ use Rattle.durable_records.specs.RowsKept.{tables}
 use Rattle.history_rules.specs.Own.{added, still}
 use Rattle.history_rules.specs.ResourceMemory.{Memory, next_ticket, opening_tables, local_of, or_empty, or_none, effect_on, resource_asked, memory_after}
 use Rattle.history_rules.specs.ResourceRules as rules
-use Rattle.history_text.specs.Framing.{SendsFramable}
-use Rattle.history_text.specs.Promises.{own_step}
+use Rattle.node_steps.specs.Framing.{SendsFramable}
+use Rattle.node_steps.specs.Promises.{own_step}
 use Rattle.resource_store.specs.declared.store.Store.{Store}
 use Rattle.resource_store.specs.Keeping.{is_down, known}
 use Rattle.resource_store.specs.Answers.{Leaves}

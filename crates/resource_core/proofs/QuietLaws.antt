@@ -35,7 +35,7 @@ use Rattle.history_rules.specs.CoordinatorRules.{branch_of, xid_of}
 use Rattle.history_rules.specs.ResourceMemory.{Memory, Setup, action_of, committed_of, local_committed_of, next_ticket, opening_tables, resource_asked, tried_of}
 use Rattle.history_rules.specs.ResourceRules as rules
 use Rattle.history_rules.specs.ResourceRules.{resource_answer}
-use Rattle.history_text.specs.Promises.{own_step}
+use Rattle.node_steps.specs.Promises.{own_step}
 use Rattle.resource_core.specs.Stepping.{asked_record}
 
 -- an act of a node that stays up, with the record that it asks for where it is durable

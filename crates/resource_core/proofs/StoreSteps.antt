@@ -17,8 +17,8 @@ use Rattle.durable_records.specs.declared.resources.ResourceRecord.{ResourceReco
 use Rattle.durable_records.specs.UndoRecords.{boots}
 use Rattle.history_rules.specs.ResourceMemory.{Memory, resource_asked, memory_after}
 use Rattle.history_rules.specs.ResourceRules.{resource_answer}
-use Rattle.history_text.specs.Framing.{SendsFramable}
-use Rattle.history_text.specs.Promises.{own_step}
+use Rattle.node_steps.specs.Framing.{SendsFramable}
+use Rattle.node_steps.specs.Promises.{own_step}
 use Rattle.resource_store.specs.Keeping.{is_down, known, setting_of}
 use Rattle.resource_store.specs.Answers.{Answer, Gives, GivesBy, Leaves, outcome, tables_now}
 use Rattle.resource_core.specs.Holding.{setup_of, Holds}

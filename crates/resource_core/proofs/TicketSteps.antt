@@ -11,8 +11,8 @@ use Rattle.local_txn.specs.Answers.{Tickets}
 use Rattle.durable_records.specs.UndoRecords.{boots}
 use Rattle.history_rules.specs.ResourceMemory.{Memory, resource_asked, memory_after}
 use Rattle.history_rules.specs.ResourceRules.{resource_answer}
-use Rattle.history_text.specs.Framing.{SendsFramable}
-use Rattle.history_text.specs.Promises.{own_step}
+use Rattle.node_steps.specs.Framing.{SendsFramable}
+use Rattle.node_steps.specs.Promises.{own_step}
 use Rattle.resource_store.specs.declared.store.Store.{Store}
 use Rattle.resource_store.specs.Keeping.{known, is_down, has_failed}
 use Rattle.resource_store.specs.Answers.{Leaves, outcome}

@@ -5,24 +5,22 @@ use Rattle.disk_model.specs.Stop.{state_of}
 use Rattle.disk_model.specs.declared.stoppable.Stoppable.{Stoppable}
 use Rattle.seata_types.specs.declared.acts.Act.TheVariants as act
 use Rattle.seata_types.specs.declared.ids.Place.TheVariants as place
-use Rattle.seata_types.specs.declared.messages.Input.{Input}
-use Rattle.local_tables.specs.Rows.{Database}
 use Rattle.durable_records.specs.declared.resources.ResourceRecord.{ResourceRecord}
 use Rattle.history_rules.specs.Own.{Own, Left, Given, Stopped, Crashed, Restarted, still}
 use Rattle.history_rules.specs.Devices.{calls_left, fault_entries, in_flight, may_stand, is_down as down_by}
 use Rattle.history_rules.specs.Nodes.{Role, Coordinator, Manager}
 use Rattle.history_rules.specs.Nodes.{Resource as ResourceRole}
 use Rattle.history_rules.specs.ResourceMemory.{Memory, Setup, memory, opening_tables}
-use Rattle.history_text.specs.Durable.{AreRecords, StandsForRecords, StandsForLeft, of_resource, keepable, own_faults, AreNodeDisks}
-use Rattle.history_text.specs.Promises.{place_of, has_disks, own_entry}
+use Rattle.node_steps.specs.Durable.{AreRecords, StandsForRecords, StandsForLeft, of_resource, keepable, own_faults, AreNodeDisks}
+use Rattle.node_steps.specs.Nodes.{IsLawful, KeepsStill, Tells, has_disks, lost, own_entry, place_of}
 use Rattle.resource_store.specs.declared.store.Store.{Store}
 use Rattle.resource_store.specs.Keeping.{setting_of}
 use Rattle.resource_store.specs.Meaning.{Setting, opening_of}
 use Rattle.resource_store.specs.Standing as store
 use Rattle.resource_core.specs.declared.nodes.Resource.{Resource}
 use Rattle.resource_core.specs.Holding.{Holds}
-use Rattle.resource_core.specs.NodeStanding.{OnDisks, StandsAs, StandsForEither, StandsOver}
-use Rattle.resource_core.specs.Shown.{store_of, stands_at, is_down, disks_of, pair_of}
+use Rattle.resource_core.specs.NodeStanding.{OnDisks, StandsAs, StandsForEither, StandsOver, node_state}
+use Rattle.resource_core.specs.Shown.{store_of, setup_in, stands_at, is_down, disks_of, pair_of}
 
 -- ---- what disks stand for, in the words of histories
 
@@ -36,39 +34,36 @@ stands_for_records t rs a b s = record { found = s.found; pair = s.pair; records
 -- ---- laws
 
 module _ {D : Type 0} (state : D → DiskState) where
+  -- what is said of each role is said of a resource's
+  of_resources : (r : Resource D) (P : Role → List Own → Type 0) → ((setup : Setup) (past : List ResourceRecord) (owns : List Own) → StandsOver state r setup past owns → P (ResourceRole setup past) owns)
+      → (role : Role) (owns : List Own) → StandsAs state r role owns → P role owns
+  of_resources r P so (ResourceRole setup past) owns s = so setup past owns s
+  of_resources r P so (Coordinator times past) owns s = absurd s
+  of_resources r P so (Manager settings) owns s = absurd s
+
   pub places : (r : Resource D) (role : Role) (owns : List Own) → StandsAs state r role owns → stands_at r ≡ place_of role
-  places r (ResourceRole setup past) owns s = ap place.Res s.numbered
-  places r (Coordinator times past) owns s = absurd s
-  places r (Manager settings) owns s = absurd s
+  places r = of_resources r (λ role owns. stands_at r ≡ place_of role) (λ setup past owns s. ap place.Res s.numbered)
 
-  pub with_disks : (r : Resource D) (role : Role) (owns : List Own) → StandsAs state r role owns → true ≡ has_disks role
-  with_disks r (ResourceRole setup past) owns s = refl
-  with_disks r (Coordinator times past) owns s = absurd s
-  with_disks r (Manager settings) owns s = absurd s
-
-  pub downs : (r : Resource D) (role : Role) (owns : List Own) → StandsAs state r role owns → is_down r ≡ down_by owns
-  downs r (ResourceRole setup past) owns s = s.down
-  downs r (Coordinator times past) owns s = absurd s
-  downs r (Manager settings) owns s = absurd s
+  tells : (r : Resource D) → Tells (node_state state r)
+  tells r = record {
+    places = places r;
+    with_disks = of_resources r (λ role owns. true ≡ has_disks role) (λ setup past owns s. refl);
+    downs = of_resources r (λ role owns. is_down r ≡ down_by owns) (λ setup past owns s. s.down);
+  }
 
   pub device : (r : Resource D) (role : Role) (owns : List Own) → StandsAs state r role owns → AreNodeDisks role owns (disks_of state r)
-  device r (ResourceRole setup past) owns s = record {
-    images = λ a b first second. either (memory setup past owns).left a b (s.disks.images a b first second);
+  device r = of_resources r (λ role owns. AreNodeDisks role owns (disks_of state r)) (λ setup past owns s. record {
+    images = λ a b first second. either setup s.is owns (memory setup past owns).left a b (s.disks.images a b first second);
     counted = s.disks.counted;
-  }
+  })
     where
-      -- its tables at the opening are those of its store
-      opens : opening_of (setting_of (store_of r)) ≡ opening_tables setup
-      opens = ap opening_tables (sym s.is)
+      told : (setup : Setup) → setup ≡ setup_in r → (rs : List ResourceRecord) (a b : List ℕ) → store.StandsForRecords (setting_of (store_of r)) rs a b → StandsForRecords (of_resource (opening_tables setup)) rs a b
+      told setup is rs a b e = subst (λ (w : Setup). StandsForRecords (of_resource (opening_tables w)) rs a b) (sym is) (stands_for_records (setting_of (store_of r)) rs a b e)
 
-      told : (rs : List ResourceRecord) (a b : List ℕ) → store.StandsForRecords (setting_of (store_of r)) rs a b → StandsForRecords (of_resource (opening_tables setup)) rs a b
-      told rs a b e = subst (λ (db : Database). StandsForRecords (of_resource db) rs a b) opens (stands_for_records (setting_of (store_of r)) rs a b e)
-
-      either : (left : Left ResourceRecord) (a b : List ℕ) → StandsForEither (setting_of (store_of r)) left (keepable true owns left) a b → StandsForLeft (of_resource (opening_tables setup)) left (keepable true owns left) a b
-      either left a b (inl e) = inl (told left.records a b e)
-      either left a b (inr (q, is, e)) = inr (q, is, told (q ∷ left.records) a b e)
-  device r (Coordinator times past) owns s = absurd s
-  device r (Manager settings) owns s = absurd s
+      either : (setup : Setup) → setup ≡ setup_in r → (owns : List Own) (left : Left ResourceRecord) (a b : List ℕ) → StandsForEither (setting_of (store_of r)) left (keepable true owns left) a b
+          → StandsForLeft (of_resource (opening_tables setup)) left (keepable true owns left) a b
+      either setup is owns left a b (inl e) = inl (told setup is left.records a b e)
+      either setup is owns left a b (inr (q, kept, e)) = inr (q, kept, told setup is (q ∷ left.records) a b e)
 
   -- what disks are after an entry at which nothing of them changes
   pub on_same : (s : Store (Stoppable D)) (left left' : Left ResourceRecord) (os os' : List Own) → down_by os' ≡ down_by os → left' ≡ left
@@ -96,21 +91,19 @@ module _ {D : Type 0} (state : D → DiskState) where
     };
   }
 
-  pub loses : (r : Resource D) (role : Role) (owns : List Own) (now : ℕ) → StandsAs state r role owns → is_down r ≡ true →
-      ((input : Input) → StandsAs state r role (own_entry (Given input) now (still act.Lost) ∷ owns))
-      × ((calls : ℕ) → StandsAs state r role (own_entry (Stopped calls) now (still act.Lost) ∷ owns))
-      × StandsAs state r role (own_entry Crashed now (still act.Lost) ∷ owns)
-  loses r (ResourceRole setup past) owns now s down = (
-    (λ input. stands_same r setup past owns (own_entry (Given input) now (still act.Lost) ∷ owns) refl refl refl (omega arith) refl s),
-    (λ calls. stands_same r setup past owns (own_entry (Stopped calls) now (still act.Lost) ∷ owns) refl refl refl (omega arith) refl s),
-    stands_same r setup past owns (own_entry Crashed now (still act.Lost) ∷ owns) refl refl refl (omega arith) refl s,
-  )
-  loses r (Coordinator times past) owns now s down = absurd s
-  loses r (Manager settings) owns now s down = absurd s
+  -- an entry at which nothing changes is one more that it stands for
+  keeps : (r : Resource D) → KeepsStill (node_state state r)
+  keeps r = record {
+    given = λ down input now. by (lost (Given input) now) (λ setup past owns. stands_same r setup past owns (lost (Given input) now ∷ owns) refl refl refl (omega arith) refl);
+    stopped = λ down calls now. by (lost (Stopped calls) now) (λ setup past owns. stands_same r setup past owns (lost (Stopped calls) now ∷ owns) refl refl refl (omega arith) refl);
+    crashed = λ down now. by (lost Crashed now) (λ setup past owns. stands_same r setup past owns (lost Crashed now ∷ owns) refl refl refl (omega arith) refl);
+    restarted = λ stops up pick calls now. by (own_entry (Restarted pick calls) now (still act.Nothing))
+        (λ setup past owns. stands_same r setup past owns (own_entry (Restarted pick calls) now (still act.Nothing) ∷ owns) refl refl refl (omega arith) refl);
+  }
+    where
+      by : (o : Own) → ((setup : Setup) (past : List ResourceRecord) (owns : List Own) → StandsOver state r setup past owns → StandsOver state r setup past (o ∷ owns))
+          → (role : Role) (owns : List Own) → StandsAs state r role owns → StandsAs state r role (o ∷ owns)
+      by o so = of_resources r (λ role owns. StandsAs state r role (o ∷ owns)) so
 
-  pub stays : (r : Resource D) (role : Role) (owns : List Own) (now pick : ℕ) (calls : Option ℕ) → true ≡ true → StandsAs state r role owns → is_down r ≡ false →
-      StandsAs state r role (own_entry (Restarted pick calls) now (still act.Nothing) ∷ owns)
-  stays r (ResourceRole setup past) owns now pick calls stops s up =
-      stands_same r setup past owns (own_entry (Restarted pick calls) now (still act.Nothing) ∷ owns) refl refl refl (omega arith) refl s
-  stays r (Coordinator times past) owns now pick calls stops s up = absurd s
-  stays r (Manager settings) owns now pick calls stops s up = absurd s
+  pub lawful : (r : Resource D) → IsLawful (node_state state r)
+  lawful r = record { tells = tells r; keeps = keeps r; falls = λ down. refl; device = device r }

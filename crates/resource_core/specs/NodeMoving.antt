@@ -17,7 +17,7 @@ use Rattle.seata_types.specs.declared.errors.OpenError.TheVariants as open_error
 use Rattle.seata_types.specs.declared.errors.StoreError.TheVariants as store_error
 use Rattle.durable_records.specs.declared.resources.ResourceRecord.{ResourceRecord}
 use Rattle.local_txn.specs.Answers.{no_tickets}
-use Rattle.history_text.specs.Durable.{own_faults}
+use Rattle.node_steps.specs.Durable.{own_faults}
 use Rattle.resource_store.specs.declared.store.Store.{Store}
 use Rattle.resource_store.specs.Meaning.{Setting}
 use Rattle.resource_store.specs.Keeping.{setting_of, known, found_of, is_down as store_is_down, BringsBack, KeepsRecords, Changes, boot_record, with_disk as store_with}

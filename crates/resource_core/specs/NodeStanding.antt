@@ -13,9 +13,10 @@ use Rattle.history_rules.specs.Devices.{calls_left, fault_entries, in_flight, is
 use Rattle.history_rules.specs.ResourceMemory.{Memory, Setup, memory}
 use Rattle.history_rules.specs.Nodes.{Role, Coordinator, Manager}
 use Rattle.history_rules.specs.Nodes.{Resource as ResourceRole}
-use Rattle.history_text.specs.Durable.{keepable, own_faults}
+use Rattle.node_steps.specs.Durable.{keepable, own_faults}
+use Rattle.node_steps.specs.Nodes.{NodeState}
 use Rattle.resource_store.specs.declared.store.Store.{Store}
-use Rattle.resource_store.specs.Keeping.{setting_of, known, is_down as store_is_down}
+use Rattle.resource_store.specs.Keeping.{setting_of, known, is_down as store_is_down, KeepsRecords}
 use Rattle.resource_store.specs.Meaning.{Setting, Opens, IsOf}
 use Rattle.resource_store.specs.Standing.{StandsForRecords}
 use Rattle.record_places.specs.Within.{IsTableWithin}
@@ -23,7 +24,7 @@ use Rattle.resource_core.specs.declared.nodes.Resource.{Resource}
 use Rattle.seata_types.specs.declared.limits.TheConstants.{NODE_STEPS}
 use Rattle.resource_core.specs.Holding.{Holds}
 use Rattle.resource_core.specs.Ready.{AreTicketsWithin, HasActionWithin, HasStmtsWithin, Serves}
-use Rattle.resource_core.specs.Shown.{store_of, setup_in, pair_of, active_of}
+use Rattle.resource_core.specs.Shown.{store_of, setup_in, stands_at, steps_left, is_down, pair_of, disks_of, active_of, size_of}
 
 -- ---- its disks
 
@@ -57,6 +58,11 @@ pub record StandsOver {D : Type 0} (state : D → DiskState) (r : Resource D) (s
   pub holds : down_by os ≡ false → Holds (state_of state) r.branches (memory setup past os)
   pub fallen : down_by os ≡ true → IsFallen r (memory setup past os) os
 
+-- a store keeps the records that the own entries of a resource leave
+abbrev pub KeepsOwnRecords : {D : Type 0} → (D → DiskState) → Resource D → Store (Stoppable D) → Type 0
+KeepsOwnRecords state r s =
+    (setup : Setup) (past : List ResourceRecord) (os : List Own) → StandsOver state r setup past os → KeepsRecords (state_of state) (setting_of s) (memory setup past os).left.records s
+
 -- it has this role, and is the resource of these own entries
 abbrev pub StandsAs : {D : Type 0} → (D → DiskState) → Resource D → Role → List Own → Type 0
 StandsAs state r (ResourceRole setup past) os = StandsOver state r setup past os
@@ -82,3 +88,17 @@ pub record IsSound {D : Type 0} (r : Resource D) : Type 0 where
 -- what it answers by the rules
 abbrev pub serves : {D : Type 0} → Resource D → Input → Type 0
 serves r given = IsSound r × Serves given
+
+-- ---- as a node
+
+abbrev pub node_state : {D : Type 0} → (D → DiskState) → Resource D → NodeState
+node_state state r = record {
+  stands_for = StandsAs state r;
+  place = stands_at r;
+  serves = serves r;
+  left = steps_left r;
+  stops = true;
+  down = is_down r;
+  disks = disks_of state r;
+  size = size_of state r;
+}

@@ -15,15 +15,15 @@ use Rattle.seata_types.specs.declared.messages.Input.{Input}
 use Rattle.seata_types.specs.declared.messages.Step.{Step}
 use Rattle.history_rules.specs.Own.{Own, Stopped, Crashed, still}
 use Rattle.history_rules.specs.Nodes.{Role}
-use Rattle.history_text.specs.Durable.{SamePicks, HavePick}
-use Rattle.history_text.specs.Framing.{ComesFramable, SendsFramable}
-use Rattle.history_text.specs.Promises.{Does, TakesStep, AfterError, HadPlace, DisksFail, StaysItself, goes_down, steps_of, AreTold, StandsAsBefore, asked_bytes, Restarts, IsRestartError, stays_down}
+use Rattle.node_steps.specs.Durable.{SamePicks, HavePick}
+use Rattle.node_steps.specs.Framing.{ComesFramable, SendsFramable}
+use Rattle.node_steps.specs.Promises.{AreTold, DisksFail, StaysItself, Does, TakesStep, AfterError, HadPlace, asked_bytes, steps_of, goes_down, Restarts, FailsRestart, stays_down}
 use Rattle.memory_store.specs.Keeping.{StaysWhereShort}
 use Rattle.resource_store.specs.declared.store.Store.{Store}
 use Rattle.resource_store.specs.Keeping.{BringsBack, Changes, boot_record, found_of, known, setting_of, twin}
 use Rattle.resource_core.specs.declared.nodes.Resource.{Resource}
-use Rattle.resource_core.specs.NodeStanding.{StandsAs, serves}
-use Rattle.resource_core.specs.Shown.{stands_at, store_of, disks_of, needs, size_of, steps_left, is_down}
+use Rattle.resource_core.specs.NodeStanding.{StandsAs, node_state}
+use Rattle.resource_core.specs.Shown.{store_of, disks_of, needs, size_of, steps_left, is_down}
 
 -- the first record that its first opening found stays
 abbrev pub SameFound : {D : Type 0} → (old new : Resource D) → Type 0
@@ -42,28 +42,28 @@ HadRoom state r given now (Err (error.Full full)) = Unit {0}
 HadRoom state r given now (Err error.NoMemory) = Unit {0}
 
 pub record StepsBy {D : Type 0} (state : D → DiskState) (old new : Resource D) (given : Input) (now : ℕ) (result : Result Step NodeError) : Type 0 where
-  pub answers : IfOk result (TakesStep (StandsAs state) old new given now)
+  pub answers : IfOk result (TakesStep (node_state state old) (node_state state new) given now)
   pub framable : ComesFramable given → IfOk result SendsFramable
-  pub after : IfErr result (AfterError (StandsAs state) (DisksFail (disks_of state old) (disks_of state new)) (disks_of state new) (size_of state new) old new given now)
+  pub after : IfErr result (AfterError (node_state state old) (node_state state new) given now)
   pub room : HadRoom state old given now result
-  pub placed : HadPlace (StandsAs state) (disks_of state old) (size_of state old) old given now result
-  pub same : StaysItself stands_at serves (disks_of state) old new
+  pub placed : HadPlace (node_state state old) given now result
+  pub same : StaysItself (node_state state old) (node_state state new)
   pub picks : SamePicks (disks_of state old) (disks_of state new)
   pub counted : steps_left new + steps_of result ≡ steps_left old
   pub down : is_down new ≡ goes_down result
   pub found : SameFound old new
 
 pub record ArmsBy {D : Type 0} (state : D → DiskState) (old new : Resource D) (calls : ℕ) : Type 0 where
-  pub does : (now : ℕ) → Does (StandsAs state) old new (Stopped calls) now (still act.Armed)
-  pub same : StaysItself stands_at serves (disks_of state) old new
+  pub does : (now : ℕ) → Does (node_state state old) (node_state state new) (Stopped calls) now (still act.Armed)
+  pub same : StaysItself (node_state state old) (node_state state new)
   pub picks : SamePicks (disks_of state old) (disks_of state new)
   pub counted : steps_left new ≡ steps_left old
   pub up : is_down new ≡ false
   pub found : SameFound old new
 
 pub record CrashesBy {D : Type 0} (state : D → DiskState) (old new : Resource D) : Type 0 where
-  pub does : (now : ℕ) → Does (StandsAs state) old new Crashed now (still (act.Down None None))
-  pub same : StaysItself stands_at serves (disks_of state) old new
+  pub does : (now : ℕ) → Does (node_state state old) (node_state state new) Crashed now (still (act.Down None None))
+  pub same : StaysItself (node_state state old) (node_state state new)
   pub picks : SamePicks (disks_of state old) (disks_of state new)
   pub counted : steps_left new ≡ steps_left old
   pub down : is_down new ≡ true
@@ -84,17 +84,15 @@ pub record ComesBack {D : Type 0} (state : D → DiskState) (pick : ℕ) (boot :
   pub boots : Changes (state_of state) (boot_record (known back)) boot back new
 
 pub record RestartsBy {D : Type 0} (state : D → DiskState) (old new : Resource D) (pick : ℕ) (calls : Option ℕ) (now : ℕ) (result : Result Act OpenError) : Type 0 where
-  pub restarts : AreTold (disks_of state old) → IfOk result (Restarts (StandsAs state) (DisksFail (disks_of state old) (disks_of state new)) old new pick calls now)
-  pub after : AreTold (disks_of state old) → OnErr result (StandsAsBefore (StandsAs state) old new)
-  pub cause : AreTold (disks_of state old) → (role : Role) (owns : List Own) → StandsAs state old role owns →
-      IfErr result (IsRestartError role (DisksFail (disks_of state old) (disks_of state new)) (disks_of state new) (size_of state new))
+  pub restarts : AreTold (disks_of state old) → IfOk result (Restarts (node_state state old) (node_state state new) pick calls now)
+  pub after : AreTold (disks_of state old) → IfErr result (FailsRestart (node_state state old) (node_state state new))
   -- one that fails changes no byte where the records are short
   pub not_due : OnErr result (StaysWhereShort (state_of state) (twin (store_of old)) (twin (store_of new)))
   -- its disks came back as this pick may bring them, with a snapshot in place of the records where one was due; then came its boot
   pub settles : AreTold (disks_of state old) → IfOk result (λ done. ComesBack state pick (boot_made done) (store_of old) (store_of new))
   pub picked : OnOk result (HavePick pick (disks_of state new))
   pub failed : result ≡ Err open_error.Failed → DisksFail (disks_of state old) (disks_of state new)
-  pub same : StaysItself stands_at serves (disks_of state) old new
+  pub same : StaysItself (node_state state old) (node_state state new)
   pub counted : steps_left new ≡ steps_left old
   pub down : is_down new ≡ stays_down result
   pub found : SameFound old new

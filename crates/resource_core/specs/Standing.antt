@@ -11,7 +11,7 @@ use Rattle.history_rules.specs.Devices.{is_down, is_short}
 use Rattle.history_rules.specs.Nodes.{Resource, happens, left_at}
 use Rattle.history_rules.specs.Own.{Given, Own, still}
 use Rattle.history_rules.specs.ResourceMemory.{memory}
-use Rattle.history_text.specs.Promises.{own_step}
+use Rattle.node_steps.specs.Promises.{own_step}
 use Rattle.resource_core.specs.Holding.{Holds, setup_of}
 use Rattle.resource_core.specs.Stepping.{Answers}
 use Rattle.resource_core.specs.declared.branches.Branches.{Branches}

@@ -46,8 +46,8 @@ use Rattle.local_guard.specs.declared.answers.OutsideError.TheVariants as outsid
 use Rattle.history_rules.specs.Own.{still}
 use Rattle.history_rules.specs.ResourceMemory.{Setup, Memory, resource_asked, memory_after}
 use Rattle.history_rules.specs.ResourceRules.{resource_answer, request_of, requests, least_branch}
-use Rattle.history_text.specs.Framing.{SendsFramable}
-use Rattle.history_text.specs.Promises.{own_step}
+use Rattle.node_steps.specs.Framing.{SendsFramable}
+use Rattle.node_steps.specs.Promises.{own_step}
 use Rattle.resource_store.specs.Answers.{Does, Leaves}
 use Rattle.resource_store.specs.Keeping.{known, setting_of, KeepsRecords}
 use Rattle.resource_core.specs.Holding.{setup_of, Holds}

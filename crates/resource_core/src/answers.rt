@@ -7,7 +7,7 @@ ghost use Rattle.resource_core.specs.Telling.{why_of, tells, drops, node_error, 
 
 use crate::callers::{Caller, Cause};
 use at_branch::{Committed, Granted, Rolled};
-use history_text::{sends, still};
+use node_steps::{sends, still};
 use seata_types::{
     Act, BranchId, BranchStatus, CallAnswer, Durable, Leg, Message, NodeError, Place, Step,
     StoreError, Ticket, Why,

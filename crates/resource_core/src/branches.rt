@@ -2,8 +2,8 @@
 use crate::callers::Caller;
 use crate::requests::request;
 use disk_model::Disk;
-use history_text::{sends, still};
 use local_txn::LocalTxns;
+use node_steps::{sends, still};
 use resource_store::Store;
 use seata_types::{
     Act, Action, Input, Leg, List, Message, NoMemory, NodeError, Place, Step, Stmt, Ticket, Work,

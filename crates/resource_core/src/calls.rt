@@ -8,8 +8,8 @@ use crate::branches::Branches;
 use crate::callers::Caller;
 use crate::numbers::{in_range, in_ticket, is_nobody};
 use disk_model::Disk;
-use history_text::{sends, still};
 use local_txn::ExecError;
+use node_steps::{sends, still};
 use seata_types::{
     Act, Action, BranchId, CallAnswer, Duplicate, Leg, NoMemory, NodeError, Place, RowKey, Step,
     Stmt, StmtError, Ticket, Why, Work,

@@ -8,7 +8,7 @@ use crate::branches::Branches;
 use crate::numbers::in_range;
 use crate::setup::action_of;
 use disk_model::Disk;
-use history_text::still;
+use node_steps::still;
 use seata_types::{Act, BranchKind, Durable, Leg, NodeError, Step};
 use std::alloc::Global;
 use tcc_fence::FenceAnswer;

@@ -10,8 +10,8 @@ use crate::callers::{Caller, Cause};
 use crate::numbers::{in_range, is_nobody};
 use at_branch::Conflicted;
 use disk_model::Disk;
-use history_text::still;
 use local_txn::OpenTxn;
+use node_steps::still;
 use seata_types::{
     Act, BranchId, BranchKind, Duplicate, Durable, Leg, NodeError, Registered, RowKey, Step,
     Ticket, Why, Work, Xid,

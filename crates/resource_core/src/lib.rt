@@ -12,9 +12,11 @@ pub mod laws;
 mod locals;
 pub mod nodes;
 mod numbers;
+pub mod opening;
 mod requests;
 pub mod setup;
 
 pub use branches::Branches;
 pub use nodes::Resource;
+pub use opening::Loaded;
 pub use setup::Setup;

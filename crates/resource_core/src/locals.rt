@@ -10,9 +10,9 @@ use crate::branches::Branches;
 use crate::numbers::in_ticket;
 use crate::setup::local_of;
 use disk_model::Disk;
-use history_text::{sends, still};
 use local_guard::OutsideError;
 use local_txn::{ExecError, OpenTxn};
+use node_steps::{sends, still};
 use seata_types::{
     Act, Duplicate, Durable, NoMemory, NodeError, Place, RowKey, Step, StmtError, Ticket, Why, Xid,
 };

@@ -1,108 +1,40 @@
 //! A resource as a node.
-ghost use Rattle.std.specs.Prelude.{◌≡◌};
-ghost use Rattle.disk_model.specs.Stop.{below};
-
 use crate::branches::Branches;
-use crate::setup::Setup;
+use crate::opening::disks_of;
 use disk_model::{Disk, Stoppable};
-use history_text::Node;
 use local_txn::LocalTxns;
+use node_steps::Node;
 use resource_store::Store;
-use seata_types::limits::NODE_STEPS;
 use seata_types::{Act, Durable, Input, NodeError, OpenError, Place, Step, StoreError};
 use std::alloc::Global;
 
 /// A resource, over its two disks.
 #[derive(Drop)]
 pub struct Resource<D> {
-    branches: Branches<Stoppable<D>>,
-    down: bool,
+    pub(crate) branches: Branches<Stoppable<D>>,
+    pub(crate) down: bool,
     // The act in flight, while it is down, and how many records stood before it.
-    flight: Option<Durable>,
-    records: u32,
-    left: u32,
-}
-
-// An error, and the disks without their stops.
-fn give_back<D: Disk>(
-    error: OpenError,
-    first: Stoppable<D>,
-    second: Stoppable<D>,
-) -> (OpenError, D, D)
-    ensures { result ≡ (error, below first, below second) }
-{
-    (error, first.into_inner(), second.into_inner())
+    pub(crate) flight: Option<Durable>,
+    pub(crate) records: u32,
+    pub(crate) left: u32,
 }
 
 impl<D: Disk> Resource<D> {
-    ghost use Rattle.std.specs.Prelude.{◌≡◌, ◌<◌, ◌≤◌, ◌^◌, true, false, List as Items, IfOk, IfErr};
+    ghost use Rattle.std.specs.Prelude.{◌≡◌, ◌<◌, true, false};
     ghost use Rattle.std.specs.Borrow.{sem};
-    ghost use Rattle.disk_model.specs.Disk.{IsSettled};
-    ghost use Rattle.disk_model.specs.Stop.{below, state_of};
+    ghost use Rattle.disk_model.specs.Stop.{below};
     ghost use Rattle.journal_checkpoint.specs.Keeping.{active_disk, first_disk, second_disk};
-    ghost use Rattle.durable_records.specs.declared.resources.ResourceRecord.{ResourceRecord};
-    ghost use Rattle.history_rules.specs.Own.{Own};
-    ghost use Rattle.history_rules.specs.ResourceMemory.{Setup as RuleSetup, memory};
-    ghost use Rattle.resource_store.specs.Keeping.{twin, found_of, setting_of, KeepsRecords};
+    ghost use Rattle.resource_store.specs.Keeping.{twin, found_of};
     ghost use Rattle.resource_store.specs.Keeping.{is_down as store_is_down};
-    ghost use Rattle.resource_core.specs.NodeOpening.{IsSetupWithin, IsOpened, HandsBack};
-    ghost use Rattle.resource_core.specs.NodeStanding.{StandsOver};
+    ghost use Rattle.resource_core.specs.NodeStanding.{KeepsOwnRecords};
     ghost use Rattle.resource_core.specs.NodeMoving.{kept_of, Misses, Arms, ArmsWith, Boots, LendsActive};
-    ghost use Rattle.resource_core.specs.Shown.{store_of, stands_at, steps_left, is_down};
-
-    /// Opens two disks, of the resource with this number, and writes the record of one more boot. The disks come
-    /// back where it fails.
-    pub fn open(
-        alloc: Global,
-        first: D,
-        second: D,
-        place: u16,
-        setup: Setup,
-    ) -> Result<Resource<D>, (OpenError, D, D)>
-        requires first { IsSettled (D.state first) }
-        requires second { IsSettled (D.state second) }
-        requires setup { IsSetupWithin place setup }
-        ensures opened { IfOk result (IsOpened D.state first second place setup) }
-        ensures at { IfOk result (λ r. stands_at r ≡ Place.Res place) }
-        ensures refused { IfErr result (HandsBack D.state first second place setup) }
-    {
-        let Setup {
-            schema,
-            opening,
-            tries,
-            actions,
-            locals,
-        } = setup;
-        let first = Stoppable::new(first);
-        let second = Stoppable::new(second);
-        let store = match Store::open(alloc, first, second, place, schema, opening) {
-            Ok(store) => store,
-            Err((error, first, second)) => return Err(give_back(error, first, second)),
-        };
-        let txns = LocalTxns::new(alloc, store.boot());
-        let branches = Branches {
-            number: place,
-            tries,
-            actions,
-            locals,
-            store,
-            txns,
-        };
-        Ok(Resource {
-            branches,
-            down: false,
-            flight: None,
-            records: 0,
-            left: NODE_STEPS,
-        })
-    }
+    ghost use Rattle.resource_core.specs.Shown.{store_of, steps_left, is_down};
 
     /// Its store on its disks; takes no memory.
     pub fn store(&self) -> &Store<Stoppable<D>>
         requires up { is_down self.now ≡ false }
         ensures value { result.now ≡ store_of self.now }
-        ensures keeps { (setup : RuleSetup) (past : Items ResourceRecord) (owns : Items Own) → StandsOver D.state self.now setup past owns →
-            KeepsRecords (state_of D.state) (setting_of result.now) (memory setup past owns).left.records result.now }
+        ensures keeps { KeepsOwnRecords D.state self.now result.now }
     {
         &self.branches.store
     }
@@ -132,8 +64,7 @@ impl<D: Disk> Resource<D> {
     {
         let Resource { branches, .. } = self;
         let Branches { store, .. } = branches;
-        let (first, second) = store.into_disks();
-        (first.into_inner(), second.into_inner())
+        disks_of(store)
     }
 
     // A step ended without an answer. Where the disks failed, it is down with its act in flight over so many records.
@@ -205,26 +136,12 @@ impl<D: Disk> Resource<D> {
 impl<D: Disk> Node for Resource<D> {
     ghost use Rattle.std.specs.Prelude.{◌≡◌, ◌<◌, ◌≤◌, true, false};
     ghost use Rattle.disk_model.specs.declared.disk.TheConstants.{LAST_PICK};
-    ghost use Rattle.resource_core.specs.NodeStanding.{StandsAs, serves};
+    ghost use Rattle.resource_core.specs.NodeStanding.{node_state, serves};
     ghost use Rattle.resource_core.specs.NodeStepping.{StepsBy, ArmsBy, CrashesBy, RestartsBy};
-    ghost use Rattle.resource_core.specs.NodeLaws as laws;
-    ghost use Rattle.resource_core.specs.Shown.{stands_at, steps_left, is_down, disks_of, size_of};
+    ghost use Rattle.resource_core.specs.NodeLaws.{lawful};
+    ghost use Rattle.resource_core.specs.Shown.{steps_left, is_down};
 
-    ghost stands_for = { StandsAs D.state };
-
-    ghost stands_at = { stands_at };
-
-    ghost serves = { serves };
-
-    ghost left = { steps_left };
-
-    ghost stops = { λ _. true };
-
-    ghost down = { is_down };
-
-    ghost disks = { disks_of D.state };
-
-    ghost size = { size_of D.state };
+    ghost state = { node_state D.state };
 
     fn place(&self) -> Place {
         Place::Res(self.branches.number)
@@ -297,15 +214,5 @@ impl<D: Disk> Node for Resource<D> {
         self.boot(alloc, kept)
     }
 
-    ghost places = { laws.places D.state };
-
-    ghost with_disks = { laws.with_disks D.state };
-
-    ghost downs = { laws.downs D.state };
-
-    ghost loses = { laws.loses D.state };
-
-    ghost stays = { laws.stays D.state };
-
-    ghost device = { laws.device D.state };
+    ghost lawful = { lawful D.state };
 }

@@ -9,7 +9,7 @@ use Rattle.seata_types.specs.declared.ids.Place.{Place}
 use Rattle.session_store.specs.Standing.{StandsForSessions}
 use Rattle.resource_store.specs.Meaning.{Setting, Opens}
 use Rattle.resource_store.specs.Standing.{StandsForRecords}
-use Rattle.history_text.specs.Durable.{own_faults}
+use Rattle.node_steps.specs.Durable.{own_faults}
 use Rattle.coordinator_core.proofs.Blank.{blank_pair, blank_sessions, nothing}
 use Rattle.node_seat.specs.Faults.{open_fault}
 use Rattle.scenario_nodes.specs.Opening.{HaveCounted}

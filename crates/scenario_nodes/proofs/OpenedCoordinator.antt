@@ -9,7 +9,7 @@ use Rattle.seata_types.specs.declared.limits.TheConstants.{DISK_LEAST}
 use Rattle.seata_types.specs.declared.messages.Input.TheVariants as input
 use Rattle.scenario_form.specs.declared.scenarios.Scenario.{Scenario}
 use Rattle.session_store.specs.Keeping.{IsNoDamage}
-use Rattle.history_text.specs.Promises.{AreTold}
+use Rattle.node_steps.specs.Promises.{AreTold}
 use Rattle.history_text.specs.Worlds.{times_of}
 use Rattle.coordinator_core.specs.declared.nodes.Coordinator.{Coordinator}
 use Rattle.coordinator_core.specs.NodeLaws.{stands_for_records}

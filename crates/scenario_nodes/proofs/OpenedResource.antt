@@ -13,8 +13,8 @@ use Rattle.scenario_form.specs.declared.scenarios.ResourceDef.{ResourceDef}
 use Rattle.scenario_form.specs.declared.scenarios.Scenario.{Scenario}
 use Rattle.history_rules.specs.ResourceMemory.{boot_over, opening_tables}
 use Rattle.history_rules.specs.ResourceMemory.{Setup as RuleSetup}
-use Rattle.history_text.specs.Durable.{StandsForRecords, of_resource}
-use Rattle.history_text.specs.Promises.{AreTold}
+use Rattle.node_steps.specs.Durable.{StandsForRecords, of_resource}
+use Rattle.node_steps.specs.Promises.{AreTold}
 use Rattle.history_text.specs.Worlds as worlds
 use Rattle.resource_store.specs.Keeping.{WithOrWithout}
 use Rattle.resource_store.specs.Meaning.{Setting}

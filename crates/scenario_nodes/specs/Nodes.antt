@@ -10,8 +10,8 @@ use Rattle.scenario_form.specs.declared.scenarios.ManagerDef.{ManagerDef}
 use Rattle.scenario_form.specs.declared.scenarios.ResourceDef.{ResourceDef}
 use Rattle.scenario_form.specs.declared.scenarios.Scenario.{Scenario}
 use Rattle.history_rules.specs.Nodes.{Role, Coordinator, Resource, Manager}
-use Rattle.history_text.specs.Framing.{ComesFramable}
-use Rattle.history_text.specs.Promises.{AreTold}
+use Rattle.node_steps.specs.Framing.{ComesFramable}
+use Rattle.node_steps.specs.Promises.{AreTold}
 use Rattle.history_text.specs.Worlds.{settings_of, setup_of, times_of}
 use Rattle.session_store.specs.Keeping.{twin as sessions_twin}
 use Rattle.resource_store.specs.Keeping.{twin as store_twin}

@@ -1,7 +1,8 @@
 //! The coordinator of a scenario on two disks of a shelf.
 ghost use Rattle.std.specs.Prelude.{length, IfOk, IfErr, OnErr, OnOk};
+ghost use Rattle.disk_model.specs.Shelf.{KeepsOthers, SamePlaces};
 ghost use Rattle.scenario_form.specs.Runnable.{IsRunnable};
-ghost use Rattle.scenario_nodes.specs.Shelves.{AreGivenBack, HasBoth, IsDiskName, KeepsOthers, ReturnsAll, ReturnsBut, SamePlaces, coordinator_name, showing};
+ghost use Rattle.scenario_nodes.specs.Shelves.{AreGivenBack, HasBoth, IsDiskName, ReturnsAll, ReturnsBut, coordinator_name};
 ghost use Rattle.scenario_nodes.specs.Nodes.{IsNewCoordinator, coordinator_disks, coordinator_role};
 ghost use Rattle.scenario_nodes.specs.Opening.{IsNotOpened};
 
@@ -21,17 +22,16 @@ pub fn open_coordinator<H: Shelf>(
     shelf: &mut H,
 ) -> Result<Coordinator<H::D>, RunFault>
     requires { IsRunnable scenario.now }
-    ensures new { IfOk result (IsNewCoordinator H.D.state scenario.now (length scenario.now.managers) (length scenario.now.resources)) }
-    ensures both { OnOk result (HasBoth (H.has_place shelf.new) coordinator_name) }
-    ensures refused { IfErr result (IsNotOpened H.D.state
-        (showing H.has_place H.given_back H.faults H.tells shelf.old)
-        (showing H.has_place H.given_back H.faults H.tells shelf.new)
+    ensures new { IfOk result (IsNewCoordinator H.D.state scenario.now
+        (length scenario.now.managers) (length scenario.now.resources)) }
+    ensures both { OnOk result (HasBoth (H.state shelf.new) coordinator_name) }
+    ensures refused { IfErr result (IsNotOpened H.D.state (H.state shelf.old) (H.state shelf.new)
         (coordinator_role scenario.now) coordinator_name scenario.now.disk) }
-    ensures keeps { KeepsOthers coordinator_name
-        (showing H.has_place H.given_back H.faults H.tells shelf.old)
-        (showing H.has_place H.given_back H.faults H.tells shelf.new) }
-    ensures out { OnOk result (ReturnsBut (IsDiskName coordinator_name) (H.tells shelf.old) (H.has_place shelf.old) (H.has_place shelf.new) (H.given_back shelf.old) (H.given_back shelf.new)) }
-    ensures returned { OnErr result (ReturnsAll (H.tells shelf.old) (H.has_place shelf.old) (H.has_place shelf.new) (H.given_back shelf.old) (H.given_back shelf.new)) }
+    ensures keeps { KeepsOthers (IsDiskName coordinator_name)
+        (H.state shelf.old) (H.state shelf.new) }
+    ensures out { OnOk result (ReturnsBut (IsDiskName coordinator_name)
+        (H.state shelf.old) (H.state shelf.new)) }
+    ensures returned { OnErr result (ReturnsAll (H.state shelf.old) (H.state shelf.new)) }
 {
     let (first, second) = match take_disks(
         alloc,
@@ -64,13 +64,13 @@ pub fn open_coordinator<H: Shelf>(
 
 /// Gives the coordinator's two disks back.
 pub fn close_coordinator<H: Shelf>(shelf: &mut H, coordinator: Coordinator<H::D>)
-    requires { HasBoth (H.has_place shelf.old) coordinator_name }
-    ensures back { AreGivenBack (H.tells shelf.old) (H.given_back shelf.new) coordinator_name (coordinator_disks coordinator) }
-    ensures keeps { KeepsOthers coordinator_name
-        (showing H.has_place H.given_back H.faults H.tells shelf.old)
-        (showing H.has_place H.given_back H.faults H.tells shelf.new) }
-    ensures places { SamePlaces (H.has_place shelf.old) (H.has_place shelf.new) }
-    ensures returned { ReturnsAll (H.tells shelf.old) (H.has_place shelf.old) (H.has_place shelf.new) (H.given_back shelf.old) (H.given_back shelf.new) }
+    requires { HasBoth (H.state shelf.old) coordinator_name }
+    ensures back { AreGivenBack (H.state shelf.new)
+        coordinator_name (coordinator_disks coordinator) }
+    ensures keeps { KeepsOthers (IsDiskName coordinator_name)
+        (H.state shelf.old) (H.state shelf.new) }
+    ensures places { SamePlaces (H.state shelf.old) (H.state shelf.new) }
+    ensures returned { ReturnsAll (H.state shelf.old) (H.state shelf.new) }
 {
     give_disks(shelf, FIRST_DISK, SECOND_DISK, coordinator.into_disks());
 }

@@ -1,8 +1,7 @@
 //! The two disks of a node, from the shelf and back.
 ghost use Rattle.std.specs.Prelude.{◌≡◌, ◌<◌, ◌^◌, IfOk, IfErr, OnErr, OnOk, string_bytes};
-ghost use Rattle.disk_model.specs.Disk.{Rose};
-ghost use Rattle.disk_model.specs.Shelf.{IsBlank};
-ghost use Rattle.scenario_nodes.specs.Shelves.{AreGivenBack, HasBoth, IsDiskName, KeepsOthers, ReturnsAll, ReturnsBut, SamePlaces, showing};
+ghost use Rattle.disk_model.specs.Shelf.{IsBlank, KeepsOthers, SamePlaces};
+ghost use Rattle.scenario_nodes.specs.Shelves.{AreGivenBack, HasBoth, IsDiskName, ReturnsAll, ReturnsBut};
 ghost use Rattle.scenario_nodes.specs.Shelves.{second_name as name_of_second};
 ghost use Rattle.scenario_nodes.specs.Opening.{IsNotHad};
 
@@ -49,13 +48,13 @@ pub(crate) fn take_disks<H: Shelf>(
     requires second { second.now ≡ name_of_second first.now }
     ensures first { IfOk result (λ disks. IsBlank size (H.D.state disks.0)) }
     ensures second { IfOk result (λ disks. IsBlank size (H.D.state disks.1)) }
-    ensures both { OnOk result (HasBoth (H.has_place shelf.new) first.now) }
-    ensures refused { IfErr result (IsNotHad place (Rose (H.faults shelf.old) (H.faults shelf.new)) (H.has_place shelf.old) (H.has_place shelf.new) first.now) }
-    ensures keeps { KeepsOthers first.now
-        (showing H.has_place H.given_back H.faults H.tells shelf.old)
-        (showing H.has_place H.given_back H.faults H.tells shelf.new) }
-    ensures out { OnOk result (ReturnsBut (IsDiskName first.now) (H.tells shelf.old) (H.has_place shelf.old) (H.has_place shelf.new) (H.given_back shelf.old) (H.given_back shelf.new)) }
-    ensures returned { OnErr result (ReturnsAll (H.tells shelf.old) (H.has_place shelf.old) (H.has_place shelf.new) (H.given_back shelf.old) (H.given_back shelf.new)) }
+    ensures both { OnOk result (HasBoth (H.state shelf.new) first.now) }
+    ensures refused { IfErr result (IsNotHad place (H.state shelf.old)
+        (H.state shelf.new) first.now) }
+    ensures keeps { KeepsOthers (IsDiskName first.now) (H.state shelf.old) (H.state shelf.new) }
+    ensures out { OnOk result (ReturnsBut (IsDiskName first.now)
+        (H.state shelf.old) (H.state shelf.new)) }
+    ensures returned { OnErr result (ReturnsAll (H.state shelf.old) (H.state shelf.new)) }
 {
     let taken = match shelf.take(alloc, first, size) {
         Ok(disk) => disk,
@@ -73,13 +72,11 @@ pub(crate) fn take_disks<H: Shelf>(
 /// Gives both disks of a node back under its name.
 pub(crate) fn give_disks<H: Shelf>(shelf: &mut H, first: &str, second: &str, disks: (H::D, H::D))
     requires second { second.now ≡ name_of_second first.now }
-    requires both { HasBoth (H.has_place shelf.old) first.now }
-    ensures back { AreGivenBack (H.tells shelf.old) (H.given_back shelf.new) first.now disks }
-    ensures keeps { KeepsOthers first.now
-        (showing H.has_place H.given_back H.faults H.tells shelf.old)
-        (showing H.has_place H.given_back H.faults H.tells shelf.new) }
-    ensures places { SamePlaces (H.has_place shelf.old) (H.has_place shelf.new) }
-    ensures returned { ReturnsAll (H.tells shelf.old) (H.has_place shelf.old) (H.has_place shelf.new) (H.given_back shelf.old) (H.given_back shelf.new) }
+    requires both { HasBoth (H.state shelf.old) first.now }
+    ensures back { AreGivenBack (H.state shelf.new) first.now disks }
+    ensures keeps { KeepsOthers (IsDiskName first.now) (H.state shelf.old) (H.state shelf.new) }
+    ensures places { SamePlaces (H.state shelf.old) (H.state shelf.new) }
+    ensures returned { ReturnsAll (H.state shelf.old) (H.state shelf.new) }
 {
     let (a, b) = disks;
     shelf.give(first, a);

@@ -1,8 +1,9 @@
 //! A resource of a scenario on two disks of a shelf.
 ghost use Rattle.std.specs.Prelude.{◌≡◌, ◌-◌, Some, length, slice_get, IfOk, IfErr, OnErr, OnOk};
+ghost use Rattle.disk_model.specs.Shelf.{KeepsOthers, SamePlaces};
 ghost use Rattle.scenario_form.specs.Contents.{IsBetween};
 ghost use Rattle.scenario_form.specs.Runnable.{IsRunnable};
-ghost use Rattle.scenario_nodes.specs.Shelves.{AreGivenBack, HasBoth, IsDiskName, KeepsOthers, ReturnsAll, ReturnsBut, SamePlaces, second_name, showing};
+ghost use Rattle.scenario_nodes.specs.Shelves.{AreGivenBack, HasBoth, IsDiskName, ReturnsAll, ReturnsBut, second_name};
 ghost use Rattle.scenario_nodes.specs.Nodes.{IsNewResource, resource_disks, resource_role};
 ghost use Rattle.scenario_nodes.specs.Opening.{IsNotOpened};
 
@@ -31,16 +32,13 @@ pub fn open_resource<H: Shelf>(
     requires there { slice_get scenario.now.resources (number - 1) ≡ Some def.now }
     requires second { second.now ≡ second_name def.now.name }
     ensures new { IfOk result (IsNewResource H.D.state scenario.now number def.now) }
-    ensures both { OnOk result (HasBoth (H.has_place shelf.new) def.now.name) }
-    ensures refused { IfErr result (IsNotOpened H.D.state
-        (showing H.has_place H.given_back H.faults H.tells shelf.old)
-        (showing H.has_place H.given_back H.faults H.tells shelf.new)
+    ensures both { OnOk result (HasBoth (H.state shelf.new) def.now.name) }
+    ensures refused { IfErr result (IsNotOpened H.D.state (H.state shelf.old) (H.state shelf.new)
         (resource_role scenario.now number def.now) def.now.name scenario.now.disk) }
-    ensures keeps { KeepsOthers def.now.name
-        (showing H.has_place H.given_back H.faults H.tells shelf.old)
-        (showing H.has_place H.given_back H.faults H.tells shelf.new) }
-    ensures out { OnOk result (ReturnsBut (IsDiskName def.now.name) (H.tells shelf.old) (H.has_place shelf.old) (H.has_place shelf.new) (H.given_back shelf.old) (H.given_back shelf.new)) }
-    ensures returned { OnErr result (ReturnsAll (H.tells shelf.old) (H.has_place shelf.old) (H.has_place shelf.new) (H.given_back shelf.old) (H.given_back shelf.new)) }
+    ensures keeps { KeepsOthers (IsDiskName def.now.name) (H.state shelf.old) (H.state shelf.new) }
+    ensures out { OnOk result (ReturnsBut (IsDiskName def.now.name)
+        (H.state shelf.old) (H.state shelf.new)) }
+    ensures returned { OnErr result (ReturnsAll (H.state shelf.old) (H.state shelf.new)) }
 {
     let setup = match setup_of(alloc, scenario, number, def) {
         Ok(setup) => setup,
@@ -67,13 +65,11 @@ pub fn open_resource<H: Shelf>(
 /// Gives the two disks of a resource back, under its name and its second name.
 pub fn close_resource<H: Shelf>(shelf: &mut H, name: &str, second: &str, resource: Resource<H::D>)
     requires second { second.now ≡ second_name name.now }
-    requires both { HasBoth (H.has_place shelf.old) name.now }
-    ensures back { AreGivenBack (H.tells shelf.old) (H.given_back shelf.new) name.now (resource_disks resource) }
-    ensures keeps { KeepsOthers name.now
-        (showing H.has_place H.given_back H.faults H.tells shelf.old)
-        (showing H.has_place H.given_back H.faults H.tells shelf.new) }
-    ensures places { SamePlaces (H.has_place shelf.old) (H.has_place shelf.new) }
-    ensures returned { ReturnsAll (H.tells shelf.old) (H.has_place shelf.old) (H.has_place shelf.new) (H.given_back shelf.old) (H.given_back shelf.new) }
+    requires both { HasBoth (H.state shelf.old) name.now }
+    ensures back { AreGivenBack (H.state shelf.new) name.now (resource_disks resource) }
+    ensures keeps { KeepsOthers (IsDiskName name.now) (H.state shelf.old) (H.state shelf.new) }
+    ensures places { SamePlaces (H.state shelf.old) (H.state shelf.new) }
+    ensures returned { ReturnsAll (H.state shelf.old) (H.state shelf.new) }
 {
     give_disks(shelf, name, second, resource.into_disks());
 }

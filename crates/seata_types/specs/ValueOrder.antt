@@ -1,6 +1,6 @@
 -- The order of values is total, and it tells apart what differs.
-use Rattle.std.specs.Prelude.{◌≡◌, ◌==◌, ℕ, Some, refl}
-use Rattle.std.proofs.Common.{Less, Equal, ap, sym}
+use Rattle.std.specs.Prelude.{◌≡◌, Some, refl}
+use Rattle.std.proofs.Common.{Less, Equal}
 use Rattle.std.specs.Cmp.{IsTotalOrder, IsPartialOrder, po}
 use Rattle.std.specs.Cmp.Lexicographic.{texts_ties}
 use Rattle.std.specs.Ordering.{ordering_reverse, eq_by_cmp}

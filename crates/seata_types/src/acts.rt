@@ -93,7 +93,7 @@ pub enum Durable {
 
 /// What a step did: a durable act, or one of the coordinator, of a resource, of a manager or of any
 /// node, in this order.
-#[derive(Drop)]
+#[derive(Drop, PartialEq, Eq)]
 pub enum Act {
     Durable(Durable),
     Known {

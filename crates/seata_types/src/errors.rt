@@ -7,7 +7,7 @@ use crate::statuses::GlobalStatus;
 use std::alloc::Global;
 
 /// Why a statement has no meaning, in the order in which the causes are tested.
-#[derive(Drop)]
+#[derive(Drop, PartialEq, Eq)]
 pub enum StmtError {
     NoTable,
     NoColumn,
@@ -41,7 +41,7 @@ impl Duplicate for StmtError {
 }
 
 /// Why a call failed. Statements are counted from 1.
-#[derive(Drop)]
+#[derive(Drop, PartialEq, Eq)]
 pub enum Why {
     Stmt { index: u16, why: StmtError },
     Tries,

@@ -1,6 +1,6 @@
 //! The words of the whole system: identities, rows, statements, statuses, messages and acts.
-//! Each is plain data that every other crate names; nothing here runs, allocates by itself or
-//! keeps state.
+//! Each is plain data. What runs here makes, compares and copies them, with memory that the caller
+//! hands over, and reads the tables of statuses; nothing here keeps state.
 #![tactic(auto)]
 
 pub mod acts;

@@ -10,7 +10,7 @@ use crate::statuses::{BranchKind, BranchStatus, GlobalStatus};
 use std::alloc::Global;
 
 /// The coordinator's answer to a registration.
-#[derive(Drop)]
+#[derive(Drop, PartialEq, Eq)]
 pub enum Registered {
     Granted {
         branch: BranchId,
@@ -46,7 +46,7 @@ impl Duplicate for Registered {
 }
 
 /// A resource's answer to a call.
-#[derive(Drop)]
+#[derive(Drop, PartialEq, Eq)]
 pub enum CallAnswer {
     Done { branch: BranchId },
     Busy { key: RowKey, by: Ticket },

@@ -10,8 +10,8 @@ pub loop-total-preserved : goal.loop-total-preserved
 loop-total-preserved g c =
     let v = c.loop-total.invariant in
     let e = c.in-Ok-take.ensures in
-    let left = g.S.Source.left c.loop-total.source in
-    let left2 = g.S.Source.left c.read_some.new.source in
+    let left = (g.S.Source.state c.loop-total.source).left in
+    let left2 = (g.S.Source.state c.read_some.new.source).left in
     let count = c.in-Ok.count in
     let bytes = c.deref.result.now in
     let within : count ≤ length bytes = grind (arith, common_steps) in
@@ -30,8 +30,8 @@ loop-total-preserved g c =
 pub returns-then-count-eq0-clause-answer : goal.returns-then-count-eq0-clause-answer
 returns-then-count-eq0-clause-answer g c =
     let v = c.loop-total.invariant in
-    let left = g.S.Source.left c.loop-total.source in
-    let left2 = g.S.Source.left c.read_some.new.source in
+    let left = (g.S.Source.state c.loop-total.source).left in
+    let left2 = (g.S.Source.state c.read_some.new.source).left in
     let zero : c.in-Ok.count ≡ 0 = grind (arith, common_steps) in
     let short : c.loop-total.total ≤ INPUT_BYTES = grind (arith, common_steps) in
     let room : 0 < c.min-room.result = grind (arith, common_steps) in
@@ -43,5 +43,5 @@ pub returns-clause-answer : goal.returns-clause-answer
 returns-clause-answer g c =
     let v = c.loop-total.invariant in
     let long : INPUT_BYTES < c.loop-total.total = grind (arith, common_steps) in
-    on_ok _ _ _ (λ a text status. long_answers _ (g.S.Source.left c.loop-total.source) c.loop-total.total c.loop-total.listing (string_bytes a.text) a.status v.listing long v.most text status)
+    on_ok _ _ _ (λ a text status. long_answers _ (g.S.Source.state c.loop-total.source).left c.loop-total.total c.loop-total.listing (string_bytes a.text) a.status v.listing long v.most text status)
     c.over.result c.over.ensures.text c.over.ensures.status

@@ -9,9 +9,9 @@ invariant-loop-total g l =
       most : l.total ≤ INPUT_BYTES + 1;
       ready : IsReady l.listing;
       fed_by : fed l.listing ≤ l.total;
-      counted : g.S.Source.faults l.initial.source ≤ g.S.Source.faults l.source;
+      counted : (g.S.Source.state l.initial.source).faults ≤ (g.S.Source.state l.source).faults;
       buffer : vec_len l.buffer ≡ PIECE_BYTES;
-      listing : (input : List ℕ) → g.S.Source.left l.initial.source ≡ Some input → IsListing input (g.S.Source.left l.source) l.total l.listing;
+      listing : (input : List ℕ) → (g.S.Source.state l.initial.source).left ≡ Some input → IsListing input (g.S.Source.state l.source).left l.total l.listing;
     }
 
 abbrev pub decreases-loop-total : goal.decreases-loop-total

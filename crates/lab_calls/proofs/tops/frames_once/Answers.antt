@@ -6,8 +6,7 @@ use Rattle.lab_calls.proofs.tops.frames_once.Goals as goal
 
 pub returns : goal.returns
 returns g c =
-    let old = devices g.S.Source.left g.S.Source.faults g.K.Sink.written g.K.Sink.faults c.args.source.now c.args.sink.now in
-    let new = devices g.S.Source.left g.S.Source.faults g.K.Sink.written g.K.Sink.faults c.list_input.new.source c.write_answer.new.sink in
-    let t = concluded IsFramesAnswer frames_statuses frames_texts c.write_answer.result old new c.list_input.result c.list_input.ensures.answer c.list_input.ensures.statuses c.list_input.ensures.failed
-    c.write_answer.ensures.whole c.write_answer.ensures.front c.write_answer.ensures.nothing in
+    let old = devices (g.S.Source.state c.args.source.now) (g.K.Sink.state c.args.sink.now) in
+    let new = devices (g.S.Source.state c.list_input.new.source) (g.K.Sink.state c.write_answer.new.sink) in
+    let t = concluded IsFramesAnswer frames_statuses frames_texts c.write_answer.result old new c.list_input.result c.list_input.ensures c.write_answer.ensures in
     record { frames = tells_frames c.write_answer.result old new t; faults = t.faults }

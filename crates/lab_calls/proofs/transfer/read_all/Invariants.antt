@@ -7,8 +7,8 @@ abbrev pub invariant-loop-bytes : goal.invariant-loop-bytes
 invariant-loop-bytes g l =
     record {
       most : vec_len l.bytes ≤ INPUT_BYTES + 1;
-      taken : Consumes (g.S.Source.left l.initial.source) (g.S.Source.left l.source) l.bytes.items;
-      counted : g.S.Source.faults l.initial.source ≤ g.S.Source.faults l.source;
+      taken : Consumes (g.S.Source.state l.initial.source).left (g.S.Source.state l.source).left l.bytes.items;
+      counted : (g.S.Source.state l.initial.source).faults ≤ (g.S.Source.state l.source).faults;
       buffer : vec_len l.buffer ≡ PIECE_BYTES;
     }
 

@@ -6,8 +6,8 @@ abbrev pub invariant-loop-done : goal.invariant-loop-done
 invariant-loop-done g l =
     record {
       within : l.done ≤ length l.text;
-      written : Appends (g.K.Sink.written l.initial.sink) (g.K.Sink.written l.sink) (take l.done l.text);
-      counted : g.K.Sink.faults l.initial.sink ≤ g.K.Sink.faults l.sink;
+      written : Appends (g.K.Sink.state l.initial.sink).written (g.K.Sink.state l.sink).written (take l.done l.text);
+      counted : (g.K.Sink.state l.initial.sink).faults ≤ (g.K.Sink.state l.sink).faults;
     }
 
 abbrev pub decreases-loop-done : goal.decreases-loop-done

@@ -7,18 +7,15 @@ use Rattle.replay_runner.proofs.closings.close.Goals as goal
 
 pub returns-in_err-resources-clause-back : goal.returns-in_err-resources-clause-back
 returns-in_err-resources-clause-back g c =
-    subst (λ (n : Coordinator g.row.H-D.Denot). FirstGivenBack (g.H.Shelf.tells c.args.shelf.now) (g.H.Shelf.given_back c.close_servers.new.shelf) c.args.scenario.now
-    (server_disks n c.args.run.nodes.resources.items)) c.finish-coordinator.ensures.node c.close_servers.ensures.back
+    subst (λ (n : Coordinator g.row.H-D.Denot). FirstGivenBack (g.H.Shelf.state c.close_servers.new.shelf) c.args.scenario.now (server_disks n c.args.run.nodes.resources.items)) c.finish-coordinator.ensures.node c.close_servers.ensures.back
 
 pub returns-in_err-managers-clause-back : goal.returns-in_err-managers-clause-back
 returns-in_err-managers-clause-back g c =
-    subst (λ (n : Coordinator g.row.H-D.Denot). FirstGivenBack (g.H.Shelf.tells c.args.shelf.now) (g.H.Shelf.given_back c.close_servers.new.shelf) c.args.scenario.now
-    (server_disks n c.args.run.nodes.resources.items)) c.finish-coordinator.ensures.node c.close_servers.ensures.back
+    subst (λ (n : Coordinator g.row.H-D.Denot). FirstGivenBack (g.H.Shelf.state c.close_servers.new.shelf) c.args.scenario.now (server_disks n c.args.run.nodes.resources.items)) c.finish-coordinator.ensures.node c.close_servers.ensures.back
 
 pub returns-clause-back : goal.returns-clause-back
 returns-clause-back g c =
-    subst (λ (n : Coordinator g.row.H-D.Denot). FirstGivenBack (g.H.Shelf.tells c.args.shelf.now) (g.H.Shelf.given_back c.close_servers.new.shelf) c.args.scenario.now
-    (server_disks n c.args.run.nodes.resources.items)) c.finish-coordinator.ensures.node c.close_servers.ensures.back
+    subst (λ (n : Coordinator g.row.H-D.Denot). FirstGivenBack (g.H.Shelf.state c.close_servers.new.shelf) c.args.scenario.now (server_disks n c.args.run.nodes.resources.items)) c.finish-coordinator.ensures.node c.close_servers.ensures.back
 
 pub returns-clause-history : goal.returns-clause-history
 returns-clause-history g c =

@@ -1,6 +1,5 @@
 use Rattle.std.proofs.Common.{◌≡◌, ◌∙◌, ◌+◌, ◌-◌, ap, subst, sym, refl, arith, Some, length, slice_get}
 use Rattle.std.proofs.lemmas.Option.{slice_get_read}
-use Rattle.history_text.specs.Promises.{no_disks}
 use Rattle.scenario_nodes.specs.Nodes.{IsNewManager}
 use Rattle.replay_runner.specs.Opened.{IsNewManagerOf}
 use Rattle.replay_runner.proofs.NewNodes.{begin_first, fresh_manager, next_first}
@@ -29,7 +28,7 @@ new_manager-requires-clause-there g c =
 
 pub new-requires : goal.new-requires
 new-requires g c = record {
-  fresh = fresh_manager (λ _. no_disks) g.K.RunName.world g.K.RunName.past c.args.scenario.now c.loop-k.k c.def-item.result c.in_ok-manager.manager c.requires.world
+  fresh = fresh_manager g.K.RunName.world g.K.RunName.past c.args.scenario.now c.loop-k.k c.def-item.result c.in_ok-manager.manager c.requires.world
       (subst (λ ds. slice_get ds c.loop-k.k ≡ Some c.def-item.result) c.as_slice-def-items.ensures
       (slice_get_read c.as_slice-def-items.result.now _ c.loop-k.k _ refl c.loop-k-test.true c.def-item.is)) c.in_ok-manager.ensures;
 }

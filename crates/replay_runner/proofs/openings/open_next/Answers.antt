@@ -1,16 +1,15 @@
-use Rattle.std.proofs.Common.{◌≡◌, inl, ◌∙◌, ◌+◌, ◌<◌, ◌++◌, ◌∷◌, [], List, Some, ap, arith, length, length-append, refl, slice_get, sym, subst}
+use Rattle.std.proofs.Common.{◌≡◌, ◌∙◌, ◌+◌, ◌<◌, ◌++◌, ◌∷◌, [], List, Some, ap, arith, length, length-append, refl, slice_get, sym, subst}
 use Rattle.std.proofs.lemmas.Option.{slice_get_read}
-use Rattle.disk_model.specs.Disk.{Rose}
 use Rattle.scenario_form.specs.declared.scenarios.ResourceDef.{ResourceDef}
 use Rattle.scenario_nodes.specs.Nodes.{IsNewResource}
 use Rattle.scenario_nodes.specs.Shelves.{IsDiskName}
 use Rattle.replay_runner.specs.Opened.{AreFirst, HaveBoth, IsNewResourceOf, IsOfOne}
-use Rattle.scenario_nodes.proofs.Returned.{all_same, but_of_all, but_wider, showing}
-use Rattle.replay_runner.proofs.Closed.{taken_more, taken_stay}
-use Rattle.replay_runner.proofs.Finished.{next_refused, next_unasked}
+use Rattle.scenario_nodes.proofs.Returned.{all_same, but_of_all, but_wider, keeps_wider}
+use Rattle.replay_runner.proofs.Closed.{keeps_here, taken_more, taken_stay}
+use Rattle.replay_runner.proofs.Finished.{next_unasked}
 use Rattle.replay_runner.proofs.Lists.{member_at}
+use Rattle.replay_runner.proofs.Names.{of_next}
 use Rattle.replay_runner.proofs.NewNodes.{fresh_resource, next_first}
-use Rattle.replay_runner.proofs.Returning.{made_next, of_next}
 use Rattle.replay_runner.proofs.openings.open_next.Goals as goal
 
 pub overflow_cast-k : goal.overflow_cast-k
@@ -30,29 +29,25 @@ new-requires g c =
 
 pub returns-then-is_err-clause-opens : goal.returns-then-is_err-clause-opens
 returns-then-is_err-clause-opens g c =
-    let before = showing g.H.Shelf.has_place g.H.Shelf.given_back g.H.Shelf.faults g.H.Shelf.tells c.args.shelf.now in
+    let before = g.H.Shelf.state c.args.shelf.now in
     let same = c.reserve.ensures.items in record {
       opened = subst (AreFirst (IsNewResourceOf g.H.D.Disk.state c.args.scenario.now) c.args.scenario.now.resources) (sym same) c.requires.opened;
-      taken = subst (HaveBoth before.has_place c.args.scenario.now.resources) (sym (ap length same ∙ c.requires.next)) c.requires.taken;
-      places = λ n here. here;
-      made = λ n there. inl there;
+      taken = subst (HaveBoth before c.args.scenario.now.resources) (sym (ap length same ∙ c.requires.next)) c.requires.taken;
+      keeps = keeps_here (IsOfOne c.args.scenario.now.resources (c.args.k + 1)) before;
       out = but_of_all (IsOfOne c.args.scenario.now.resources (length c.reserve.new.self.items)) before before (all_same before);
-      faults = omega arith;
-      tells = refl;
     }
 
 pub returns-then-is_err-clause-refused : goal.returns-then-is_err-clause-refused
 returns-then-is_err-clause-refused g c =
     let (def, here) = member_at c.args.scenario.now.resources c.args.k c.requires.there in
-    next_unasked g.H.D.Disk.state c.args.scenario.now (g.H.Shelf.has_place c.args.shelf.now) (g.H.Shelf.tells c.args.shelf.now) (g.H.Shelf.given_back c.args.shelf.now)
-    (Rose (g.H.Shelf.faults c.args.shelf.now) (g.H.Shelf.faults c.args.shelf.now)) c.args.k def here
+    next_unasked g.H.D.Disk.state c.args.scenario.now (g.H.Shelf.state c.args.shelf.now) c.args.k def here
 
 pub returns-in-Ok-clause-opens : goal.returns-in-Ok-clause-opens
 returns-in-Ok-clause-opens g c =
     let rs = c.args.scenario.now.resources in
     let def = c.index-as_slice-k.result in
-    let before = showing g.H.Shelf.has_place g.H.Shelf.given_back g.H.Shelf.faults g.H.Shelf.tells c.args.shelf.now in
-    let after = showing g.H.Shelf.has_place g.H.Shelf.given_back g.H.Shelf.faults g.H.Shelf.tells c.open_resource.new.shelf in
+    let before = g.H.Shelf.state c.args.shelf.now in
+    let after = g.H.Shelf.state c.open_resource.new.shelf in
     let keeps = c.in-Ok.ensures.keeps in
     let found = c.push_reserved.new.self.items in
     let here =
@@ -69,12 +64,9 @@ returns-in-Ok-clause-opens g c =
             traced = c.new.ensures.trace;
             turned = c.new.ensures.turned;
           })).0;
-      taken = taken_more before.has_place after.has_place rs c.args.k (length found) def keeps.places c.requires.taken listed c.in-Ok.ensures.both grown;
-      places = keeps.places;
-      made = λ n there. made_next before.has_place rs c.args.k def listed n (keeps.made n there);
+      taken = taken_more before after rs c.args.k (length found) def keeps.places c.requires.taken listed c.in-Ok.ensures.both grown;
+      keeps = keeps_wider (IsDiskName def.name) (IsOfOne rs (c.args.k + 1)) before after (of_next rs c.args.k (c.args.k + 1) def listed refl) keeps;
       out = but_wider (IsDiskName def.name) (IsOfOne rs (length found)) before after (of_next rs c.args.k (length found) def listed grown) c.in-Ok.ensures.out;
-      faults = keeps.faults;
-      tells = keeps.tells;
     }
 
 pub returns-in-Ok-clause-more : goal.returns-in-Ok-clause-more
@@ -88,26 +80,26 @@ returns-in-Ok-clause-more g c =
 pub returns-in-Err-clause-opens : goal.returns-in-Err-clause-opens
 returns-in-Err-clause-opens g c =
     let rs = c.args.scenario.now.resources in
-    let before = showing g.H.Shelf.has_place g.H.Shelf.given_back g.H.Shelf.faults g.H.Shelf.tells c.args.shelf.now in
-    let after = showing g.H.Shelf.has_place g.H.Shelf.given_back g.H.Shelf.faults g.H.Shelf.tells c.open_resource.new.shelf in
+    let def = c.index-as_slice-k.result in
+    let before = g.H.Shelf.state c.args.shelf.now in
+    let after = g.H.Shelf.state c.open_resource.new.shelf in
     let keeps = c.in-Err.ensures.keeps in
     let here =
     slice_get_read c.as_slice.result.now _ c.args.k c.index-as_slice-k.result refl (subst (λ (ds : List ResourceDef). c.args.k < length ds) (sym c.as_slice.ensures) c.requires.there) c.index-as_slice-k.is in
     let listed = subst (λ (ds : List ResourceDef). slice_get ds c.args.k ≡ Some c.index-as_slice-k.result) c.as_slice.ensures here in
     let same = c.reserve.ensures.items in record {
       opened = subst (AreFirst (IsNewResourceOf g.H.D.Disk.state c.args.scenario.now) rs) (sym same) c.requires.opened;
-      taken = subst (HaveBoth after.has_place rs) (sym (ap length same ∙ c.requires.next)) (taken_stay before.has_place after.has_place rs c.args.k keeps.places c.requires.taken);
-      places = keeps.places;
-      made = λ n there. made_next before.has_place rs c.args.k c.index-as_slice-k.result listed n (keeps.made n there);
+      taken = subst (HaveBoth after rs) (sym (ap length same ∙ c.requires.next)) (taken_stay before after rs c.args.k keeps.places c.requires.taken);
+      keeps = keeps_wider (IsDiskName def.name) (IsOfOne rs (c.args.k + 1)) before after (of_next rs c.args.k (c.args.k + 1) def listed refl) keeps;
       out = but_of_all (IsOfOne rs (length c.reserve.new.self.items)) before after c.in-Err.ensures.returned;
-      faults = keeps.faults;
-      tells = keeps.tells;
     }
 
 pub returns-in-Err-clause-refused : goal.returns-in-Err-clause-refused
 returns-in-Err-clause-refused g c =
     let here =
     slice_get_read c.as_slice.result.now _ c.args.k c.index-as_slice-k.result refl (subst (λ (ds : List ResourceDef). c.args.k < length ds) (sym c.as_slice.ensures) c.requires.there) c.index-as_slice-k.is in
-    next_refused g.H.D.Disk.state c.args.scenario.now (showing g.H.Shelf.has_place g.H.Shelf.given_back g.H.Shelf.faults g.H.Shelf.tells c.args.shelf.now)
-    (showing g.H.Shelf.has_place g.H.Shelf.given_back g.H.Shelf.faults g.H.Shelf.tells c.open_resource.new.shelf) c.args.k c.index-as_slice-k.result c.in-Err.fault c.in-Err.ensures.keeps.tells
-    (subst (λ (ds : List ResourceDef). slice_get ds c.args.k ≡ Some c.index-as_slice-k.result) c.as_slice.ensures here) c.in-Err.ensures.refused
+    record {
+      def = c.index-as_slice-k.result;
+      there = subst (λ (ds : List ResourceDef). slice_get ds c.args.k ≡ Some c.index-as_slice-k.result) c.as_slice.ensures here;
+      refused = c.in-Err.ensures.refused;
+    }

@@ -1,26 +1,23 @@
-use Rattle.std.proofs.Common.{◌≡◌, inl, ◌∙◌, ◌+◌, Bool, ap, arith, length, refl, sym, subst}
-use Rattle.disk_model.specs.Disk.{Rose}
+use Rattle.std.proofs.Common.{◌≡◌, ◌∙◌, ◌+◌, ap, arith, length, sym, subst}
 use Rattle.replay_runner.specs.Opened.{HaveBoth, IsNewResourceOf, IsOfOne, StopsOpening}
-use Rattle.replay_runner.proofs.Finished.{rose_between, stops_later}
+use Rattle.replay_runner.proofs.Closed.{keeps_here}
+use Rattle.replay_runner.proofs.Finished.{stops_later}
 use Rattle.replay_runner.proofs.NewNodes.{begin_first}
 use Rattle.replay_runner.proofs.OpeningMore.{opens_then, opens_wider}
-use Rattle.scenario_nodes.proofs.Returned.{all_same, but_of_all, showing}
+use Rattle.scenario_nodes.proofs.Returned.{all_same, but_of_all}
 use Rattle.replay_runner.proofs.openings.open_resources.Goals as goal
 
 pub loop-k-init : goal.loop-k-init
 loop-k-init g c =
     let start = begin_first (IsNewResourceOf g.H.D.Disk.state c.args.scenario.now) c.args.scenario.now.resources c.args.opened.now.items c.requires.none in
     let none = start.1 in
-    let before = showing g.H.Shelf.has_place g.H.Shelf.given_back g.H.Shelf.faults g.H.Shelf.tells c.args.shelf.now in (
+    let before = g.H.Shelf.state c.args.shelf.now in (
       none,
       record {
         opened = start.0;
         taken = λ k def below here. absurd (omega (arith, none, below));
-        places = λ n here. here;
-        made = λ n here. inl here;
+        keeps = keeps_here (IsOfOne c.args.scenario.now.resources 0) before;
         out = but_of_all (IsOfOne c.args.scenario.now.resources (length c.args.opened.now.items)) before before (all_same before);
-        faults = omega arith;
-        tells = refl;
       },
     )
 
@@ -34,30 +31,24 @@ open_next-requires-clause-there g c κs within =
 pub open_next-requires-clause-taken : goal.open_next-requires-clause-taken
 open_next-requires-clause-taken g c κs within =
     let i = c.loop-k.invariant in
-    subst (HaveBoth (g.H.Shelf.has_place c.loop-k.shelf) c.args.scenario.now.resources) i.0 i.1.taken
+    subst (HaveBoth (g.H.Shelf.state c.loop-k.shelf) c.args.scenario.now.resources) i.0 i.1.taken
 
 pub returns-in-Err-clause-opens : goal.returns-in-Err-clause-opens
 returns-in-Err-clause-opens g c =
     let i = c.loop-k.invariant in
     let size = i.0 in
     let same = ap length c.in-Err.ensures.same in
-    opens_then g.H.D.Disk.state c.args.scenario.now (showing g.H.Shelf.has_place g.H.Shelf.given_back g.H.Shelf.faults g.H.Shelf.tells c.args.shelf.now)
-    (showing g.H.Shelf.has_place g.H.Shelf.given_back g.H.Shelf.faults g.H.Shelf.tells c.loop-k.shelf) c.loop-k.opened.items c.loop-k.k (length c.open_next.new.opened.items + 1)
-    (showing g.H.Shelf.has_place g.H.Shelf.given_back g.H.Shelf.faults g.H.Shelf.tells c.open_next.new.shelf) c.open_next.new.opened.items (omega (arith, size, same)) (omega (arith, same)) i.1 c.open_next.ensures.opens
+    opens_then g.H.D.Disk.state c.args.scenario.now (g.H.Shelf.state c.args.shelf.now) (g.H.Shelf.state c.loop-k.shelf) c.loop-k.opened.items c.loop-k.k (length c.open_next.new.opened.items + 1) (g.H.Shelf.state c.open_next.new.shelf) c.open_next.new.opened.items (omega (arith, size, same)) (omega (arith, same)) i.1 c.open_next.ensures.opens
 
 pub returns-in-Err-clause-refused : goal.returns-in-Err-clause-refused
 returns-in-Err-clause-refused g c =
     let i = c.loop-k.invariant in
-    let o = i.1 in
-    let before = showing g.H.Shelf.has_place g.H.Shelf.given_back g.H.Shelf.faults g.H.Shelf.tells c.args.shelf.now in
-    let now = showing g.H.Shelf.has_place g.H.Shelf.given_back g.H.Shelf.faults g.H.Shelf.tells c.loop-k.shelf in
-    let after = showing g.H.Shelf.has_place g.H.Shelf.given_back g.H.Shelf.faults g.H.Shelf.tells c.open_next.new.shelf in
+    let before = g.H.Shelf.state c.args.shelf.now in
+    let now = g.H.Shelf.state c.loop-k.shelf in
+    let after = g.H.Shelf.state c.open_next.new.shelf in
     let size : length c.open_next.new.opened.items ≡ c.loop-k.k = ap length c.in-Err.ensures.same ∙ i.0 in
-    subst (λ n. StopsOpening g.H.D.Disk.state before.has_place after.has_place before.tells after.given_back (Rose before.faults after.faults) c.args.scenario.now n c.in-Err.fault) (sym size)
-    (stops_later g.H.D.Disk.state c.args.scenario.now c.requires.can.runnable before.has_place now.has_place after.has_place before.tells after.given_back (Rose now.faults after.faults)
-    (Rose before.faults after.faults) c.loop-k.k c.in-Err.fault (rose_between before.faults now.faults after.faults after.faults o.faults (omega arith)) o.made
-    (subst (λ (t : Bool). StopsOpening g.H.D.Disk.state now.has_place after.has_place t after.given_back (Rose now.faults after.faults) c.args.scenario.now c.loop-k.k c.in-Err.fault) o.tells
-    c.in-Err.ensures.refused))
+    subst (λ n. StopsOpening g.H.D.Disk.state before after c.args.scenario.now n c.in-Err.fault) (sym size)
+    (stops_later g.H.D.Disk.state c.args.scenario.now c.requires.can.runnable before now after c.loop-k.k c.in-Err.fault i.1.keeps c.in-Err.ensures.refused)
 
 pub loop-k-preserved : goal.loop-k-preserved
 loop-k-preserved g c =
@@ -65,9 +56,7 @@ loop-k-preserved g c =
     let size = i.0 in
     let more = c.in_default.ensures.more in (
       more,
-      opens_then g.H.D.Disk.state c.args.scenario.now (showing g.H.Shelf.has_place g.H.Shelf.given_back g.H.Shelf.faults g.H.Shelf.tells c.args.shelf.now)
-          (showing g.H.Shelf.has_place g.H.Shelf.given_back g.H.Shelf.faults g.H.Shelf.tells c.loop-k.shelf) c.loop-k.opened.items c.loop-k.k (c.loop-k.k + 1)
-          (showing g.H.Shelf.has_place g.H.Shelf.given_back g.H.Shelf.faults g.H.Shelf.tells c.open_next.new.shelf) c.open_next.new.opened.items (omega arith) (omega (arith, size, more)) i.1 c.open_next.ensures.opens,
+      opens_then g.H.D.Disk.state c.args.scenario.now (g.H.Shelf.state c.args.shelf.now) (g.H.Shelf.state c.loop-k.shelf) c.loop-k.opened.items c.loop-k.k (c.loop-k.k + 1) (g.H.Shelf.state c.open_next.new.shelf) c.open_next.new.opened.items (omega arith) (omega (arith, size, more)) i.1 c.open_next.ensures.opens,
     )
 
 pub returns-clause-whole : goal.returns-clause-whole
@@ -82,5 +71,4 @@ pub returns-clause-opens : goal.returns-clause-opens
 returns-clause-opens g c =
     let i = c.loop-k.invariant in
     let size = i.0 in
-    opens_wider g.H.D.Disk.state c.args.scenario.now (showing g.H.Shelf.has_place g.H.Shelf.given_back g.H.Shelf.faults g.H.Shelf.tells c.args.shelf.now)
-    (showing g.H.Shelf.has_place g.H.Shelf.given_back g.H.Shelf.faults g.H.Shelf.tells c.loop-k.shelf) c.loop-k.opened.items c.loop-k.k (length c.loop-k.opened.items + 1) (omega (arith, size)) i.1
+    opens_wider g.H.D.Disk.state c.args.scenario.now (g.H.Shelf.state c.args.shelf.now) (g.H.Shelf.state c.loop-k.shelf) c.loop-k.opened.items c.loop-k.k (length c.loop-k.opened.items + 1) (omega (arith, size)) i.1

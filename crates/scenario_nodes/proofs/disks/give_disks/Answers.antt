@@ -1,13 +1,20 @@
-use Rattle.std.proofs.Common.{sym, subst}
-use Rattle.scenario_nodes.proofs.Returned.{all_after, one_given, showing}
+use Rattle.std.proofs.Common.{◌≡◌, ◌∙◌, inl, inr, sym, subst}
+use Rattle.scenario_nodes.specs.Shelves.{IsDiskName}
+use Rattle.scenario_nodes.proofs.Returned.{all_after, keeps_then, one_given}
 use Rattle.scenario_nodes.proofs.disks.give_disks.Goals as goal
 
 pub returns-clause-returned : goal.returns-clause-returned
 returns-clause-returned g c =
-    let before = showing g.H.Shelf.has_place g.H.Shelf.given_back g.H.Shelf.faults g.H.Shelf.tells c.args.shelf.now in
-    let between = showing g.H.Shelf.has_place g.H.Shelf.given_back g.H.Shelf.faults g.H.Shelf.tells c.give.new.self in
-    let after = showing g.H.Shelf.has_place g.H.Shelf.given_back g.H.Shelf.faults g.H.Shelf.tells c.give-2.new.self in
-    let place = c.give.ensures.places c.args.second.now (subst (g.H.Shelf.has_place c.args.shelf.now) (sym c.requires.second) c.requires.both.second) in
-    all_after before between after c.give.ensures.tells
-    (one_given before between c.args.first.now c.args.disks.0 c.give.ensures.none (λ told. c.give.ensures.given told c.requires.both.first) c.give.ensures.others)
-    (one_given between after c.args.second.now c.args.disks.1 c.give-2.ensures.none (λ told. c.give-2.ensures.given told place) c.give-2.ensures.others)
+    let before = g.H.Shelf.state c.args.shelf.now in
+    let between = g.H.Shelf.state c.give.new.self in
+    let after = g.H.Shelf.state c.give-2.new.self in
+    let place = (c.give.ensures.places c.args.second.now).1 (subst before.has_place (sym c.requires.second) c.requires.both.second) in
+    all_after before between after c.give.ensures.keeps.tells
+    (one_given c.args.first.now c.args.disks.0 before between c.give.ensures.places (c.give.ensures.back c.requires.both.first) c.give.ensures.keeps)
+    (one_given c.args.second.now c.args.disks.1 between after c.give-2.ensures.places (c.give-2.ensures.back place) c.give-2.ensures.keeps)
+
+pub returns-clause-keeps : goal.returns-clause-keeps
+returns-clause-keeps g c =
+    let first = c.args.first.now in
+    keeps_then (λ n. n ≡ first) (λ n. n ≡ c.args.second.now) (IsDiskName first) (g.H.Shelf.state c.args.shelf.now) (g.H.Shelf.state c.give.new.self) (g.H.Shelf.state c.give-2.new.self)
+    (λ n its. inl its) (λ n its. inr (its ∙ c.requires.second)) c.give.ensures.keeps c.give-2.ensures.keeps

@@ -2,7 +2,7 @@ use Rattle.std.proofs.Common.{◌≡◌, false, Some, None, sym, subst, ap, ◌�
 use Rattle.history_rules.specs.Own.{Given}
 use Rattle.history_rules.specs.Nodes.{happens}
 use Rattle.history_rules.specs.Nodes.{Manager as ManagerRole}
-use Rattle.history_text.specs.Promises.{asked_bytes}
+use Rattle.node_steps.specs.Promises.{asked_bytes}
 use Rattle.manager_core.specs.Standing.{StandsFor}
 use Rattle.manager_core.proofs.Facts.{happens_answer}
 use Rattle.manager_core.proofs.nodes.ManagerNode.step.Goals as goal

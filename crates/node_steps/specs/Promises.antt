@@ -12,8 +12,6 @@ use Rattle.seata_types.specs.declared.errors.NodeError.{NodeError}
 use Rattle.seata_types.specs.declared.errors.NodeError.TheVariants as error
 use Rattle.seata_types.specs.declared.errors.OpenError.{OpenError}
 use Rattle.seata_types.specs.declared.errors.OpenError.TheVariants as open_error
-use Rattle.seata_types.specs.declared.ids.Place.{Place}
-use Rattle.seata_types.specs.declared.ids.Place.TheVariants as place
 use Rattle.seata_types.specs.declared.messages.Input.{Input}
 use Rattle.seata_types.specs.declared.messages.Step.{Step}
 use Rattle.session_log.specs.Records as session_bytes
@@ -23,22 +21,8 @@ use Rattle.history_rules.specs.Devices.{is_short}
 use Rattle.history_rules.specs.CoordinatorMemory.{session_asked}
 use Rattle.history_rules.specs.ResourceMemory.{memory, resource_asked, boot_over}
 use Rattle.history_rules.specs.Nodes.{Role, Coordinator, Resource, Manager, answer, happens, left_at}
-use Rattle.history_text.specs.Durable.{own_faults}
-
--- where a node stands
-abbrev pub place_of : Role → Place
-place_of (Coordinator times past) = place.Tc
-place_of (Resource setup past) = place.Res setup.number
-place_of (Manager settings) = place.Man settings.number
-
--- it has disks, so that it can be stopped, crash and be restarted
-abbrev pub has_disks : Role → Bool
-has_disks (Manager settings) = false
-has_disks _ = true
-
--- the own entry of an event
-abbrev pub own_entry : Event → ℕ → Step → Own
-own_entry event now step = record { event = event; now = now; step = step }
+use Rattle.node_steps.specs.Durable.{own_faults}
+pub use Rattle.node_steps.specs.Nodes.{NodeState, place_of, has_disks, own_entry}
 
 -- the own entry of a step
 abbrev pub own_step : Input → ℕ → Step → Own
@@ -73,27 +57,27 @@ abbrev pub DisksFail : Pair → Pair → Type 0
 DisksFail old new = Rose (own_faults old) (own_faults new)
 
 -- What no call of a node changes: where it stands, the inputs that it serves, and what its disks are.
-pub record StaysItself {N : Type 0} (place : N → Place) (serves : N → Input → Type 0) (disks : N → Pair) (old new : N) : Type 0 where
-  pub same_place : place new ≡ place old
-  pub same_inputs : (given : Input) → serves old given → serves new given
-  pub first : SameKind (disks old).first (disks new).first
-  pub second : SameKind (disks old).second (disks new).second
+pub record StaysItself (old new : NodeState) : Type 0 where
+  pub same_place : new.place ≡ old.place
+  pub same_inputs : (given : Input) → old.serves given → new.serves given
+  pub first : SameKind old.disks.first new.disks.first
+  pub second : SameKind old.disks.second new.disks.second
 
 -- ---- what happens at a node. Each word is said of each role, and each list of own entries, that the node stands for.
 
 -- the node stands for all that it stood for
-abbrev pub StandsAsBefore : {N : Type 0} → (N → Role → List Own → Type 0) → N → N → Type 0
-StandsAsBefore stands_for old new = (role : Role) (owns : List Own) → stands_for old role owns → stands_for new role owns
+abbrev pub StandsAsBefore : (old new : NodeState) → Type 0
+StandsAsBefore old new = (role : Role) (owns : List Own) → old.stands_for role owns → new.stands_for role owns
 
 -- the step is what happens by the rules, and the node then stands for the list with the step's own entry
-abbrev pub Does : {N : Type 0} → (N → Role → List Own → Type 0) → N → N → Event → ℕ → Step → Type 0
-Does stands_for old new event now step =
-    (role : Role) (owns : List Own) → stands_for old role owns →
-    (step ≡ happens role owns now false false event) × stands_for new role (own_entry event now step ∷ owns)
+abbrev pub Does : (old new : NodeState) → Event → ℕ → Step → Type 0
+Does old new event now step =
+    (role : Role) (owns : List Own) → old.stands_for role owns →
+    (step ≡ happens role owns now false false event) × new.stands_for role (own_entry event now step ∷ owns)
 
 -- the same of a turn, a message or a local transaction
-abbrev pub TakesStep : {N : Type 0} → (N → Role → List Own → Type 0) → N → N → Input → ℕ → Step → Type 0
-TakesStep stands_for old new given now step = Does stands_for old new (Given given) now step
+abbrev pub TakesStep : (old new : NodeState) → Input → ℕ → Step → Type 0
+TakesStep old new given now step = Does old new (Given given) now step
 
 -- the node went down at a durable act
 abbrev pub cut : Durable → Step
@@ -101,11 +85,11 @@ cut flight = still (act.Down None (Some flight))
 
 -- the step's device failed, since a stop lets fewer calls pass than a record takes or by a fault of the disks: the node is
 -- down with the act in flight, which is what happens by the rules at a fault
-abbrev pub FailsAt : {N : Type 0} → (N → Role → List Own → Type 0) → (failed : Type 0) → N → N → Input → ℕ → Durable → Type 0
-FailsAt stands_for failed old new given now flight =
-    (role : Role) (owns : List Own) → stands_for old role owns →
-    (cut flight ≡ happens role owns now true false (Given given)) × stands_for new role (own_step given now (cut flight) ∷ owns)
-    × ((is_short (left_at role owns) ≡ true) ⊎ failed)
+abbrev pub FailsAt : (old new : NodeState) → Input → ℕ → Durable → Type 0
+FailsAt old new given now flight =
+    (role : Role) (owns : List Own) → old.stands_for role owns →
+    (cut flight ≡ happens role owns now true false (Given given)) × new.stands_for role (own_step given now (cut flight) ∷ owns)
+    × ((is_short (left_at role owns) ≡ true) ⊎ DisksFail old.disks new.disks)
 
 -- ---- records that don't fit
 
@@ -117,11 +101,11 @@ asked_bytes (Resource setup past) owns now given =
     option_map resource_bytes.record_bytes (resource_asked setup (memory setup past owns) (own_step given now (answer (Resource setup past) owns now given)))
 asked_bytes (Manager settings) owns now given = None
 
--- the record that the rule's answer asks for has no place behind those that the disks hold, with both numbers
-abbrev pub Overflows : {N : Type 0} → (N → Role → List Own → Type 0) → (disks : Pair) → (size : ℕ) → N → Input → ℕ → Full → Type 0
-Overflows stands_for disks size old given now full =
-    (role : Role) (owns : List Own) → stands_for old role owns →
-    (bytes : List ℕ) × (asked_bytes role owns now given ≡ Some bytes) × HasNoPlace disks size (length bytes) full
+-- the record that the rule's answer asks for has no place behind those that the disks hold now, with both numbers
+abbrev pub Overflows : (old new : NodeState) → Input → ℕ → Full → Type 0
+Overflows old new given now full =
+    (role : Role) (owns : List Own) → old.stands_for role owns →
+    (bytes : List ℕ) × (asked_bytes role owns now given ≡ Some bytes) × HasNoPlace new.disks new.size (length bytes) full
 
 -- ---- records that fit
 
@@ -133,26 +117,25 @@ pub record HasPlace (disks : Pair) (size body : ℕ) : Type 0 where
   pub within : end + body + SHORTEST ≤ size
 
 -- the record that the rule's answer asks for, if it asks for one, has a place
-abbrev pub Fits : {N : Type 0} → (N → Role → List Own → Type 0) → (disks : Pair) → (size : ℕ) → N → Input → ℕ → Type 0
-Fits stands_for disks size old given now =
-    (role : Role) (owns : List Own) → stands_for old role owns →
-    (bytes : List ℕ) → asked_bytes role owns now given ≡ Some bytes → HasPlace disks size (length bytes)
+abbrev pub Fits : NodeState → Input → ℕ → Type 0
+Fits node given now =
+    (role : Role) (owns : List Own) → node.stands_for role owns →
+    (bytes : List ℕ) → asked_bytes role owns now given ≡ Some bytes → HasPlace node.disks node.size (length bytes)
 
 -- it had one where the step was answered, and where the disks failed
-abbrev pub HadPlace : {N : Type 0} → (N → Role → List Own → Type 0) → (disks : Pair) → (size : ℕ) → N → Input → ℕ → Result Step NodeError → Type 0
-HadPlace stands_for disks size old given now (Ok step) = Fits stands_for disks size old given now
-HadPlace stands_for disks size old given now (Err (error.Failed flight)) = Fits stands_for disks size old given now
-HadPlace stands_for disks size old given now (Err (error.Full full)) = Unit {0}
-HadPlace stands_for disks size old given now (Err error.NoMemory) = Unit {0}
+abbrev pub HadPlace : (old : NodeState) → Input → ℕ → Result Step NodeError → Type 0
+HadPlace old given now (Ok step) = Fits old given now
+HadPlace old given now (Err (error.Failed flight)) = Fits old given now
+HadPlace old given now (Err (error.Full full)) = Unit {0}
+HadPlace old given now (Err error.NoMemory) = Unit {0}
 
 -- ---- a step without an answer
 
 -- the disks failed; or the record doesn't fit, or memory was refused, and the node stands for all that it stood for
-abbrev pub AfterError : {N : Type 0} → (N → Role → List Own → Type 0) → (failed : Type 0) → (disks : Pair) → (size : ℕ) → N → N → Input → ℕ → NodeError → Type 0
-AfterError stands_for failed disks size old new given now (error.Failed flight) = FailsAt stands_for failed old new given now flight
-AfterError stands_for failed disks size old new given now (error.Full full) =
-    StandsAsBefore stands_for old new × Overflows stands_for disks size old given now full
-AfterError stands_for failed disks size old new given now error.NoMemory = StandsAsBefore stands_for old new
+abbrev pub AfterError : (old new : NodeState) → Input → ℕ → NodeError → Type 0
+AfterError old new given now (error.Failed flight) = FailsAt old new given now flight
+AfterError old new given now (error.Full full) = StandsAsBefore old new × Overflows old new given now full
+AfterError old new given now error.NoMemory = StandsAsBefore old new
 
 -- whether the step made an own entry, and whether it took the node down
 abbrev pub steps_of : Result Step NodeError → ℕ
@@ -168,11 +151,11 @@ goes_down _ = false
 
 -- a restart ended with this act, which is what happens by the rules, whatever was kept of what was in flight; where its boot
 -- failed, a stop that came with it lets fewer calls pass than a record takes, or a fault of the disks was counted
-abbrev pub Restarts : {N : Type 0} → (N → Role → List Own → Type 0) → (failed : Type 0) → N → N → (pick : ℕ) → (calls : Option ℕ) → ℕ → Act → Type 0
-Restarts stands_for failed old new pick calls now done =
-    (role : Role) (owns : List Own) → stands_for old role owns →
+abbrev pub Restarts : (old new : NodeState) → (pick : ℕ) → (calls : Option ℕ) → ℕ → Act → Type 0
+Restarts old new pick calls now done =
+    (role : Role) (owns : List Own) → old.stands_for role owns →
     (fault : Bool) × (keeps : Bool) × (still done ≡ happens role owns now fault keeps (Restarted pick calls))
-    × stands_for new role (own_entry (Restarted pick calls) now (still done) ∷ owns) × (fault ≡ true → failed)
+    × new.stands_for role (own_entry (Restarted pick calls) now (still done) ∷ owns) × (fault ≡ true → DisksFail old.disks new.disks)
 
 -- the node is down after a restart
 abbrev pub stays_down : Result Act OpenError → Bool
@@ -186,8 +169,13 @@ BootOverflows _ disks size full = ⊥
 
 -- why a restart ended in an error: a fault of its disks, a boot that doesn't fit, or want of memory, which is free; bytes
 -- that the node stands for are never damaged
-abbrev pub IsRestartError : Role → (failed : Type 0) → (disks : Pair) → (size : ℕ) → OpenError → Type 0
-IsRestartError role failed disks size open_error.Failed = failed
-IsRestartError role failed disks size (open_error.Damaged second at) = ⊥
-IsRestartError role failed disks size (open_error.Full full) = BootOverflows role disks size full
-IsRestartError role failed disks size open_error.NoMemory = Unit {0}
+abbrev pub IsRestartError : Role → (old new : NodeState) → OpenError → Type 0
+IsRestartError role old new open_error.Failed = DisksFail old.disks new.disks
+IsRestartError role old new (open_error.Damaged second at) = ⊥
+IsRestartError role old new (open_error.Full full) = BootOverflows role new.disks new.size full
+IsRestartError role old new open_error.NoMemory = Unit {0}
+
+-- it gave no node that is up, and the node stands for all that it stood for
+abbrev pub FailsRestart : (old new : NodeState) → OpenError → Type 0
+FailsRestart old new error =
+    (role : Role) (owns : List Own) → old.stands_for role owns → new.stands_for role owns × IsRestartError role old new error

@@ -5,7 +5,7 @@ use Rattle.journal_checkpoint.specs.declared.twin.Twin.{Twin}
 use Rattle.journal_checkpoint.specs.declared.types.Found.{Found}
 use Rattle.journal_checkpoint.specs.Keeping.{KeepsPair, first_disk, second_disk, needed_for}
 use Rattle.journal_checkpoint.proofs.Ends.{no_place}
-use Rattle.history_text.specs.Promises.{HasPlace}
+use Rattle.node_steps.specs.Promises.{HasPlace}
 
 module _ {D : Type 0} (state : D → DiskState) (law : (d : D) → IsLawful (state d)) (found : Found) (t : Twin D) (keeps : KeepsPair state found t) where
   -- where they end is told of a record without a place, as each one is on a disk of no bytes

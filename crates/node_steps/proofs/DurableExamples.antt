@@ -14,7 +14,7 @@ use Rattle.durable_records.specs.declared.resources.ResourceRecord.{ResourceReco
 use Rattle.durable_records.specs.declared.resources.ResourceRecord.TheVariants as resource_log
 use Rattle.session_log.specs.Records as sessions
 use Rattle.resource_log.specs.Records as resources
-use Rattle.history_text.specs.Durable.{StandsForRecords, of_coordinator, of_resource, AreCoordinatorDisks}
+use Rattle.node_steps.specs.Durable.{StandsForRecords, of_coordinator, of_resource, AreCoordinatorDisks}
 
 -- a disk of zero bytes
 abbrev zeros : List ℕ

@@ -1,9 +1,8 @@
 -- What two disks stand for, as the records of the node that they are of, and what a node's entries leave on its disks. Lists
 -- of records stand newest first.
-use Rattle.std.specs.Prelude.{◌≡◌, ◌⊎◌, ◌≤◌, ◌+◌, ◌-◌, ◌^◌, ℕ, min, Bool, true, false, if◌then◌else◌, List, [], ◌∷◌, Option, Some, None, option_and_then}
+use Rattle.std.specs.Prelude.{◌≡◌, ◌⊎◌, ◌≤◌, ◌+◌, ◌-◌, ◌^◌, ℕ, min, Bool, true, false, if◌then◌else◌, List, ◌∷◌, Option, Some, None}
 use Rattle.disk_model.specs.Disk.{DiskState, last_pick}
-use Rattle.journal_checkpoint.specs.declared.types.Found.{Found}
-use Rattle.journal_checkpoint.specs.Images.{Pair, PairStandsFor}
+use Rattle.journal_checkpoint.specs.Images.{Pair}
 pub use Rattle.memory_store.specs.Readings.{Reading, records_on, AreRecords, StandsForRecords}
 use Rattle.local_tables.specs.Rows.{Database}
 use Rattle.durable_records.specs.declared.coordinators.SessionRecord.{SessionRecord}

@@ -1,7 +1,7 @@
 //! What a step gives.
 ghost use Rattle.std.specs.Prelude.{◌≡◌};
 ghost use Rattle.frame_codec.specs.Limits.{IsFramable};
-ghost use Rattle.history_text.specs.Framing.{SendsFramable};
+ghost use Rattle.node_steps.specs.Framing.{SendsFramable};
 ghost use Rattle.history_rules.specs.Own as own;
 
 use seata_types::{Act, Message, Outgoing, Place, Step};

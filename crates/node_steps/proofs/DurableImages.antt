@@ -4,7 +4,7 @@ use Rattle.journal_checkpoint.specs.Images.{Pair}
 use Rattle.history_rules.specs.Own.{Own, Left}
 use Rattle.history_rules.specs.Nodes.{MayStand}
 use Rattle.history_rules.specs.Devices.{calls_left, may_stand}
-use Rattle.history_text.specs.Durable.{Reading, StandsForRecords, StandsForLeft, AreDisksOf, keepable}
+use Rattle.node_steps.specs.Durable.{Reading, StandsForRecords, StandsForLeft, AreDisksOf, keepable}
 
 flight_kept : {R : Type 0} (b : Bool) (flight : Option R) (r : R) → (if b then flight else None) ≡ Some r → flight ≡ Some r
 flight_kept true flight r e = e

@@ -1,5 +1,5 @@
 -- What happens at a node that is up, and whose disk no stop arms.
-use Rattle.std.proofs.Common.{◌≡◌, ℕ, false, List, None, refl, sym}
+use Rattle.std.proofs.Common.{◌≡◌, ℕ, false, List, None, refl}
 use Rattle.seata_types.specs.declared.acts.Act.{Act}
 use Rattle.seata_types.specs.declared.acts.Act.TheVariants as act
 use Rattle.seata_types.specs.declared.messages.Input.{Input}

@@ -1,0 +1,5 @@
+use Rattle.history_law.proofs.LeastRows.{rollback_rows_of_chains}
+use Rattle.history_law.proofs.laws.rollbacks_of_chains_name_the_least_row.Goals as goal
+
+pub returns : goal.returns
+returns c = rollback_rows_of_chains

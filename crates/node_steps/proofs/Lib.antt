@@ -1,0 +1,4 @@
+mod DurableExamples
+pub mod DurableImages
+pub mod Places
+pub mod Served

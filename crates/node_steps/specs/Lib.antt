@@ -1,0 +1,4 @@
+pub mod Durable
+pub mod Framing
+pub mod Nodes
+pub mod Promises
