@@ -18,7 +18,6 @@ use Rattle.replay_runner.specs.Leaving.{Replays as Replayed}
 use Rattle.report_text.specs.Following.{Reports}
 use Rattle.lab_calls.specs.Answers.{Done, IsAnswerTo, IsEndText, Replays, Reported, status_of}
 use Rattle.lab_calls.specs.Streams.{Devices}
-use Rattle.lab_calls.proofs.Safe.{run_is_safe}
 
 -- ---- few entries
 
@@ -44,7 +43,7 @@ module _ {D : Type 0} (state : D → DiskState) (old new : ShelfState D) (s : Sc
       record {
         history = d.history;
         is_run = d.is_run;
-        is_safe = run_is_safe s d.history runs d.is_run.legal;
+        is_safe = d.safe;
         is_report = report d.history d.is_run.legal (sym d.printed) (omega (arith, size, few));
         device = d.device;
         sized = d.sized;

@@ -6,7 +6,5 @@ mod Flow
 mod FrameLaws
 mod FramesListed
 mod Headline
-mod Modes
 mod Replayed
-mod Safe
 mod Shelved

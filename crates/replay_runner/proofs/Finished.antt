@@ -40,6 +40,7 @@ use Rattle.replay_runner.proofs.Failed.{failure_among, failure_back}
 use Rattle.replay_runner.proofs.Gathered.{gathered}
 use Rattle.replay_runner.proofs.Lists.{drop_all}
 use Rattle.replay_runner.proofs.Names.{next_of_none}
+use Rattle.replay_runner.proofs.Safe.{run_is_safe}
 use Rattle.replay_runner.proofs.Shown.{all_left, all_sized, all_show, all_stand, alike_in, count_disks, first_show, first_sized, none_show, none_sized, nth_end, one_sized, place_behind, role_behind, show_before, sized_more}
 use Rattle.replay_runner.proofs.Taken.{coordinators_alone, next_not_taken, next_taken_too, none_taken, not_coordinators, second_since, taken_on}
 
@@ -79,7 +80,7 @@ module _ {D K : Type 0} (state : D → DiskState) (s : Scenario) (r : Run D K) w
   cause_left ms (fault.Damaged q second offset) stand cause = stops ms (fault.Damaged q second offset) stand cause
   cause_left ms fault.Other stand cause = stops ms fault.Other stand cause
 
-  module _ (count : length r.nodes.resources.items ≡ length s.resources) where
+  module _ (runs : IsRunnable s) (count : length r.nodes.resources.items ≡ length s.resources) where
     count_left : length left_disks ≡ length s.resources + 1
     count_left = let size = count_disks state r.nodes.coordinator.seat.node r.nodes.resources.items in omega (arith, size, count)
 
@@ -87,6 +88,7 @@ module _ {D K : Type 0} (state : D → DiskState) (s : Scenario) (r : Run D K) w
     broken missed e = record {
       history = e.history;
       legal = e.legal;
+      safe = run_is_safe s e.history runs e.legal;
       follows = e.follows;
       count = count_left;
       device = all_show state s r.nodes e.history e.stands;
@@ -102,6 +104,7 @@ module _ {D K : Type 0} (state : D → DiskState) (s : Scenario) (r : Run D K) w
         follows = t.follows;
         whole = let all = drop_all (singles (items_of s)) (length ms) left in let within = follows_within (world_of s) (items_of s) ms t.follows in omega (arith, all, within);
       };
+      safe = run_is_safe s ms runs t.legal;
       printed = printed;
       device = all_left state s r.nodes ms t.nodes;
       sized = all_sized state s r.nodes count ms (all_stand state s r.nodes ms t.nodes);
@@ -112,6 +115,7 @@ module _ {D K : Type 0} (state : D → DiskState) (s : Scenario) (r : Run D K) w
     uncollected ms t = record {
       history = ms;
       legal = t.legal;
+      safe = run_is_safe s ms runs t.legal;
       follows = t.follows;
       count = count_left;
       device = all_show state s r.nodes ms (all_stand state s r.nodes ms t.nodes);

@@ -33,5 +33,7 @@ mod Starting
 mod Returning
 mod Taken
 mod OpeningMore
+mod Modes
+mod Safe
 mod Finished
 pub mod Calm

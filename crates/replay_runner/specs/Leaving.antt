@@ -11,6 +11,7 @@ use Rattle.history_rules.specs.Own.{Own}
 use Rattle.history_rules.specs.Nodes.{Role, Coordinator, Resource, Manager, no_past, role_at}
 use Rattle.history_rules.specs.Histories.{Moment, own, Legal}
 use Rattle.history_rules.specs.Schedules.{Follows}
+use Rattle.history_law.specs.Safety.{IsSafeHistory}
 use Rattle.history_text.specs.declared.entries.Entry.{Entry}
 use Rattle.node_steps.specs.Durable.{AreCoordinatorDisks, AreNodeDisks, AreResourceDisks, own_faults}
 use Rattle.history_text.specs.History.{entries, IsRun}
@@ -62,19 +63,22 @@ AreLeft (Manager settings) os disks = Unit {0}
 abbrev pub HaveSizes : Scenario → List Pair → Type 0
 HaveSizes s disks = (k : ℕ) → k < length disks → HaveSize s.disk (nth_pair disks k)
 
--- the history of the whole schedule was made, these are its entries, and the disks of each node, of the scenario's size, show it
+-- the history of the whole schedule was made and is safe, these are its entries, and the disks of each node, of the scenario's size, show
+-- it
 pub record Completed (s : Scenario) (disks : List Pair) (es : List Entry) : Type 0 where
   pub history : List Moment
   pub is_run : IsRun s history
+  pub safe : IsSafeHistory (world_of s) no_past history
   pub printed : es ≡ entries history
   pub device : (p : Place) (role : Role) → role_at (world_of s) no_past p ≡ Some role → AreLeft role (own p history) (disks_in disks p)
   pub sized : HaveSizes s disks
 
--- the replay ended by a fault: the history that it made up to there is legal and follows the schedule, and the disks of each node, of the
--- scenario's size, show its records and counted faults
+-- the replay ended by a fault: the history that it made up to there is legal, safe and follows the schedule, and the disks of each node, of
+-- the scenario's size, show its records and counted faults
 pub record Broken (s : Scenario) (disks : List Pair) (missed : RunFault) : Type 0 where
   pub history : List Moment
   pub legal : Legal (world_of s) no_past history
+  pub safe : IsSafeHistory (world_of s) no_past history
   pub follows : Follows (world_of s) no_past (items_of s) history
   pub count : length disks ≡ length s.resources + 1
   pub device : (p : Place) (role : Role) → role_at (world_of s) no_past p ≡ Some role → AreNodeDisks role (own p history) (disks_in disks p)

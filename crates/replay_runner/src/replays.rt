@@ -73,7 +73,8 @@ fn play<H: Shelf, K: RunName>(
         IsOfServer scenario.now.resources (length scenario.now.resources) n →
         HasDisk (H.state shelf.new) n }
     ensures returned { ReturnsAll (H.state shelf.old) (H.state shelf.new) }
-    ensures keeps { KeepsOthers (IsServerDisk scenario.now) (H.state shelf.old) (H.state shelf.new) }
+    ensures keeps { KeepsOthers (IsServerDisk scenario.now)
+        (H.state shelf.old) (H.state shelf.new) }
 {
     let mut run = Run::<H::D, K>::new(alloc, nodes);
     let locals = scenario.locals.as_slice();
@@ -101,7 +102,8 @@ fn replay_named<H: Shelf, K: RunName>(
     ensures replays { Replays H.D.state (H.state shelf.old) (H.state shelf.new)
         scenario.now result }
     ensures returned { ReturnsAll (H.state shelf.old) (H.state shelf.new) }
-    ensures keeps { KeepsOthers (IsServerDisk scenario.now) (H.state shelf.old) (H.state shelf.new) }
+    ensures keeps { KeepsOthers (IsServerDisk scenario.now)
+        (H.state shelf.old) (H.state shelf.new) }
 {
     let Ok(seconds) = second_names(alloc, scenario.resources.as_slice()) else {
         return Err(RunFault::NoMemory);
@@ -130,7 +132,8 @@ pub fn replay<H: Shelf>(
     ensures calm { IsCalmShelf H.D.state scenario.now (H.state shelf.old) (H.state shelf.new) →
         IsCalmEnd result }
     ensures returned { ReturnsAll (H.state shelf.old) (H.state shelf.new) }
-    ensures keeps { KeepsOthers (IsServerDisk scenario.now) (H.state shelf.old) (H.state shelf.new) }
+    ensures keeps { KeepsOthers (IsServerDisk scenario.now)
+        (H.state shelf.old) (H.state shelf.new) }
 {
     replay_named::<H, Brand>(alloc, scenario, shelf)
 }

@@ -34,7 +34,7 @@ returns-in-Err-clause-back g c =
     let count = c.play_all-played.ensures.count
     ∙ count_of_resources c.args.scenario.now c.requires.runnable (length c.args.nodes.managers.items) (length c.args.nodes.resources.items) c.new-run.result c.new-run.ensures.goes
     c.requires.new.managers.count c.requires.new.resources.count in
-    ended g.H.D.Disk.state c.args.scenario.now run count
+    ended g.H.D.Disk.state c.args.scenario.now run c.requires.runnable count
     (without_places old) new c.close-history.ensures.back
     (taken_servers c.args.scenario.now run.nodes.coordinator.seat.node run.nodes.resources.items (without_places old) old new count c.close-history.ensures.only.places c.requires.taken)
     c.play_all-played.result c.in-Err.fault c.in-Err.is
@@ -50,7 +50,7 @@ returns-in-Ok-clause-back g c =
     let count = c.play_all-played.ensures.count
     ∙ count_of_resources c.args.scenario.now c.requires.runnable (length c.args.nodes.managers.items) (length c.args.nodes.resources.items) c.new-run.result c.new-run.ensures.goes
     c.requires.new.managers.count c.requires.new.resources.count in
-    finished g.H.D.Disk.state c.args.scenario.now run count
+    finished g.H.D.Disk.state c.args.scenario.now run c.requires.runnable count
     (without_places old) new c.close-history.ensures.back
     (taken_servers c.args.scenario.now run.nodes.coordinator.seat.node run.nodes.resources.items (without_places old) old new count c.close-history.ensures.only.places c.requires.taken)
     c.play_all-played.result c.in_default.field-0 c.in_default.is
@@ -66,7 +66,7 @@ returns-in-Err-history-clause-back g c =
     let count = c.play_all-played.ensures.count
     ∙ count_of_resources c.args.scenario.now c.requires.runnable (length c.args.nodes.managers.items) (length c.args.nodes.resources.items) c.new-run.result c.new-run.ensures.goes
     c.requires.new.managers.count c.requires.new.resources.count in
-    unfinished g.H.D.Disk.state c.args.scenario.now run count
+    unfinished g.H.D.Disk.state c.args.scenario.now run c.requires.runnable count
     (without_places old) new c.close-history.ensures.back
     (taken_servers c.args.scenario.now run.nodes.coordinator.seat.node run.nodes.resources.items (without_places old) old new count c.close-history.ensures.only.places c.requires.taken)
     c.play_all-played.result c.in_default.field-0 c.in_default.is

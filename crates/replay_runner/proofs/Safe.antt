@@ -8,7 +8,7 @@ use Rattle.history_law.specs.Safety.{IsSafeHistory}
 use Rattle.history_law.proofs.SafetyHistory.{safety_law}
 use Rattle.history_text.proofs.Worlds.{world_of-numbered}
 use Rattle.history_text.specs.Worlds.{world_of}
-use Rattle.lab_calls.proofs.Modes.{world_of-modes}
+use Rattle.replay_runner.proofs.Modes.{world_of-modes}
 
 -- its disks had no records before
 pub run_is_safe : (s : Scenario) (ms : List Moment) → IsRunnable s → Legal (world_of s) no_past ms → IsSafeHistory (world_of s) no_past ms
