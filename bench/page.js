@@ -89,7 +89,9 @@ const CHECKS = {
     story = show("repeated_confirm");
     want(story.entries.some((entry) => entry.deliveries.length === 3 && entry.sent.note.word === "branch-commit"),
       "repeated_confirm: three times");
-    want(rowAt(story, "shop.stock:1", story.last).row.join() === "1,7,0", "repeated_confirm: 7 free");
+    const confirmed = story.entries.findIndex((entry) => entry.act.word === "confirmed") + 1;
+    for (let step = confirmed; step <= story.last; step += 1) want(rowAt(story, "shop.stock:1", step).row.join() === "1,7,0",
+      "repeated_confirm: 7 free at " + step);
     story = show("dirty_write");
     want(story.conflicts.get("bank.account:1").map((each) => each.step).join() === "11,19", "dirty_write: conflicts");
     want(story.entries[15].act.word === "blocked" && rowAt(story, "bank.account:1", 22).row[1] === 900n
@@ -129,6 +131,7 @@ const CHECKS = {
 
   // the state at each step is what the program reports of the schedule cut there
   cuts(want) {
+    if (!given.cuts) measured.push("not held to a program, since none is named");
     for (const [name, reports] of Object.entries(given.cuts ?? {})) {
       const story = show(name);
       reports.forEach((report, i) => want(report !== null && printed(story, i + 1) === sections(report), name + " at " + (i + 1)));
@@ -137,6 +140,7 @@ const CHECKS = {
 
   // scenarios and reports of the folders that were named
   cases(want) {
+    if (Object.keys(given.cases).length === 0) measured.push("none are named");
     for (const [name, pair] of Object.entries(given.cases)) {
       page.show([pair.scenario, pair.report]);
       want(alarm() === "", name + ": " + alarm());
@@ -294,13 +298,15 @@ const CHECKS = {
   // 20,000 entries of 289 nodes, which bench/page has shown and moved before
   async large(want) {
     want(alarm() === "" && page.view.story.last === 20000 && page.view.story.nodes.size === 289, "not shown: " + alarm());
-    want(document.querySelectorAll("#diagram *").length <= 400, "elements in the diagram");
     want(page.view.folds && page.view.rows.length < 20000, "idle turns aren't folded");
-    await frame();
-    window.gc();
-    const bytes = performance.memory.usedJSHeapSize;
-    measured.push("heap " + Math.round(bytes / 1e6) + " MB");
-    want(bytes < 150e6, "the heap has " + bytes + " bytes");
+    await small(want);
+  },
+
+  // 20,000 entries with 10,000 messages under way at once, which bench/page has shown and moved before
+  async crowded(want) {
+    want(alarm() === "" && page.view.story.last === 20000 && page.view.rows.length === 20000, "not shown: " + alarm());
+    want(page.view.arrows.crossing(10000, 10000, 20000).length >= 10000, "no crowd");
+    await small(want);
   },
 
   // texts of rows are texts; nothing is asked of a network
@@ -363,8 +369,10 @@ const CHECKS = {
       step("ArrowLeft", 0, { shiftKey: true });
     step("j", 5), step("j", 8), step("j", 9), step("k", 8), step("ArrowRight", 9);
     page.move(12);
+    page.paint();
     want(at("slider").getAttribute("aria-valuetext") === "step 12 of 29: tc granted tc:1 b2", at("slider").getAttribute("aria-valuetext"));
     page.move(14);
+    page.paint();
     want(at("slider").getAttribute("aria-valuetext") === "step 14 of 29: transfer goes on", at("slider").getAttribute("aria-valuetext"));
     at("slider").value = 20;
     at("slider").dispatchEvent(new Event("input"));
@@ -421,6 +429,16 @@ const CHECKS = {
     want(dot("lanes") === "255,255,255", "the diagram is printed on " + dot("lanes"));
   },
 };
+
+// what a large history takes of the page
+async function small(want) {
+  want(document.querySelectorAll("#diagram *").length <= 400, "elements in the diagram");
+  await frame();
+  window.gc();
+  const bytes = performance.memory.usedJSHeapSize;
+  measured.push("heap " + Math.round(bytes / 1e6) + " MB");
+  want(bytes < 150e6, "the heap has " + bytes + " bytes");
+}
 
 const dot = (id) => Array.from(at(id).getContext("2d").getImageData(3, 3, 1, 1).data.slice(0, 3)).join();
 const said = (texts) => (page.given = { scenario: null, report: null }, at("alarm").hidden = true, page.show(texts), alarm());
@@ -493,14 +511,22 @@ const STATEMENTS = [
 
 // ---- the acts that bench/page takes the time of
 
-const largeTexts = () => [largeScenario(), largeReport()];
+const SIZES = { large: () => [largeScenario(), largeReport()], crowded: () => [crowdedReport()] };
 const firstPicture = (texts) => (page.show(texts), page.paint(), document.body.offsetHeight);
 
-async function moves(count) {
-  for (let i = 0; i < count; i += 1) {
-    page.move((i * 7919 + 13) % 20001);
+// moves all over the history, and how many milliseconds by the clock each frame took that showed one
+async function moves(from, count) {
+  const took = [];
+  for (let i = from; i < from + count; i += 1) {
+    const step = (i * 7919 + 13) % 20001;
+    let begun;
+    requestAnimationFrame(() => (begun = performance.now()));
+    page.move(step);
     await frame();
+    await scheduler.postTask(() => took.push(performance.now() - begun));
+    if (document.querySelector("#state h2").textContent !== "Step " + step + " of 20000") throw new Error("the next frame shows no " + step);
   }
+  return took;
 }
 
 // ---- a large run, made here by the few rules that it needs: 256 transactions with five calls each at 32 databases, and no fault. With
@@ -586,3 +612,20 @@ class LargeRun {
 }
 
 const largeReport = () => new LargeRun().report();
+
+// ---- a crowd of messages: each of 256 managers asks for its transaction again and again, and only then the first message is delivered
+
+function crowdedReport() {
+  const lines = ["entries"], half = 10000, of = (number) => ((number - 1) % MANAGERS) + 1;
+  for (let number = 1; number <= half; number += 1) {
+    const m = "m" + of(number);
+    lines.push(number + " " + m + " 0 turn | " + (number <= MANAGERS ? "starts" : "repeats") + " | begin " + m + " 60000 to tc");
+  }
+  for (let number = 1; number <= half; number += 1) {
+    const m = "m" + of(number), xid = "tc:" + of(number);
+    lines.push(half + number + " tc 0 deliver " + number + " " + m + " | " + (number <= MANAGERS ? "begun " : "known ") + xid + " | begun "
+      + xid + " to " + m);
+  }
+  const sessions = Array.from({ length: MANAGERS }, (_, i) => "tc:" + (i + 1) + " m" + (i + 1) + " 1 Begin");
+  return [...lines, "sessions", ...sessions, ...HEADINGS.slice(2), ""].join("\n");
+}
