@@ -1,5 +1,5 @@
-//! Tests of histories' lines, written and read, and of what the coordinator, a manager and a resource answer that no scenario
-//! asks, over their public calls.
+//! Tests of histories' lines, written and read, of links and merges, and of what the coordinator, a manager and a resource
+//! answer that no scenario asks, over their public calls.
 #![tactic(auto)]
 
 #[cfg(test)]
@@ -10,6 +10,8 @@ mod counted;
 mod errors;
 #[cfg(test)]
 mod lines;
+#[cfg(test)]
+mod links;
 #[cfg(test)]
 mod manager;
 #[cfg(test)]

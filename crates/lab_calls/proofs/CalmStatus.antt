@@ -1,5 +1,5 @@
 -- The status of a replay where no device fails.
-use Rattle.std.proofs.Common.{◌≡◌, ◌⊎◌, inl, inr, ◌||◌, ℕ, nat_eq, Bool, true, false, List, [], Some, Result, Ok, Err, slice_get, refl, ap, sym, subst, ◌∙◌, arith}
+use Rattle.std.proofs.Common.{◌≡◌, ◌⊎◌, inl, inr, ◌||◌, ℕ, nat_eq, Bool, true, false, List, [], Some, Result, Ok, Err, refl, ap, sym, subst, ◌∙◌, arith}
 use Rattle.std.proofs.lemmas.Bool.Decides.{nat_tests}
 use Rattle.std.proofs.lemmas.Option.{same_Some}
 use Rattle.disk_model.specs.Disk.{DiskState}
@@ -11,7 +11,9 @@ use Rattle.scenario_reader.specs.Reading.{IsJson, IsScenario, IsScenarioOf}
 use Rattle.history_text.specs.declared.entries.Entry.{Entry}
 use Rattle.node_seat.specs.declared.faults.RunFault.{RunFault}
 use Rattle.node_seat.specs.declared.faults.RunFault.TheVariants as run_fault
-use Rattle.replay_runner.specs.Leaving.{IsCalmEnd, IsCalmShelf, server_names}
+use Rattle.scenario_nodes.specs.Nodes.{server_names}
+use Rattle.scenario_nodes.specs.Together.{IsOfOne}
+use Rattle.replay_runner.specs.Leaving.{IsCalmEnd, IsCalmShelf}
 use Rattle.replay_runner.specs.Leaving.{Replays as Replayed}
 use Rattle.replay_runner.proofs.Calm.{ends_calmly}
 use Rattle.lab_calls.specs.Answers.{IsEndText, Replays, TellsReplay, is_calm_end, is_end}
@@ -34,7 +36,7 @@ calm_of state before after r s same calm = record {
   tells = calm.tells;
   told = calm.told;
   shelf = calm.shelf;
-  disks = λ name disk is given. calm.disks name disk (is.0, is.1, subst (λ names. slice_get names is.0 ≡ Some is.1) same is.2, is.3) given;
+  disks = λ name disk is given. calm.disks name disk (subst (λ (names : List (List ℕ)). IsOfOne names name) same is) given;
 }
 
 -- the status of such an end

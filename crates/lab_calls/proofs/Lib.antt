@@ -6,5 +6,6 @@ mod Flow
 mod FrameLaws
 mod FramesListed
 mod Headline
+mod Made
 mod Replayed
 mod Shelved

@@ -2,7 +2,6 @@
 use Rattle.std.specs.Prelude.{◌≡◌, ◌≢◌, ◌⊎◌, ◌+◌, ◌<◌, ◌≤◌, ◌++◌, ◌∷◌, ℕ, nat_eq, nat_le, Bool, true, false, if◌then◌else◌, List, [], length, map, take, drop, Option, Some, Result, Ok, Err, codes}
 use Rattle.std.specs.List.{list_any}
 use Rattle.std.specs.Fmt.{decimal}
-use Rattle.std.specs.Cmp.Lexicographic.{pointwise}
 use Rattle.seata_types.specs.declared.limits.TheConstants.{INPUT_BYTES}
 use Rattle.scenario_reader.specs.declared.errors.ScenarioError.{ScenarioError}
 use Rattle.scenario_reader.specs.declared.errors.ScenarioError.TheVariants as fault
@@ -13,7 +12,7 @@ use Rattle.seata_types.specs.declared.ids.Place.{Place}
 use Rattle.node_seat.specs.declared.faults.RunFault.{RunFault}
 use Rattle.node_seat.specs.declared.faults.RunFault.TheVariants as run_fault
 use Rattle.scenario_nodes.specs.Shelves.{AllTell, pair_of}
-use Rattle.replay_runner.specs.Leaving.{AreLeft, FirstGivenBack, HaveSizes, disks_in}
+use Rattle.replay_runner.specs.Leaving.{AreAllBack, AreLeft, HaveSizes, disks_in}
 use Rattle.report_text.specs.Following.{Reports}
 use Rattle.history_rules.specs.Nodes.{Role, no_past, role_at}
 use Rattle.history_rules.specs.Histories.{Moment, own}
@@ -29,20 +28,7 @@ use Rattle.disk_model.specs.Shelf.{ShelfState}
 use Rattle.lab_calls.specs.Streams.{GainsFront, Devices, IsCalm}
 use Rattle.std.specs.Io.KnownBytes.{Appends}
 
--- the words are this one word
-abbrev pub is_word : List ℕ → List (List ℕ) → Bool
-is_word name [] = false
-is_word name (word ∷ []) = pointwise nat_eq word name
-is_word name (word ∷ more ∷ words) = false
-
--- the grammar of the words: the one word `replay`, or the one word `frames`
-abbrev pub is_replay : List (List ℕ) → Bool
-is_replay words = is_word (codes "replay") words
-
-abbrev pub is_frames : List (List ℕ) → Bool
-is_frames words = is_word (codes "frames") words
-
--- the line that is written for other words
+-- the usage line
 abbrev pub usage_text : List ℕ
 usage_text = line (codes "usage: seata_lab replay | run | make | stress | frames | audit | show")
 
@@ -174,8 +160,7 @@ pub record Replays (ends : Ending) (status : ℕ) (input : List ℕ) (old new : 
 pub record Done {D : Type 0} (IsHistory : Scenario → List Moment → Type 0) (state : D → DiskState)
     (shelf : ShelfState D) (s : Scenario) (text : List ℕ) : Type 0 where
   pub disks : List (D × D)
-  pub back : FirstGivenBack shelf s disks
-  pub count : length disks ≡ length s.resources + 1
+  pub back : AreAllBack shelf s disks
   pub reported : AllTell state → Reported IsHistory state s disks text
 
 -- at status 3: the source was read as far as inputs are, and the sink got the line of what keeps
@@ -323,7 +308,7 @@ pub record TellsFaults (possible : List ℕ) (status : ℕ) (old new : Devices) 
   pub sink_failed : status ≡ 5 → Rose old.sink.faults new.sink.faults
   pub no_memory : status ≡ 6 → new.sink.written ≡ old.sink.written
 
--- what the status says of other words than the program's: the sink got the usage line, or the front
+-- what the status says of words that are answered with the usage line: the sink got it, or the front
 -- of it
 pub record TellsUsage (status : ℕ) (old new : Devices) : Type 0 where
   pub statuses : (status ≡ 2) ⊎ (status ≡ 5)

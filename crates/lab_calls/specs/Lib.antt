@@ -3,6 +3,8 @@ pub mod FrameLines
 pub mod Listings
 pub mod Answers
 pub mod Steps
+pub mod Making
+pub mod Works
 pub mod Once
 pub mod MemStreams
 pub mod StdStreams

@@ -1,11 +1,12 @@
-//! The calls of the program `seata_lab`, over any source, sink and shelf: one replay, one listing of frames, and what its words
-//! ask for.
+//! The calls of the program `seata_lab`, over any source, sink and shelf: one replay, one listing of frames, one made scenario,
+//! and what its words ask for.
 #![tactic(auto)]
 
 mod answers;
 mod frames;
 mod laws;
 mod listings;
+mod making;
 mod memory;
 mod standard;
 mod statuses;
@@ -13,10 +14,12 @@ mod streams;
 mod tops;
 mod transfer;
 mod words;
+mod works;
 
 pub use laws::frames_have_their_lines;
 pub use memory::{MemSink, MemSource};
 pub use standard::{StdSink, StdSource};
 pub use statuses::MEMORY;
 pub use streams::{Failed, Sink, Source};
-pub use tops::{frames_once, replay_once, top};
+pub use tops::{frames_once, make_once, replay_once, top};
+pub use works::Work;

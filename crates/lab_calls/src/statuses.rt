@@ -3,7 +3,7 @@
 /// The text asked for was written.
 pub const DONE: u8 = 0;
 
-/// The words are none of the program's.
+/// The words are outside the grammar, or their work isn't built.
 pub const WORDS: u8 = 2;
 
 /// The input is no scenario, or too long; or disks are another scenario's.

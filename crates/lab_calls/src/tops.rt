@@ -1,17 +1,21 @@
-//! The calls at the top: one replay, and the program's words.
-ghost use Rattle.std.specs.Prelude.{◌≡◌, ◌⊎◌, true, false, ◌∷◌};
+//! The calls at the top: one replay, one listing, one made scenario, and the program's words.
+ghost use Rattle.std.specs.Prelude.{◌≡◌, ◌≢◌, ◌≤◌, ◌⊎◌, ℕ, ◌∷◌};
 ghost use Rattle.scenario_nodes.specs.Shelves.{ReturnsAll};
-ghost use Rattle.lab_calls.specs.Answers.{IsFramesAnswer, TellsFaults, TellsUsage, is_frames, is_replay, frames_statuses, replay_statuses, with_failures};
+ghost use Rattle.lab_calls.specs.Answers.{IsFramesAnswer, TellsFaults, TellsUsage, frames_statuses, replay_statuses, with_failures};
+ghost use Rattle.lab_calls.specs.Making.{MakesOnce};
 ghost use Rattle.lab_calls.specs.Once.{ListsOnce, ReplaysOnce};
 ghost use Rattle.lab_calls.specs.Steps.{AnswersInput, ReplaysInput, WritesAnswer, WritesText};
 ghost use Rattle.lab_calls.specs.Streams.{devices};
+ghost use Rattle.lab_calls.specs.Works.{work_of};
 
 use crate::answers::{Answer, answer_to};
 use crate::frames::list_frames;
+use crate::making::answer_made;
 use crate::statuses::{MEMORY, SINK, SOURCE, WORDS};
 use crate::streams::{Failed, Sink, Source};
 use crate::transfer::{ReadFault, read_all, write_all};
-use crate::words;
+use crate::words::work_of;
+use crate::works::Work;
 use disk_model::Shelf;
 use seata_types::{NoMemory, Text};
 use std::alloc::Global;
@@ -77,14 +81,14 @@ fn write_answer<K: Sink>(sink: &mut K, answer: Result<Answer, u8>) -> u8
     }
 }
 
-/// Replays the scenario of a source once, with the coordinator and each resource on two disks of the shelf, and writes the
-/// report of its history. The status is 0 where that is done, 3 where the input is no scenario, 4 where the source failed, 5
-/// where the sink did, 6 where memory was refused, 7 where a disk couldn't be had or its opening or restart failed, 8 where a
-/// node's next record would pass the end of its disk, and 9 where a disk has bytes that are no journal. At each status the
-/// disks that were taken are given back: where the shelf tells of them, each name that has a place there had one before or has
-/// a disk that was given back to it, and a name that had such a disk still has one. Where a shelf had no place for any node
-/// before, its places say of how many nodes the disks were taken. Where nothing fails, and the shelf and its disks tell, the
-/// status of a scenario is 0, 6 or 8.
+/// Replays the scenario of a source once, with the coordinator and each resource on two disks of the shelf, which are all read
+/// before a resource writes its boot, and writes the report of its history. The status is 0 where that is done, 3 where the
+/// input is no scenario, 4 where the source failed, 5 where the sink did, 6 where memory was refused, 7 where a disk couldn't
+/// be had or its opening or restart failed, 8 where a node's next record would pass the end of its disk, and 9 where a disk has
+/// bytes that are no journal. At each status the disks that were taken are given back: where the shelf tells of them, each name
+/// that has a place there had one before or has a disk that was given back to it, and a name that had such a disk still has
+/// one. Where a shelf had no place for any node before, its places say of how many nodes the disks were taken. Where nothing
+/// fails, and the shelf and its disks tell, the status of a scenario is 0, 6 or 8.
 pub fn replay_once<S: Source, K: Sink, H: Shelf>(
     alloc: Global,
     source: &mut S,
@@ -110,12 +114,24 @@ pub fn frames_once<S: Source, K: Sink>(alloc: Global, source: &mut S, sink: &mut
     write_answer(sink, list_input(alloc, source))
 }
 
-/// The usage line, for words outside the grammar.
+/// Writes the scenario that is made of a number for so many managers, and a line feed. The status is 0 where that is done, 5
+/// where the sink failed, and 6 where memory was refused.
+pub fn make_once<K: Sink>(alloc: Global, number: u64, size: u32, sink: &mut K) -> u8
+    requires least { 1 ≤ size }
+    requires most { size ≤ 256 }
+    ensures { MakesOnce number size result (K.state sink.old) (K.state sink.new) }
+{
+    write_answer(sink, answer_made(alloc, number, size))
+}
+
+/// The usage line.
 const USAGE: &str = "usage: seata_lab replay | run | make | stress | frames | audit | show\n";
 
-/// Does what the words ask for: `replay` replays the scenario of the source and writes the report, `frames` writes a line
-/// for each frame of the source. Other words are answered with the usage line and status 2. What `replay_once` says
-/// of the disks that were taken holds whatever the words and the status.
+/// Does what the words ask for: `replay` replays the scenario of the source and writes the report, `frames` writes a line for
+/// each frame of the source, and `make` writes the scenario that is made of its number, for as many managers as its size.
+/// Words outside the grammar are answered with the usage line and status 2. So are those of the grammar whose work isn't built:
+/// `run`, `stress`, `audit`, `show`, and `replay` with `--store`. What `replay_once` says of the disks that were taken holds
+/// whatever the words and the status.
 pub fn top<S: Source, K: Sink, H: Shelf>(
     alloc: Global,
     words: &[Text],
@@ -123,30 +139,31 @@ pub fn top<S: Source, K: Sink, H: Shelf>(
     sink: &mut K,
     shelf: &mut H,
 ) -> u8
-    ensures words { result ≡ 2 → (is_replay words.now ≡ false) × (is_frames words.now ≡ false) }
-    ensures unread { is_replay words.now ≡ false → is_frames words.now ≡ false
+    ensures words { result ≡ 2 → work_of words.now ≡ Work.Usage }
+    ensures unread { work_of words.now ≢ Work.Replay → work_of words.now ≢ Work.Frames
         → source.new ≡ source.old }
-    ensures usage { is_replay words.now ≡ false → is_frames words.now ≡ false → TellsUsage result
+    ensures usage { work_of words.now ≡ Work.Usage → TellsUsage result
         (devices (S.state source.old) (K.state sink.old))
         (devices (S.state source.new) (K.state sink.new)) }
-    ensures replay { is_replay words.now ≡ true → ReplaysOnce H.D.state
+    ensures replay { work_of words.now ≡ Work.Replay → ReplaysOnce H.D.state
         (H.state shelf.old) (H.state shelf.new) (shelf.new ≡ shelf.old) result
         (devices (S.state source.old) (K.state sink.old))
         (devices (S.state source.new) (K.state sink.new)) }
     ensures returned { ReturnsAll (H.state shelf.old) (H.state shelf.new) }
-    ensures untouched { is_replay words.now ≡ false → shelf.new ≡ shelf.old }
-    ensures frames { is_frames words.now ≡ true → ListsOnce result
+    ensures untouched { work_of words.now ≢ Work.Replay → shelf.new ≡ shelf.old }
+    ensures frames { work_of words.now ≡ Work.Frames → ListsOnce result
         (devices (S.state source.old) (K.state sink.old))
         (devices (S.state source.new) (K.state sink.new)) }
+    ensures make { (number size : ℕ) → work_of words.now ≡ Work.Make number size
+        → MakesOnce number size result (K.state sink.old) (K.state sink.new) }
     ensures faults { TellsFaults (2 ∷ with_failures replay_statuses) result
         (devices (S.state source.old) (K.state sink.old))
         (devices (S.state source.new) (K.state sink.new)) }
 {
-    if words::are(words, "replay") {
-        return replay_once(alloc, source, sink, shelf);
+    match work_of(words) {
+        Work::Replay => replay_once(alloc, source, sink, shelf),
+        Work::Frames => frames_once(alloc, source, sink),
+        Work::Make { number, size } => make_once(alloc, number, size, sink),
+        Work::Usage => finish(sink, USAGE, WORDS),
     }
-    if words::are(words, "frames") {
-        return frames_once(alloc, source, sink);
-    }
-    finish(sink, USAGE, WORDS)
 }

@@ -1,15 +1,25 @@
 //! The words after the program's name.
 ghost use Rattle.std.specs.Prelude.{◌≡◌};
-ghost use Rattle.lab_calls.specs.Answers.{is_word};
+ghost use Rattle.lab_calls.specs.Works.{IsSized, work_of};
 
+use crate::works::Work;
+use lab_words::{Order, order, store_of};
 use seata_types::Text;
 
-/// Whether the words are this one word.
-pub fn are(words: &[Text], name: &str) -> bool
-    ensures { result ≡ is_word name.now words.now }
+/// What is done for words.
+pub fn work_of(words: &[Text]) -> Work
+    ensures exact { result ≡ work_of words.now }
+    ensures size { IsSized result }
 {
-    match words {
-        [word] => word.as_str() == name,
-        _ => false,
+    match order(words) {
+        Some(Order::Replay) => match store_of(words) {
+            None => Work::Replay,
+            Some(_) => Work::Usage,
+        },
+        Some(Order::Frames) => Work::Frames,
+        Some(Order::Make { number, size }) => Work::Make { number, size },
+        Some(Order::Run { .. } | Order::Stress { .. } | Order::Audit | Order::Show) | None => {
+            Work::Usage
+        }
     }
 }

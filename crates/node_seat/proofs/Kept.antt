@@ -1,10 +1,8 @@
 -- An entry keeps what a seat keeps.
 use Rattle.std.proofs.Common.{◌≡◌, inl, inr, ◌<◌, ◌≤◌, ℕ, Bool, true, false, List, [], ◌∷◌, ◌++◌, All, get_or, length, Option, Some, None, is_some, zero, suc, Result, Ok, Err, refl, ap, sym, subst, ◌∙◌, arith, length-append}
-use Rattle.std.proofs.lemmas.Bool.Decides.{nat_tests}
 use Rattle.std.proofs.lemmas.Option.{same_Some}
 use Rattle.journal_checkpoint.specs.Images.{Pair}
 use Rattle.seata_types.specs.declared.ids.Place.{Place}
-use Rattle.seata_types.specs.declared.ids.Place.TheVariants as place
 use Rattle.seata_types.specs.declared.messages.Input.{Input}
 use Rattle.seata_types.specs.declared.messages.Input.TheVariants as input
 use Rattle.seata_types.specs.declared.messages.Step.{Step}
@@ -13,6 +11,8 @@ use Rattle.history_rules.specs.Own.{Event, Given, Stopped, Crashed, Restarted}
 use Rattle.history_rules.specs.Nodes.{Role, World, Past}
 use Rattle.history_rules.specs.Histories.{Moment, Turn, Deliver, Missing, Wait, Stop, Crash, Restart, Local, Outside, ReceivesLater, own, own_if, last_now, same_place}
 use Rattle.history_rules.specs.Histories.{Cause as Reason}
+use Rattle.trace_rules.specs.Traces.{MayBring, IsAfter}
+use Rattle.trace_rules.proofs.Order.{same_place-refl}
 use Rattle.node_steps.specs.Nodes.{IsLawful, NodeState, has_disks, place_of}
 use Rattle.node_steps.specs.Promises.{AreTold}
 use Rattle.history_text.specs.declared.entries.Cause.{Cause}
@@ -22,13 +22,6 @@ use Rattle.node_seat.specs.declared.faults.RunFault.{RunFault}
 use Rattle.node_seat.specs.Entering.{CanReact, Enters, IsEntered, IsTold, Stays, entry_at, event_by}
 use Rattle.node_seat.specs.Keeping.{Keeps, KeepsSome, IsBehind, IsInputOf, IsNext}
 use Rattle.node_seat.specs.Seating.{Seated}
-use Rattle.node_seat.specs.Traces.{MayBring, IsAfter}
-
-pub same_place-refl : (p : Place) → same_place p p ≡ true
-same_place-refl place.Net = refl
-same_place-refl place.Tc = refl
-same_place-refl (place.Res n) = grind (arith, nat_tests)
-same_place-refl (place.Man n) = grind (arith, nat_tests)
 
 -- ---- causes
 

@@ -5,6 +5,7 @@ use Rattle.seata_types.specs.declared.messages.Input.{Input}
 use Rattle.seata_types.specs.declared.messages.Input.TheVariants as input
 use Rattle.history_rules.specs.Nodes.{Role, World, Past, role_at}
 use Rattle.history_rules.specs.Histories.{Moment, own}
+use Rattle.trace_rules.specs.Traces.{Alone}
 use Rattle.node_steps.specs.Framing.{ComesFramable}
 use Rattle.node_steps.specs.Nodes.{NodeState, has_disks, place_of}
 use Rattle.node_steps.specs.Promises.{AreTold}
@@ -14,7 +15,6 @@ use Rattle.history_text.specs.declared.entries.Entry.{Entry}
 use Rattle.history_text.specs.History.{entries}
 use Rattle.node_seat.specs.Entering.{CanReact}
 use Rattle.node_seat.specs.Seating.{Seated, seated}
-use Rattle.node_seat.specs.Traces.{Alone}
 use Rattle.node_seat.specs.declared.stations.Station.{Station}
 
 -- these moments are of a node of this role, which they replay to, and the trace is what is printed of them

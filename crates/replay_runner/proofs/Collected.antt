@@ -1,6 +1,5 @@
 -- The history out of its traces.
-use Rattle.std.proofs.Common.{inl, inr, ◌≡◌, ◌≢◌, ◌⊎◌, ◌+◌, ◌-◌, ◌<◌, ◌≤◌, ◌==◌, ℕ, zero, suc, Bool, true, false, List, [], ◌∷◌, ◌++◌, drop, take, map, reverse, length, slice_get, is_some, IsSome, Option, Some, None, option_map, Result, Ok, Err, OnOk, refl, ap, sym, subst, ◌∙◌, arith, length-append}
-use Rattle.std.specs.Result.{is_ok}
+use Rattle.std.proofs.Common.{inl, inr, ◌≡◌, ◌⊎◌, ◌+◌, ◌-◌, ◌<◌, ◌≤◌, ◌==◌, ℕ, zero, suc, Bool, true, false, List, [], ◌∷◌, ◌++◌, drop, take, map, reverse, length, slice_get, is_some, IsSome, Option, Some, None, option_map, Result, Ok, Err, OnOk, refl, ap, sym, subst, ◌∙◌, arith, length-append}
 use Rattle.std.proofs.lemmas.Bool.{false≢true}
 use Rattle.std.proofs.lemmas.List.{drop_more, map_more, reverse-append, take_all}
 use Rattle.std.proofs.lemmas.Option.{get_or_from_slice_get, same_Some}
@@ -179,7 +178,3 @@ all_moved places traces history k end ms stand kept =
 pub on_ok : {T E : Type 0} (r : Result T E) (A B : Type 0) → (A → B) → OnOk r A → OnOk r B
 on_ok (Ok x) A B f a = f a
 on_ok (Err e) A B f a = tt
-
-pub told_ok : {T E : Type 0} (r : Result T E) (A : Type 0) → is_ok r ≡ true → OnOk r A → A
-told_ok (Ok x) A told a = a
-told_ok (Err e) A told a = absurd (false≢true told)

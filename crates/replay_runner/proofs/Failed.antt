@@ -1,5 +1,5 @@
 -- A replay that ends since the disks of a node failed: these counted a fault, whatever they tell.
-use Rattle.std.proofs.Common.{◌≡◌, ◌+◌, ◌-◌, ◌≤◌, ◌^◌, ℕ, min, List, set, Option, Some, None, Result, Ok, Err, IfErr, refl, ap, sym, subst, ◌∙◌, arith}
+use Rattle.std.proofs.Common.{◌≡◌, ◌+◌, ◌-◌, ◌≤◌, ◌^◌, ℕ, min, set, Option, Some, None, Result, Ok, Err, IfErr, refl, ap, sym, subst, ◌∙◌, arith}
 use Rattle.std.specs.Prelude.{Vec}
 use Rattle.std.specs.declared.alloc.Global.{Global}
 use Rattle.disk_model.specs.Disk.{DiskState}
@@ -14,7 +14,6 @@ use Rattle.resource_core.specs.Shown as shown
 use Rattle.node_seat.specs.Faults.{CountsFault}
 use Rattle.node_seat.specs.declared.faults.RunFault.{RunFault}
 use Rattle.node_seat.specs.declared.faults.RunFault.TheVariants as fault
-use Rattle.scenario_nodes.specs.Opening.{HaveCounted}
 use Rattle.replay_runner.specs.declared.members.Member.{Member}
 use Rattle.replay_runner.specs.declared.nodes.Nodes.{Nodes}
 use Rattle.replay_runner.specs.Ends.{HaveCountedAt}
@@ -54,31 +53,20 @@ resource_set state old resources n before after placed changed = ap (member_disk
 -- ---- by the disks that are given back
 
 module _ {D K : Type 0} (state : D → DiskState) (n : Nodes D K) where
-  abbrev back_disks : List Pair
-  back_disks = all_disks state n.coordinator.seat.node n.resources.items
-
-  counted_back : (p : Place) → 1 ≤ own_faults (disks_at state n p) → 1 ≤ own_faults (disks_in back_disks p)
+  counted_back : (p : Place) → 1 ≤ own_faults (disks_at state n p) → 1 ≤ own_faults (disks_in (all_disks state n) p)
   counted_back place.Net some = some
   counted_back place.Tc some = some
   counted_back (place.Man k) some = some
   counted_back (place.Res k) some = by (counted_at n.resources.items k) refl some
     where
-      by : (o : Option (Member (Resource D) K)) → counted_at n.resources.items k ≡ o → 1 ≤ own_faults (member_disks state o) → 1 ≤ own_faults (disks_in back_disks (place.Res k))
+      by : (o : Option (Member (Resource D) K)) → counted_at n.resources.items k ≡ o → 1 ≤ own_faults (member_disks state o) → 1 ≤ own_faults (disks_in (all_disks state n) (place.Res k))
       by None e some = let no : 1 ≤ 0 = some in absurd (omega (arith, no))
-      by (Some m) e some = subst (λ d. 1 ≤ own_faults d) (sym (resource_in state n.coordinator.seat.node n.resources.items k m e)) some
+      by (Some m) e some = subst (λ d. 1 ≤ own_faults d) (sym (resource_in state n k m e)) some
 
   -- those of the nodes counted what they counted on their way
-  pub failure_back : (missed : RunFault) → HaveCountedAt (disks_at state n) missed → CountsFailure back_disks (Err missed)
+  pub failure_back : (missed : RunFault) → HaveCountedAt (disks_at state n) missed → CountsFailure (all_disks state n) (Err missed)
   failure_back (fault.Store q) counted = counted_back q counted
   failure_back (fault.Full q full) counted = tt
   failure_back (fault.Damaged q second offset) counted = tt
   failure_back fault.Other counted = tt
   failure_back fault.NoMemory counted = tt
-
--- those of a node that wasn't opened are among them
-pub failure_among : (disks : List Pair) (at : Place) (p : Pair) → disks_in disks at ≡ p → (missed : RunFault) → HaveCounted at p missed → CountsFailure disks (Err missed)
-failure_among disks at p here (fault.Store q) (same, some) = subst (λ r. 1 ≤ own_faults (disks_in disks r)) (sym same) (subst (λ d. 1 ≤ own_faults d) (sym here) some)
-failure_among disks at p here (fault.Full q full) counted = tt
-failure_among disks at p here (fault.Damaged q second offset) counted = tt
-failure_among disks at p here fault.Other counted = tt
-failure_among disks at p here fault.NoMemory counted = tt

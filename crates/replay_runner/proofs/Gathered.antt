@@ -1,7 +1,6 @@
 -- The traces of the nodes of a replay, as those of its history.
-use Rattle.std.proofs.Common.{◌≡◌, ◌+◌, ◌<◌, ◌≤◌, ℕ, zero, suc, nat_lt, Bool, true, false, List, [], ◌∷◌, ◌++◌, drop, length, length-append, slice_get, is_some, IsSome, Option, Some, None, option_map, Result, Ok, Err, IfOk, refl, ap, sym, ◌∙◌, arith}
-use Rattle.std.proofs.lemmas.Bool.Decides.{nat_tests}
-use Rattle.std.proofs.lemmas.Option.{same_Some, slice_get_past, slice_get_within}
+use Rattle.std.proofs.Common.{◌≡◌, ℕ, zero, suc, List, [], ◌∷◌, slice_get, is_some, IsSome, Option, Some, None, option_map, Result, Ok, Err, IfOk, refl, ap, sym, ◌∙◌, arith}
+use Rattle.std.proofs.lemmas.Option.{same_Some}
 use Rattle.std.specs.Prelude.{Vec}
 use Rattle.std.specs.declared.alloc.Global.{Global}
 use Rattle.disk_model.specs.Disk.{DiskState}
@@ -26,7 +25,6 @@ use Rattle.replay_runner.specs.Collecting.{AreTraces, AreTracesOf, HaveTraces, i
 use Rattle.replay_runner.specs.Standing.{AreNodes}
 use Rattle.replay_runner.specs.Traces.{at, places_of}
 use Rattle.replay_runner.proofs.Counted.{counted_high, counted_low}
-use Rattle.replay_runner.proofs.Lists.{drop_all, drop_below, drop_first, drop_next, member_at, snoc_below, snoc_end}
 use Rattle.replay_runner.proofs.Roles.{place_role}
 
 -- ---- the trace of each place
@@ -92,73 +90,19 @@ module _ {D K : Type 0} (state : D → DiskState) (s : Scenario) (network : List
   pub gathered : network ≡ entries (at place.Net ms) → Legal (world_of s) no_past ms → AreTraces (trace_of network n) ms
   gathered passed legal = record { have = have_traces state s network n ms nodes ms legal; each = traced passed }
 
--- ---- traces that are taken out
-
--- the traces of the first of these nodes were taken out, and the others are left
-pub record AreTaken {N K : Type 0} (members left : List (Member N K)) (traces : List (Vec Entry Global)) : Type 0 where
-  pub left_are : drop (length traces) members ≡ left
-  pub within : length traces ≤ length members
-  pub each : (k : ℕ) (m : Member N K) (trace : Vec Entry Global) → slice_get members k ≡ Some m → slice_get traces k ≡ Some trace → trace.items ≡ m.seat.trace
-
-pub none_taken : {N K : Type 0} (members : List (Member N K)) → AreTaken members members []
-none_taken members = record { left_are = refl; within = omega arith; each = λ k m trace here there. absurd (let no : None ≡ Some trace = there in cc) }
-
-pub one_taken : {N K : Type 0} (members left rest : List (Member N K)) (traces : List (Vec Entry Global)) (m : Member N K) (trace : Vec Entry Global) → AreTaken members left traces → left ≡ m ∷ rest
-    → trace.items ≡ m.seat.trace → AreTaken members rest (traces ++ trace ∷ [])
-one_taken {N} {K} members left rest traces m trace t first is = record {
-  left_are = ap (λ n. drop n members) size ∙ drop_next members (length traces) m rest whole;
-  within = let below = drop_below members (length traces) m rest whole in omega (arith, below, size);
-  each = λ k n other here there. by k n other here there (nat_lt k (length traces)) refl;
-}
-  where
-    size : length (traces ++ trace ∷ []) ≡ length traces + 1
-    size = let more = length-append traces (trace ∷ []) in omega (arith, more)
-
-    whole : drop (length traces) members ≡ m ∷ rest
-    whole = t.left_are ∙ first
-
-    by : (k : ℕ) (n : Member N K) (other : Vec Entry Global) → slice_get members k ≡ Some n → slice_get (traces ++ trace ∷ []) k ≡ Some other → (b : Bool) → nat_lt k (length traces) ≡ b
-        → other.items ≡ n.seat.trace
-    by k n other here there true low =
-        let below : k < length traces = grind (arith, nat_tests) in
-        t.each k n other here (sym (snoc_below traces trace k below) ∙ there)
-    by k n other here there false high =
-        let past : length traces ≤ k = grind (arith, nat_tests) in
-        let within = slice_get_within (traces ++ trace ∷ []) k other there in
-        let end : k ≡ length traces = omega (arith, past, within, size) in
-        let same_trace = same_Some trace other (sym (snoc_end traces trace) ∙ ap (slice_get (traces ++ trace ∷ [])) (sym end) ∙ there) in
-        let same_member = same_Some m n (sym (drop_first members (length traces) m rest whole) ∙ ap (slice_get members) (sym end) ∙ here) in
-        ap (λ (v : Vec Entry Global). v.items) (sym same_trace) ∙ is ∙ ap (λ (x : Member N K). x.seat.trace) same_member
-
--- a list of no members
-pub emptied : {A : Type 0} (xs : List A) (n : ℕ) → n ≡ length xs → n ≡ 0 → xs ≡ []
-emptied [] n size none = refl
-emptied (x ∷ xs) n size none = absurd (omega (arith, size, none))
-
-pub all_taken : {N K : Type 0} (members left : List (Member N K)) (traces : List (Vec Entry Global)) → AreTaken members left traces → left ≡ [] → AreTracesOf members traces
-all_taken members left traces t none = record {
-  count = let most = drop_all members (length traces) (t.left_are ∙ none) in let least = t.within in omega (arith, most, least);
-  each = t.each;
-}
-
 -- ---- as those of the nodes
 
 -- the trace at each number is that of the node there
+traced_at : {N K : Type 0} (members : List (Member N K)) (traces : List (Vec Entry Global)) (k : ℕ) → AreTracesOf members traces → option_map items_of (slice_get traces k) ≡ option_map member_trace (slice_get members k)
+traced_at [] [] k each = refl
+traced_at (m ∷ ms) (v ∷ vs) zero each = ap (λ (es : List Entry). Some es) each.0
+traced_at (m ∷ ms) (v ∷ vs) (suc k) each = traced_at ms vs k each.1
+traced_at [] (v ∷ vs) k each = absurd each
+traced_at (m ∷ ms) [] k each = absurd each
+
 among : {N K : Type 0} (members : List (Member N K)) (traces : List (Vec Entry Global)) → AreTracesOf members traces → (n : ℕ) → trace_among traces n ≡ option_map member_trace (counted_at members n)
-among members traces t zero = refl
-among {N} {K} members traces t (suc k) = by (nat_lt k (length members)) refl
-  where
-    by : (b : Bool) → nat_lt k (length members) ≡ b → option_map items_of (slice_get traces k) ≡ option_map member_trace (slice_get members k)
-    by true e =
-        let below : k < length members = grind (arith, nat_tests) in
-        let count = t.count in
-        let (m, here) = member_at members k below in
-        let (trace, there) = member_at traces k (omega (arith, below, count)) in
-        ap (option_map items_of) there ∙ ap (λ (es : List Entry). Some es) (t.each k m trace here there) ∙ sym (ap (option_map member_trace) here)
-    by false e =
-        let past : length members ≤ k = grind (arith, nat_tests) in
-        let count = t.count in
-        ap (option_map items_of) (slice_get_past traces k (omega (arith, past, count))) ∙ sym (ap (option_map member_trace) (slice_get_past members k past))
+among members traces each zero = refl
+among members traces each (suc k) = traced_at members traces k each
 
 module _ {D K : Type 0} (n : Nodes D K) (t : Traces) (resources : AreTracesOf n.resources.items t.resources.items) (managers : AreTracesOf n.managers.items t.managers.items)
     (network : List Entry) (passed : t.network.items ≡ network) (coordinated : t.coordinator.items ≡ n.coordinator.seat.trace) where

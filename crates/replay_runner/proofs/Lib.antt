@@ -24,15 +24,12 @@ mod Fitting
 mod Playing
 mod Collected
 mod Gathered
-mod Names
 mod NewNodes
-mod Closed
+mod Unseated
 mod Shown
 mod Failed
 mod Starting
-mod Returning
-mod Taken
-mod OpeningMore
+mod Servers
 mod Modes
 mod Safe
 mod Finished

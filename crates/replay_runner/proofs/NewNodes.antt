@@ -1,7 +1,7 @@
 -- The nodes of a replay before its first entry.
-use Rattle.std.proofs.Common.{◌≡◌, ◌+◌, ◌<◌, ◌≤◌, ℕ, zero, suc, nat_lt, Bool, true, false, List, [], ◌∷◌, ◌++◌, All, length, slice_get, Some, None, option_map, refl, ap, sym, subst, ◌∙◌, arith, length-append}
-use Rattle.std.proofs.lemmas.Bool.Decides.{nat_tests}
+use Rattle.std.proofs.Common.{◌≡◌, ◌+◌, ◌≤◌, ℕ, zero, suc, List, [], ◌∷◌, ◌++◌, All, drop, length, slice_get, Some, None, option_map, refl, ap, sym, subst, ◌∙◌, arith}
 use Rattle.std.proofs.lemmas.Option.{same_Some, slice_get_within}
+use Rattle.std.specs.List.{AllByRecursion}
 use Rattle.disk_model.specs.Disk.{DiskState}
 use Rattle.seata_types.specs.declared.ids.Place.{Place}
 use Rattle.seata_types.specs.declared.ids.Place.TheVariants as place
@@ -24,55 +24,80 @@ use Rattle.resource_core.specs.NodeStanding as resource
 use Rattle.manager_core.specs.declared.nodes.Manager.{Manager}
 use Rattle.manager_core.specs.Standing as manager
 use Rattle.node_seat.specs.Keeping.{IsBehind, IsFresh}
-use Rattle.scenario_nodes.specs.Nodes.{HaveSize, IsNewCoordinator, IsNewManager, IsNewResource, ServesAll, coordinator_role, manager_role, resource_role}
+use Rattle.scenario_nodes.specs.Nodes.{AreNewResources, HaveSize, IsNewCoordinator, IsNewManager, IsNewResource, ServesAll, coordinator_role, manager_role, resource_role}
 use Rattle.scenario_nodes.specs.Shelves.{AllTell}
+use Rattle.scenario_nodes.specs.Together.{AreEach, numbered}
+use Rattle.scenario_nodes.proofs.Together.{AreFirst, each_at, each_length, each_then, first_all, first_next, first_none}
 use Rattle.replay_runner.specs.declared.members.Member.{Member}
 use Rattle.replay_runner.specs.declared.nodes.Nodes.{Nodes}
 use Rattle.replay_runner.specs.Going.{IsKthResource, IsKthManager, NodesGo}
-use Rattle.replay_runner.specs.Opened.{AreFirst, AreNewNodes}
+use Rattle.replay_runner.specs.Opened.{AreNewMembers, AreNewNodes, IsNewMember, IsSeated}
 use Rattle.replay_runner.specs.Standing.{AreNodes, HasNode, IsServer}
 use Rattle.replay_runner.proofs.Counted.{counted_next}
-use Rattle.replay_runner.proofs.Lists.{member_at, snoc_below, snoc_end}
+use Rattle.replay_runner.proofs.Lists.{drop_get, drop_past, member_at}
 use Rattle.replay_runner.proofs.Roles.{from_map, resource_there, role_of_manager, role_of_resource}
 
--- ---- one more of the first
+-- ---- items behind their numbers
 
-pub none_first : {A B : Type 0} (P : ℕ → A → B → Type 0) (defs : List A) → AreFirst P defs []
-none_first P defs = record { few = omega arith; each = λ k def one at there. absurd (let no : None ≡ Some one = there in cc) }
+pub length_numbered : {A : Type 0} (n : ℕ) (xs : List A) → length (numbered n xs) ≡ length xs
+length_numbered n [] = refl
+length_numbered n (x ∷ xs) = let rest = length_numbered (n + 1) xs in omega (arith, rest)
 
-pub begin_first : {A B : Type 0} (P : ℕ → A → B → Type 0) (defs : List A) (found : List B) → found ≡ [] → AreFirst P defs found × (length found ≡ 0)
-begin_first P defs found none = (subst (AreFirst P defs) (sym none) (none_first P defs), ap length none)
+numbered_get : {A : Type 0} (n : ℕ) (xs : List A) (k : ℕ) (x : A) → slice_get xs k ≡ Some x → slice_get (numbered n xs) k ≡ Some (n + k, x)
+numbered_get n [] k x e = absurd (let no : None ≡ Some x = e in cc)
+numbered_get n (y ∷ xs) zero x e = ap (λ z. Some (n, z)) (same_Some y x e) ∙ ap (λ j. Some (j, x)) (let same : n ≡ n + 0 = omega arith in same)
+numbered_get n (y ∷ xs) (suc k) x e = numbered_get (n + 1) xs k x e ∙ ap (λ j. Some (j, x)) (let same : n + 1 + k ≡ n + suc k = omega arith in same)
 
-pub one_first : {A B : Type 0} (P : ℕ → A → B → Type 0) (defs : List A) (found : List B) (def : A) (one : B) → AreFirst P defs found → slice_get defs (length found) ≡ Some def → P (length found + 1) def one
-    → AreFirst P defs (found ++ one ∷ [])
-one_first {A} {B} P defs found def one t here is = record {
-  few = let below = slice_get_within defs (length found) def here in omega (arith, below, size);
-  each = λ k other next at there. by k other next at there (nat_lt k (length found)) refl;
-}
-  where
-    size : length (found ++ one ∷ []) ≡ length found + 1
-    size = let more = length-append found (one ∷ []) in omega (arith, more)
-
-    by : (k : ℕ) (other : A) (next : B) → slice_get defs k ≡ Some other → slice_get (found ++ one ∷ []) k ≡ Some next → (b : Bool) → nat_lt k (length found) ≡ b → P (k + 1) other next
-    by k other next at there true e =
-        let below : k < length found = grind (arith, nat_tests) in
-        t.each k other next at (sym (snoc_below found one k below) ∙ there)
-    by k other next at there false e =
-        let past : length found ≤ k = grind (arith, nat_tests) in
-        let within = slice_get_within (found ++ one ∷ []) k next there in
-        let end : k ≡ length found = omega (arith, past, within, size) in
-        let same_def : def ≡ other = same_Some def other (sym here ∙ ap (slice_get defs) (sym end) ∙ at) in
-        let same_one : one ≡ next = same_Some one next (sym (snoc_end found one) ∙ ap (slice_get (found ++ one ∷ [])) (sym end) ∙ there) in
-        subst (λ n. P (n + 1) other next) (sym end) (subst (λ d. P (length found + 1) d next) same_def (subst (λ o. P (length found + 1) def o) same_one is))
-
--- the same, with the count
-pub next_first : {A B : Type 0} (P : ℕ → A → B → Type 0) (defs : List A) (found more : List B) (count : ℕ) (def : A) (one : B) → AreFirst P defs found → length found ≡ count → more ≡ found ++ one ∷ []
-    → slice_get defs count ≡ Some def → P (count + 1) def one → AreFirst P defs more × (length more ≡ count + 1)
-next_first P defs found more count def one t size is here new = (
-  subst (AreFirst P defs) (sym is)
-      (one_first P defs found def one t (ap (slice_get defs) size ∙ here) (subst (λ n. P (n + 1) def one) (sym size) new)),
-  (let grown = ap length is in let sum = length-append found (one ∷ []) in omega (arith, grown, sum, size)),
+-- what is said of each of them by its place
+numbered_all : {A B : Type 0} (P : ℕ × A → B → Type 0) (Q : B → Type 0) (n : ℕ) (xs : List A) (ys : List B) → ((k : ℕ) (x : A) (y : B) → slice_get xs k ≡ Some x → P (n + k, x) y → Q y)
+    → AreEach P (numbered n xs) ys → AllByRecursion Q ys
+numbered_all P Q n [] [] to each = tt
+numbered_all P Q n (x ∷ xs) (y ∷ ys) to each = (
+  to 0 x y refl (subst (λ j. P (j, x) y) (let same : n ≡ n + 0 = omega arith in same) each.0),
+  numbered_all P Q (n + 1) xs ys (λ k z v here is. to (suc k) z v here (subst (λ j. P (j, z) v) (let same : n + 1 + k ≡ n + suc k = omega arith in same) is)) each.1,
 )
+numbered_all P Q n [] (y ∷ ys) to each = absurd each
+numbered_all P Q n (x ∷ xs) [] to each = absurd each
+
+-- ---- nodes that made no entry
+
+module _ {A N K : Type 0} (P : ℕ → A → N → Type 0) (defs : List A) where
+  abbrev pub IsNewOf : ℕ × A → Member N K → Type 0
+  IsNewOf one m = IsNewMember (P one.0 one.1) m
+
+  -- those of the first definitions were made
+  abbrev pub AreMade : List (Member N K) → (count : ℕ) → Type 0
+  AreMade members count = AreFirst IsNewOf (numbered 1 defs) members (numbered (count + 1) (drop count defs))
+
+  pub none_made : (members : List (Member N K)) → members ≡ [] → AreMade members 0
+  none_made members none = subst (λ ms. AreMade ms 0) (sym none) (first_none IsNewOf (numbered 1 defs))
+
+  pub one_made : (members more : List (Member N K)) (count : ℕ) (def : A) (m : Member N K) → AreMade members count → slice_get defs count ≡ Some def → IsNewMember (P (count + 1) def) m → more ≡ members ++ m ∷ []
+      → AreMade more (count + 1)
+  one_made members more count def m made here new is =
+      let rest = numbered (count + 1 + 1) (drop (count + 1) defs) in
+      subst (λ ms. AreMade ms (count + 1)) (sym is)
+      (first_next IsNewOf (numbered 1 defs) members (count + 1, def) rest m
+      (subst (AreFirst IsNewOf (numbered 1 defs) members) (ap (numbered (count + 1)) (drop_get defs count def here)) made) new)
+
+  pub all_made : (members : List (Member N K)) (count : ℕ) → AreMade members count → length defs ≤ count → AreNewMembers P defs members
+  all_made members count made past =
+      first_all IsNewOf (numbered 1 defs) members (numbered (count + 1) (drop count defs)) (ap (numbered (count + 1)) (drop_past defs count past)) made
+
+  -- nodes were given seats
+  pub new_seated : (nodes : List N) (members : List (Member N K)) → AreEach (λ (one : ℕ × A) (node : N). P one.0 one.1 node) (numbered 1 defs) nodes → AreEach IsSeated nodes members → AreNewMembers P defs members
+  new_seated nodes members new seated =
+      each_then (λ (one : ℕ × A) (node : N). P one.0 one.1 node) IsSeated IsNewOf (numbered 1 defs) nodes members
+      (λ one node m is s. record { node = subst (P one.0 one.1) (sym s.node) is; traced = s.traced; turned = s.turned }) new seated
+
+  module _ (members : List (Member N K)) (new : AreNewMembers P defs members) where
+    pub count_new : length members ≡ length defs
+    count_new = sym (each_length IsNewOf (numbered 1 defs) members new) ∙ length_numbered 1 defs
+
+    pub new_at : (k : ℕ) (def : A) (m : Member N K) → slice_get defs k ≡ Some def → slice_get members k ≡ Some m → IsNewMember (P (k + 1) def) m
+    new_at k def m here there =
+        subst (λ j. IsNewMember (P j def) m) (let same : 1 + k ≡ k + 1 = omega arith in same)
+        (each_at IsNewOf k (numbered 1 defs) members (1 + k, def) m new (numbered_get 1 defs k def here) there)
 
 -- ---- a node that did nothing
 
@@ -88,6 +113,12 @@ fresh_resource state w past s k def r is none here new = (
   ap (λ (v : World). role_at v past (place.Res (k + 1))) is ∙ ap (λ (x : Past). role_at (world_of s) x (place.Res (k + 1))) none ∙ role_of_resource s k def here,
   λ tells. new.stands (tells refl),
 )
+
+pub all_fresh : {D : Type 0} (state : D → DiskState) (w : World) (past : Past) (s : Scenario) (nodes : List (Resource D)) → w ≡ world_of s → past ≡ no_past
+    → AreNewResources state s (numbered 1 s.resources) nodes → AllByRecursion (λ r. IsFresh w past (resource.node_state state r)) nodes
+all_fresh state w past s nodes is none new =
+    numbered_all (λ (one : ℕ × ResourceDef) r. IsNewResource state s one.0 one.1 r) (λ r. IsFresh w past (resource.node_state state r)) 1 s.resources nodes
+    (λ k def r here each. fresh_resource state w past s k def r is none here (subst (λ j. IsNewResource state s j def r) (let same : 1 + k ≡ k + 1 = omega arith in same) each)) new
 
 pub fresh_coordinator : {D : Type 0} (state : D → DiskState) (w : World) (past : Past) (s : Scenario) (c : Coordinator D) (managers resources : ℕ) → w ≡ world_of s → past ≡ no_past
     → IsNewCoordinator state s managers resources c → IsFresh w past (coordinator.node_state state c)
@@ -125,6 +156,18 @@ manager_def s (suc k) role e =
 -- ---- all nodes
 
 module _ {D K : Type 0} (state : D → DiskState) (s : Scenario) (n : Nodes D K) (new : AreNewNodes state s n) where
+  pub resources_count : length n.resources.items ≡ length s.resources
+  resources_count = count_new (IsNewResource state s) s.resources n.resources.items new.resources
+
+  pub managers_count : length n.managers.items ≡ length s.managers
+  managers_count = count_new (IsNewManager s) s.managers n.managers.items new.managers
+
+  resource_new : (k : ℕ) (def : ResourceDef) (m : Member (Resource D) K) → slice_get s.resources k ≡ Some def → slice_get n.resources.items k ≡ Some m → IsNewMember (IsNewResource state s (k + 1) def) m
+  resource_new = new_at (IsNewResource state s) s.resources n.resources.items new.resources
+
+  manager_new : (k : ℕ) (def : ManagerDef) (m : Member Manager K) → slice_get s.managers k ≡ Some def → slice_get n.managers.items k ≡ Some m → IsNewMember (IsNewManager s (k + 1) def) m
+  manager_new = new_at (IsNewManager s) s.managers n.managers.items new.managers
+
   -- where the disks tell their bytes, they stand for the empty history
   module _ (all : AllTell state) where
     server : {N : Type 0} (node_state : N → NodeState) (p : Place) (role : Role) (m : Member N K) → (node_state m.seat.node).stands_for role [] → AreTold (node_state m.seat.node).disks
@@ -144,9 +187,9 @@ module _ {D K : Type 0} (state : D → DiskState) (s : Scenario) (n : Nodes D K)
     has_resource : (k : ℕ) (def : ResourceDef) → slice_get s.resources k ≡ Some def → HasNode state s.disk n [] (place.Res (k + 1)) (resource_role s (k + 1) def)
     has_resource k def here =
         let below = slice_get_within s.resources k def here in
-        let count = new.resources.count in
+        let count = resources_count in
         let (m, there) = member_at n.resources.items k (omega (arith, below, count)) in
-        let r = new.resources.first.each k def m here there in (
+        let r = resource_new k def m here there in (
           m,
           counted_next n.resources.items k ∙ there,
           server (resource.node_state state) (place.Res (k + 1)) (resource_role s (k + 1) def) m (r.node.stands (r.node.told all)) (r.node.told all) r.node.sized r.traced r.turned,
@@ -155,9 +198,9 @@ module _ {D K : Type 0} (state : D → DiskState) (s : Scenario) (n : Nodes D K)
     has_manager : (k : ℕ) (def : ManagerDef) → slice_get s.managers k ≡ Some def → HasNode state s.disk n [] (place.Man (k + 1)) (manager_role s (k + 1) def)
     has_manager k def here =
         let below = slice_get_within s.managers k def here in
-        let count = new.managers.count in
+        let count = managers_count in
         let (m, there) = member_at n.managers.items k (omega (arith, below, count)) in
-        let r = new.managers.first.each k def m here there in
+        let r = manager_new k def m here there in
         (m, counted_next n.managers.items k ∙ there, record { stands = r.node.stands; traced = r.traced; turned = r.turned })
 
     has_each : (p : Place) (role : Role) → role_at (world_of s) no_past p ≡ Some role → HasNode state s.disk n [] p role
@@ -172,7 +215,7 @@ module _ {D K : Type 0} (state : D → DiskState) (s : Scenario) (n : Nodes D K)
         subst (λ i. HasNode state s.disk n [] (place.Man i) role) (sym number) (subst (λ r. HasNode state s.disk n [] (place.Man (k + 1)) r) (sym is) (has_manager k def here))
 
     pub are_nodes : AreNodes state s n []
-    are_nodes = record { resources = new.resources.count; managers = new.managers.count; each = has_each }
+    are_nodes = record { resources = resources_count; managers = managers_count; each = has_each }
 
   -- their first entry can be made, whatever the disks tell
   none_behind : (es : List Entry) → es ≡ [] → All (IsBehind 1 0) es
@@ -185,9 +228,9 @@ module _ {D K : Type 0} (state : D → DiskState) (s : Scenario) (n : Nodes D K)
   kth_resource : (k : ℕ) (m : Member (Resource D) K) → slice_get n.resources.items k ≡ Some m → IsKthResource 1 0 k m
   kth_resource k m there =
       let within = slice_get_within n.resources.items k m there in
-      let count = new.resources.count in
+      let count = resources_count in
       let (def, here) = member_at s.resources k (omega (arith, within, count)) in
-      let r = new.resources.first.each k def m here there in
+      let r = resource_new k def m here there in
       record {
         goes = record { behind = none_behind m.seat.trace r.traced; able = let steps = r.node.steps in omega (arith, steps) };
         at = r.node.at;
@@ -197,9 +240,9 @@ module _ {D K : Type 0} (state : D → DiskState) (s : Scenario) (n : Nodes D K)
   kth_manager : (k : ℕ) (m : Member Manager K) → slice_get n.managers.items k ≡ Some m → IsKthManager 1 0 k m
   kth_manager k m there =
       let within = slice_get_within n.managers.items k m there in
-      let count = new.managers.count in
+      let count = managers_count in
       let (def, here) = member_at s.managers k (omega (arith, within, count)) in
-      let r = new.managers.first.each k def m here there in
+      let r = manager_new k def m here there in
       record {
         goes = record { behind = none_behind m.seat.trace r.traced; able = let steps = r.node.steps in omega (arith, steps) };
         number = sym (ap number_of r.node.stands.0);
@@ -208,8 +251,8 @@ module _ {D K : Type 0} (state : D → DiskState) (s : Scenario) (n : Nodes D K)
   pub nodes_go : NodesGo (length n.managers.items) (length n.resources.items) 1 0 n
   nodes_go = record {
     coordinator = record { behind = none_behind n.coordinator.seat.trace new.coordinator.traced; able = let steps = new.coordinator.node.steps in omega (arith, steps) };
-    serving = subst (λ i. ServesAll i (length n.resources.items) n.coordinator.seat.node) (sym new.managers.count)
-        (subst (λ j. ServesAll (length s.managers) j n.coordinator.seat.node) (sym new.resources.count) new.coordinator.node.serving);
+    serving = subst (λ i. ServesAll i (length n.resources.items) n.coordinator.seat.node) (sym managers_count)
+        (subst (λ j. ServesAll (length s.managers) j n.coordinator.seat.node) (sym resources_count) new.coordinator.node.serving);
     resource_count = refl;
     each_resource = kth_resource;
     manager_count = refl;

@@ -1,13 +1,11 @@
 -- What the disks that are given back show.
-use Rattle.std.proofs.Common.{◌≡◌, ◌+◌, ◌<◌, ◌≤◌, ℕ, zero, suc, nat_lt, Bool, true, false, List, [], ◌∷◌, ◌++◌, length, length-append, map, slice_get, Option, Some, None, option_map, refl, ap, sym, subst, ◌∙◌, arith, add-one}
-use Rattle.std.proofs.lemmas.Bool.Decides.{nat_tests}
+use Rattle.std.proofs.Common.{◌≡◌, ◌+◌, ℕ, zero, suc, List, [], ◌∷◌, length, map, slice_get, Option, Some, None, option_map, refl, ap, sym, subst, ◌∙◌, arith, add-one}
 use Rattle.std.proofs.lemmas.List.{length-map}
 use Rattle.std.proofs.lemmas.Option.{same_Some, slice_get-map}
 use Rattle.disk_model.specs.Disk.{DiskState}
 use Rattle.journal_checkpoint.specs.Images.{Pair}
 use Rattle.seata_types.specs.declared.ids.Place.{Place}
 use Rattle.seata_types.specs.declared.ids.Place.TheVariants as place
-use Rattle.scenario_form.specs.declared.scenarios.ResourceDef.{ResourceDef}
 use Rattle.scenario_form.specs.declared.scenarios.Scenario.{Scenario}
 use Rattle.history_rules.specs.Own.{Own}
 use Rattle.history_rules.specs.Devices.{last_pick}
@@ -26,12 +24,12 @@ use Rattle.resource_core.specs.Shown as shown
 use Rattle.manager_core.specs.declared.nodes.Manager.{Manager}
 use Rattle.manager_core.specs.Standing as manager
 use Rattle.node_seat.specs.Entering.{HaveLast}
-use Rattle.scenario_nodes.specs.Nodes.{HaveSize, IsNewCoordinator, coordinator_disks, coordinator_role, resource_disks, resource_role}
-use Rattle.scenario_nodes.specs.Shelves.{AllTell, pair_of}
+use Rattle.scenario_nodes.specs.Nodes.{HaveSize, coordinator_disks, coordinator_role, resource_disks, resource_role}
+use Rattle.scenario_nodes.specs.Shelves.{pair_of}
 use Rattle.replay_runner.specs.declared.members.Member.{Member}
 use Rattle.replay_runner.specs.declared.nodes.Nodes.{Nodes}
-use Rattle.replay_runner.specs.Leaving.{AreLeft, HaveSizes, ShowOpened, disks_in, nth_pair, server_at}
-use Rattle.replay_runner.specs.Opened.{AreFirst, IsNewResourceOf, member_pair, server_disks}
+use Rattle.replay_runner.specs.Leaving.{AreLeft, HaveSizes, disks_in, nth_pair}
+use Rattle.replay_runner.specs.Opened.{member_pair, node_disks}
 use Rattle.replay_runner.specs.Standing.{AllStand, AreNodes, HasNode, StandsAt, disks_at, member_disks}
 use Rattle.replay_runner.proofs.Blamed.{Alike}
 use Rattle.replay_runner.proofs.Lists.{member_at}
@@ -76,58 +74,44 @@ nth_map state [] k d e = absurd (let no : None ≡ Some d = e in cc)
 nth_map state (x ∷ ds) zero d e = ap (pair_of state) (same_Some x d e)
 nth_map state (x ∷ ds) (suc k) d e = nth_map state ds k d e
 
-nth_below : (ps : List Pair) (p : Pair) (k : ℕ) → k < length ps → nth_pair (ps ++ p ∷ []) k ≡ nth_pair ps k
-nth_below [] p k below = absurd (omega (arith, below))
-nth_below (q ∷ ps) p zero below = refl
-nth_below (q ∷ ps) p (suc k) below = nth_below ps p k (omega (arith, below))
-
-pub nth_end : (ps : List Pair) (p : Pair) → nth_pair (ps ++ p ∷ []) (length ps) ≡ p
-nth_end [] p = refl
-nth_end (q ∷ ps) p = nth_end ps p
-
-module _ {D K : Type 0} (state : D → DiskState) (c : Coordinator D) (resources : List (Member (Resource D) K)) where
+module _ {D K : Type 0} (state : D → DiskState) (n : Nodes D K) where
   abbrev pub all_disks : List Pair
-  all_disks = map (pair_of state) (server_disks c resources)
+  all_disks = map (pair_of state) (node_disks n)
 
-  resource_there : (k : ℕ) (m : Member (Resource D) K) → slice_get resources k ≡ Some m → nth_pair (map (pair_of state) (map (member_pair {D = D} {K = K}) resources)) k ≡ pair_of state (resource_disks m.seat.node)
-  resource_there k m here =
-      nth_map state (map (member_pair {D = D} {K = K}) resources) k (resource_disks m.seat.node) (slice_get-map (member_pair {D = D} {K = K}) resources k ∙ ap (option_map (member_pair {D = D} {K = K})) here)
-
-  pub resource_in : (k : ℕ) (m : Member (Resource D) K) → counted_at resources k ≡ Some m → disks_in all_disks (place.Res k) ≡ pair_of state (resource_disks m.seat.node)
+  pub resource_in : (k : ℕ) (m : Member (Resource D) K) → counted_at n.resources.items k ≡ Some m → disks_in all_disks (place.Res k) ≡ pair_of state (resource_disks m.seat.node)
   resource_in zero m here = absurd (let no : None ≡ Some m = here in cc)
-  resource_in (suc k) m here = resource_there k m here
+  resource_in (suc k) m here =
+      nth_map state (map (member_pair {D = D} {K = K}) n.resources.items) k (resource_disks m.seat.node)
+      (slice_get-map (member_pair {D = D} {K = K}) n.resources.items k ∙ ap (option_map (member_pair {D = D} {K = K})) here)
 
-  pub count_disks : length all_disks ≡ length resources + 1
+  pub count_disks : length all_disks ≡ length n.resources.items + 1
   count_disks =
-      let outer = length-map (server_disks c resources) (pair_of state) in
-      let inner = length-map resources (member_pair {D = D} {K = K}) in
+      let outer = length-map (node_disks n) (pair_of state) in
+      let inner = length-map n.resources.items (member_pair {D = D} {K = K}) in
       omega (arith, outer, inner)
 
 -- ---- the disks of a replay
 
 module _ {D K : Type 0} (state : D → DiskState) (s : Scenario) (n : Nodes D K) where
-  abbrev node_disks : List Pair
-  node_disks = all_disks state n.coordinator.seat.node n.resources.items
-
-  shows_at : (p : Place) (role : Role) (owns : List Own) → StandsAt state s.disk n p role owns → AreNodeDisks role owns (disks_in node_disks p)
+  shows_at : (p : Place) (role : Role) (owns : List Own) → StandsAt state s.disk n p role owns → AreNodeDisks role owns (disks_in (all_disks state n) p)
   shows_at place.Net role owns stands = absurd stands
   shows_at place.Tc role owns is = coordinator_shows state n.coordinator.seat.node role owns is.stands
   shows_at (place.Res k) role owns (m, here, is) =
-      subst (λ (d : Pair). AreNodeDisks role owns d) (sym (resource_in state n.coordinator.seat.node n.resources.items k m here)) (resource_shows state m.seat.node role owns is.stands)
-  shows_at (place.Man k) role owns (m, here, stands) = (manager_role_is state m.seat.node role owns (disks_in node_disks (place.Man k)) stands).0
+      subst (λ (d : Pair). AreNodeDisks role owns d) (sym (resource_in state n k m here)) (resource_shows state m.seat.node role owns is.stands)
+  shows_at (place.Man k) role owns (m, here, stands) = (manager_role_is state m.seat.node role owns (disks_in (all_disks state n) (place.Man k)) stands).0
 
-  pub all_show : (ms : List Moment) → AllStand state s n ms → (p : Place) (role : Role) → role_at (world_of s) no_past p ≡ Some role → AreNodeDisks role (own p ms) (disks_in node_disks p)
+  pub all_show : (ms : List Moment) → AllStand state s n ms → (p : Place) (role : Role) → role_at (world_of s) no_past p ≡ Some role → AreNodeDisks role (own p ms) (disks_in (all_disks state n) p)
   all_show ms stand p role e = shows_at p role (own p ms) (stand p role e)
 
-  leaves_at : (bytes : ℕ) (ms : List Moment) (p : Place) (role : Role) → HasNode state bytes n ms p role → AreLeft role (own p ms) (disks_in node_disks p)
+  leaves_at : (bytes : ℕ) (ms : List Moment) (p : Place) (role : Role) → HasNode state bytes n ms p role → AreLeft role (own p ms) (disks_in (all_disks state n) p)
   leaves_at bytes ms place.Net role has = absurd has
   leaves_at bytes ms place.Tc role has = coordinator_leaves state n.coordinator.seat.node role (own place.Tc ms) has.member.stands has.picked
   leaves_at bytes ms (place.Res k) role (m, here, is) =
-      subst (λ (d : Pair). AreLeft role (own (place.Res k) ms) d) (sym (resource_in state n.coordinator.seat.node n.resources.items k m here))
+      subst (λ (d : Pair). AreLeft role (own (place.Res k) ms) d) (sym (resource_in state n k m here))
       (resource_leaves state m.seat.node role (own (place.Res k) ms) is.member.stands is.picked)
-  leaves_at bytes ms (place.Man k) role (m, here, is) = (manager_role_is state m.seat.node role (own (place.Man k) ms) (disks_in node_disks (place.Man k)) is.stands).1
+  leaves_at bytes ms (place.Man k) role (m, here, is) = (manager_role_is state m.seat.node role (own (place.Man k) ms) (disks_in (all_disks state n) (place.Man k)) is.stands).1
 
-  pub all_left : (ms : List Moment) → AreNodes state s n ms → (p : Place) (role : Role) → role_at (world_of s) no_past p ≡ Some role → AreLeft role (own p ms) (disks_in node_disks p)
+  pub all_left : (ms : List Moment) → AreNodes state s n ms → (p : Place) (role : Role) → role_at (world_of s) no_past p ≡ Some role → AreLeft role (own p ms) (disks_in (all_disks state n) p)
   all_left ms nodes p role e = leaves_at s.disk ms p role (nodes.each p role e)
 
   stands_by : (bytes : ℕ) (ms : List Moment) (p : Place) (role : Role) → HasNode state bytes n ms p role → StandsAt state bytes n p role (own p ms)
@@ -140,99 +124,20 @@ module _ {D K : Type 0} (state : D → DiskState) (s : Scenario) (n : Nodes D K)
   all_stand ms nodes p role e = stands_by s.disk ms p role (nodes.each p role e)
 
   -- all have the scenario's size
-  pub all_sized : length n.resources.items ≡ length s.resources → (ms : List Moment) → AllStand state s n ms → HaveSizes s node_disks
+  pub all_sized : length n.resources.items ≡ length s.resources → (ms : List Moment) → AllStand state s n ms → HaveSizes s (all_disks state n)
   all_sized count ms stand zero below = let is = stand place.Tc (coordinator_role s) refl in record { first = is.sized.first; second = is.sized.second }
   all_sized count ms stand (suc k) below =
-      let size = count_disks state n.coordinator.seat.node n.resources.items in
+      let size = count_disks state n in
       let (def, here) = member_at s.resources k (omega (arith, below, size, count)) in
       let (m, there, is) = stand (place.Res (suc k)) (resource_role s (k + 1) def) (sym (ap (λ i. role_at (world_of s) no_past (place.Res i)) (add-one k)) ∙ role_of_resource s k def here) in
-      subst (λ (d : Pair). HaveSize s.disk d) (sym (resource_in state n.coordinator.seat.node n.resources.items (suc k) m there)) (record { first = is.sized.first; second = is.sized.second })
+      subst (λ (d : Pair). HaveSize s.disk d) (sym (resource_in state n (suc k) m there)) (record { first = is.sized.first; second = is.sized.second })
 
   -- the disks of the node at a place are those that are given back
-  pub alike_in : (p : Place) (role : Role) (owns : List Own) → StandsAt state s.disk n p role owns → Alike (disks_at state n p) (disks_in node_disks p)
+  pub alike_in : (p : Place) (role : Role) (owns : List Own) → StandsAt state s.disk n p role owns → Alike (disks_at state n p) (disks_in (all_disks state n) p)
   alike_in place.Net role owns stands = absurd stands
   alike_in place.Tc role owns stands = record { first = λ a one. one; second = λ b two. two; faults = refl }
   alike_in (place.Res k) role owns (m, here, stands) =
-      subst (λ (o : Option (Member (Resource D) K)). Alike (member_disks state o) (disks_in node_disks (place.Res k))) (sym here)
-      (subst (λ (d : Pair). Alike (shown.disks_of state m.seat.node) d) (sym (resource_in state n.coordinator.seat.node n.resources.items k m here))
+      subst (λ (o : Option (Member (Resource D) K)). Alike (member_disks state o) (disks_in (all_disks state n) (place.Res k))) (sym here)
+      (subst (λ (d : Pair). Alike (shown.disks_of state m.seat.node) d) (sym (resource_in state n k m here))
       (record { first = λ a one. one; second = λ b two. two; faults = refl }))
   alike_in (place.Man k) role owns stands = record { first = λ a one. one; second = λ b two. two; faults = refl }
-
--- ---- disks of nodes that made no entry
-
--- the disks of the k-th node, among those of nodes in order
-in_order : (disks : List Pair) (k : ℕ) → disks_in disks (server_at k) ≡ nth_pair disks k
-in_order disks zero = refl
-in_order disks (suc k) = refl
-
--- the role of the node behind so many resources
-pub role_behind : (s : Scenario) (count : ℕ) (def : ResourceDef) → slice_get s.resources count ≡ Some def → (k : ℕ) → k ≡ count + 1 → role_at (world_of s) no_past (server_at k) ≡ Some (resource_role s (count + 1) def)
-role_behind s count def here zero is = absurd (omega (arith, is))
-role_behind s count def here (suc k) is = ap (λ i. role_at (world_of s) no_past (place.Res i)) is ∙ role_of_resource s count def here
-
-pub place_behind : (count k : ℕ) → k ≡ count + 1 → server_at k ≡ place.Res (count + 1)
-place_behind count zero is = absurd (omega (arith, is))
-place_behind count (suc k) is = ap place.Res is
-
--- none was opened
-pub none_show : (s : Scenario) (disks : List Pair) → ShowOpened s 0 disks
-none_show s disks k role below e = absurd (omega (arith, below))
-
--- with the disks of a node more, which wasn't opened
-pub show_before : (s : Scenario) (disks : List Pair) (p : Pair) → ShowOpened s (length disks) disks → ShowOpened s (length disks) (disks ++ p ∷ [])
-show_before s disks p show k role below e =
-    subst (λ (d : Pair). AreNodeDisks role [] d) (in_order disks k ∙ sym (nth_below disks p k below) ∙ sym (in_order (disks ++ p ∷ []) k)) (show k role below e)
-
--- the sizes of their disks
-pub none_sized : (s : Scenario) → HaveSizes s []
-none_sized s k below = absurd (omega (arith, below))
-
-pub one_sized : (s : Scenario) (p : Pair) → HaveSize s.disk p → HaveSizes s (p ∷ [])
-one_sized s p sized zero below = sized
-one_sized s p sized (suc k) below = absurd (omega (arith, below))
-
-pub sized_more : (s : Scenario) (disks : List Pair) (p : Pair) → HaveSize s.disk p → HaveSizes s disks → HaveSizes s (disks ++ p ∷ [])
-sized_more s disks p sized all k below = by (nat_lt k (length disks)) refl
-  where
-    size : length (disks ++ p ∷ []) ≡ length disks + 1
-    size = let more = length-append disks (p ∷ []) in omega (arith, more)
-
-    by : (b : Bool) → nat_lt k (length disks) ≡ b → HaveSize s.disk (nth_pair (disks ++ p ∷ []) k)
-    by true t =
-        let lower : k < length disks = grind (arith, nat_tests) in
-        subst (λ (d : Pair). HaveSize s.disk d) (sym (nth_below disks p k lower)) (all k lower)
-    by false t =
-        let past : length disks ≤ k = grind (arith, nat_tests) in
-        let end : k ≡ length disks = omega (arith, past, below, size) in
-        subst (λ (d : Pair). HaveSize s.disk d) (sym (ap (λ i. nth_pair (disks ++ p ∷ []) i) end ∙ nth_end disks p)) sized
-
--- the coordinator and the first resources show that they were opened
-module _ {D K : Type 0} (state : D → DiskState) (s : Scenario) (all : AllTell state) (managers resources : ℕ) (c : Coordinator D) (new : IsNewCoordinator state s managers resources c)
-    (opened : List (Member (Resource D) K)) (first : AreFirst (IsNewResourceOf state s) s.resources opened) where
-  kth_shows : (k : ℕ) (role : Role) → k < length opened → role_at (world_of s) no_past (place.Res (suc k)) ≡ Some role → AreNodeDisks role [] (disks_in (all_disks state c opened) (place.Res (suc k)))
-  kth_shows k role below e =
-      let few = first.few in
-      let (m, there) = member_at opened k below in
-      let (def, here) = member_at s.resources k (omega (arith, below, few)) in
-      let r = first.each k def m here there in
-      let same : resource_role s (k + 1) def ≡ role = same_Some (resource_role s (k + 1) def) role (sym (role_of_resource s k def here) ∙ ap (λ i. role_at (world_of s) no_past (place.Res i)) (add-one k) ∙ e) in
-      subst (λ (d : Pair). AreNodeDisks role [] d) (sym (resource_in state c opened (suc k) m there))
-      (subst (λ x. AreNodeDisks x [] (pair_of state (resource_disks m.seat.node))) same (resource_shows state m.seat.node (resource_role s (k + 1) def) [] (r.node.stands (r.node.told all))))
-
-  pub first_show : (count : ℕ) → count ≡ length opened + 1 → ShowOpened s count (all_disks state c opened)
-  first_show count size zero role below e =
-      subst (λ r. AreNodeDisks r [] (pair_of state (coordinator_disks c))) (same_Some (coordinator_role s) role e) (coordinator_shows state c (coordinator_role s) [] (new.stands (new.told all)))
-  first_show count size (suc k) role below e = kth_shows k role (omega (arith, below, size)) e
-
--- and their disks have the scenario's size
-module _ {D K : Type 0} (state : D → DiskState) (s : Scenario) (managers resources : ℕ) (c : Coordinator D) (new : IsNewCoordinator state s managers resources c)
-    (opened : List (Member (Resource D) K)) (first : AreFirst (IsNewResourceOf state s) s.resources opened) where
-  pub first_sized : HaveSizes s (all_disks state c opened)
-  first_sized zero below = record { first = new.sized.first; second = new.sized.second }
-  first_sized (suc k) below =
-      let size = count_disks state c opened in
-      let few = first.few in
-      let (m, there) = member_at opened k (omega (arith, below, size)) in
-      let (def, here) = member_at s.resources k (omega (arith, below, size, few)) in
-      let is = (first.each k def m here there).node.sized in
-      subst (λ (d : Pair). HaveSize s.disk d) (sym (resource_in state c opened (suc k) m there)) (record { first = is.first; second = is.second })

@@ -1,5 +1,5 @@
 -- The traces of a replay, one for each place.
-use Rattle.std.specs.Prelude.{◌≡◌, ◌==◌, ℕ, false, List, [], ◌∷◌, length, slice_get, IsSome, Option, Some, option_map, Vec}
+use Rattle.std.specs.Prelude.{◌≡◌, ◌==◌, ℕ, false, List, [], ◌∷◌, IsSome, Option, Some, option_map, Vec}
 use Rattle.std.specs.declared.alloc.Global.{Global}
 use Rattle.seata_types.specs.declared.ids.Place.{Place}
 use Rattle.seata_types.specs.declared.ids.Place.TheVariants as place
@@ -7,6 +7,7 @@ use Rattle.history_rules.specs.Nodes.{counted_at}
 use Rattle.history_rules.specs.Histories.{Moment}
 use Rattle.history_text.specs.declared.entries.Entry.{Entry}
 use Rattle.history_text.specs.History.{entries}
+use Rattle.scenario_nodes.specs.Together.{AreEach}
 use Rattle.replay_runner.specs.declared.collecting.Traces.{Traces}
 use Rattle.replay_runner.specs.declared.members.Member.{Member}
 use Rattle.replay_runner.specs.declared.nodes.Nodes.{Nodes}
@@ -57,7 +58,18 @@ trace_of network n place.Tc = Some n.coordinator.seat.trace
 trace_of network n (place.Res k) = option_map member_trace (counted_at n.resources.items k)
 trace_of network n (place.Man k) = option_map member_trace (counted_at n.managers.items k)
 
--- the traces of these nodes, in order
-pub record AreTracesOf {N K : Type 0} (members : List (Member N K)) (traces : List (Vec Entry Global)) : Type 0 where
-  pub count : length traces ≡ length members
-  pub each : (k : ℕ) (m : Member N K) (trace : Vec Entry Global) → slice_get members k ≡ Some m → slice_get traces k ≡ Some trace → trace.items ≡ m.seat.trace
+-- ---- once nodes are out of their seats
+
+-- a node of this member, and its trace
+abbrev pub IsNodeOf : {N K : Type 0} → Member N K → N → Type 0
+IsNodeOf m node = node ≡ m.seat.node
+
+abbrev pub IsTraceOf : {N K : Type 0} → Member N K → Vec Entry Global → Type 0
+IsTraceOf m trace = trace.items ≡ m.seat.trace
+
+-- those of these members, in order
+abbrev pub AreNodesOf : {N K : Type 0} → List (Member N K) → List N → Type 0
+AreNodesOf members nodes = AreEach IsNodeOf members nodes
+
+abbrev pub AreTracesOf : {N K : Type 0} → List (Member N K) → List (Vec Entry Global) → Type 0
+AreTracesOf members traces = AreEach IsTraceOf members traces

@@ -1,12 +1,11 @@
 -- What a replay leaves on a shelf: the history, and what the disks that are given back show of it.
-use Rattle.std.specs.Prelude.{◌≡◌, ◌⊎◌, ◌+◌, ◌<◌, ◌≤◌, ℕ, zero, suc, IsTrue, List, [], ◌∷◌, length, map, slice_get, Some, Result, Ok, Err}
+use Rattle.std.specs.Prelude.{◌≡◌, ◌⊎◌, ◌+◌, ◌<◌, ◌≤◌, ℕ, zero, suc, IsTrue, List, [], ◌∷◌, length, map, Some, Result, Ok, Err}
 use Rattle.disk_model.specs.Disk.{DiskState, Rose}
 use Rattle.disk_model.specs.Shelf.{ShelfState}
 use Rattle.journal_checkpoint.specs.Images.{Pair}
 use Rattle.seata_types.specs.declared.ids.Place.{Place}
 use Rattle.seata_types.specs.declared.ids.Place.TheVariants as place
 use Rattle.scenario_form.specs.declared.scenarios.Scenario.{Scenario}
-use Rattle.scenario_form.specs.Runnable.{resource_name}
 use Rattle.history_rules.specs.Own.{Own}
 use Rattle.history_rules.specs.Nodes.{Role, Coordinator, Resource, Manager, no_past, role_at}
 use Rattle.history_rules.specs.Histories.{Moment, own, Legal}
@@ -19,36 +18,29 @@ use Rattle.node_steps.specs.Promises.{no_disks}
 use Rattle.history_text.specs.Worlds.{items_of, world_of}
 use Rattle.node_seat.specs.declared.faults.RunFault.{RunFault}
 use Rattle.node_seat.specs.declared.faults.RunFault.TheVariants as fault
-use Rattle.scenario_nodes.specs.Nodes.{HaveSize}
-use Rattle.scenario_nodes.specs.Opening.{HaveNoEntry, IsOpenFault, IsShelfFault}
-use Rattle.scenario_nodes.specs.Shelves.{AllTell, AreGivenBack, HasBoth, IsDiskName, coordinator_name, pair_of, second_name}
+use Rattle.scenario_nodes.specs.Nodes.{HaveSize, server_names, servers_of}
+use Rattle.scenario_nodes.specs.Opening.{AreNotOpened}
+use Rattle.scenario_nodes.specs.Shelves.{AllTell, AreGivenBack, pair_of}
+use Rattle.scenario_nodes.specs.Together.{AreEach, HaveBoth, IsOfOne}
 use Rattle.replay_runner.specs.Ends.{IsCause}
 
--- ---- the nodes with disks, in order: the coordinator, and the resources
+-- ---- the disks of nodes in order: the coordinator, and the resources
 
-abbrev pub server_names : Scenario → List (List ℕ)
-server_names s = coordinator_name ∷ map resource_name s.resources
-
--- the place of the k-th, counted from 0
-abbrev pub server_at : ℕ → Place
-server_at zero = place.Tc
-server_at (suc k) = place.Res (suc k)
-
--- the k-th, counted from 0, of the disks of nodes in order
+-- the k-th, counted from 0, of the disks of nodes
 abbrev pub nth_pair : List Pair → ℕ → Pair
 nth_pair [] k = no_disks
 nth_pair (p ∷ ps) zero = p
 nth_pair (p ∷ ps) (suc k) = nth_pair ps k
 
--- the disks of the node at a place, among those of the nodes in order
+-- the disks of the node at a place, among those of all nodes
 abbrev pub disks_in : List Pair → Place → Pair
 disks_in disks place.Tc = nth_pair disks 0
 disks_in disks (place.Res k) = nth_pair disks k
 disks_in disks _ = no_disks
 
--- the name of a disk of one of these nodes
+-- the name of a disk of one of the nodes of a scenario
 abbrev pub IsServerDisk : Scenario → List ℕ → Type 0
-IsServerDisk s name = (k : ℕ) × (node : List ℕ) × (slice_get (server_names s) k ≡ Some node) × IsDiskName node name
+IsServerDisk s = IsOfOne (server_names s)
 
 -- ---- how a replay ends
 
@@ -85,22 +77,6 @@ pub record Broken (s : Scenario) (disks : List Pair) (missed : RunFault) : Type 
   pub sized : HaveSizes s disks
   pub cause : IsCause s history (disks_in disks) missed
 
--- so many of the first nodes were opened, and made no entry: their disks show it, those of a resource with its first boot
-abbrev pub ShowOpened : Scenario → (opened : ℕ) → List Pair → Type 0
-ShowOpened s opened disks = (k : ℕ) (role : Role) → k < opened → role_at (world_of s) no_past (server_at k) ≡ Some role → AreNodeDisks role [] (disks_in disks (server_at k))
-
--- So many nodes were opened, and the next one, whose disks are the last, wasn't: no entry was made, which all disks, of the scenario's size,
--- show; whether its first boot is on the last is left open.
-pub record Unopened (s : Scenario) (disks : List Pair) (missed : RunFault) : Type 0 where
-  pub opened : ℕ
-  pub count : length disks ≡ opened + 1
-  pub device : ShowOpened s opened disks
-  pub sized : HaveSizes s disks
-  pub role : Role
-  pub there : role_at (world_of s) no_past (server_at opened) ≡ Some role
-  pub last : HaveNoEntry role (nth_pair disks opened)
-  pub cause : IsOpenFault role s.disk (nth_pair disks opened) missed
-
 -- a replay that ended since the disks of a node failed: these have counted a fault, whatever they tell
 abbrev pub CountsFailure : List Pair → Result (List Entry) RunFault → Type 0
 CountsFailure disks (Err (fault.Store at)) = 1 ≤ own_faults (disks_in disks at)
@@ -109,54 +85,31 @@ CountsFailure disks _ = Unit {0}
 -- what a replay on disks leaves
 abbrev pub Leaves : Scenario → List Pair → Result (List Entry) RunFault → Type 0
 Leaves s disks (Ok es) = Completed s disks es
-Leaves s disks (Err missed) = Broken s disks missed ⊎ Unopened s disks missed
+Leaves s disks (Err missed) = Broken s disks missed
 
 -- ---- the shelf
 
--- Both disks of so many of the first nodes were taken, and no second disk of a node behind them. Where none of these names had a place
--- before, this says how many nodes they are.
-pub record AreTaken {D : Type 0} (old new : ShelfState D) (s : Scenario) (count : ℕ) : Type 0 where
-  pub both : (k : ℕ) (name : List ℕ) → k < count → slice_get (server_names s) k ≡ Some name → HasBoth new name
-  pub no_more : (k : ℕ) (name : List ℕ) → count ≤ k → slice_get (server_names s) k ≡ Some name → new.has_place (second_name name) → old.has_place (second_name name)
+-- these disks were given back: a pair for each node of the scenario, under its name
+abbrev pub AreAllBack : {D : Type 0} → ShelfState D → Scenario → List (D × D) → Type 0
+AreAllBack shelf s disks = AreEach (AreGivenBack shelf) (server_names s) disks
 
--- these disks of the first nodes were given back, each pair under its node's name
-pub record FirstGivenBack {D : Type 0} (shelf : ShelfState D) (s : Scenario) (disks : List (D × D)) : Type 0 where
-  pub few : length disks ≤ length s.resources + 1
-  pub each : (k : ℕ) (name : List ℕ) (d : D × D) → slice_get (server_names s) k ≡ Some name → slice_get disks k ≡ Some d → AreGivenBack shelf name d
-
--- how many nodes' disks these are: those of all, where the replay was done, and else the coordinator's at least
-abbrev pub IsNodeCount : Scenario → Result (List Entry) RunFault → ℕ → Type 0
-IsNodeCount s (Ok es) count = count ≡ length s.resources + 1
-IsNodeCount s (Err missed) count = 1 ≤ count
-
--- the disks of all nodes that were taken were given back; those that failed counted a fault, and where disks tell their bytes, they show how
--- the replay ended
-pub record GivesBack {D : Type 0} (state : D → DiskState) (old new : ShelfState D) (s : Scenario) (result : Result (List Entry) RunFault) : Type 0 where
+-- The nodes were opened, and the schedule was played, to its end or until a fault. The disks of all were taken and given back; those that
+-- failed counted a fault, and where disks tell their bytes, they show how the replay ended.
+pub record GivesBack {D : Type 0} (state : D → DiskState) (new : ShelfState D) (s : Scenario) (result : Result (List Entry) RunFault) : Type 0 where
   pub disks : List (D × D)
-  pub taken : AreTaken old new s (length disks)
-  pub back : FirstGivenBack new s disks
-  pub count : IsNodeCount s result (length disks)
+  pub taken : HaveBoth new (server_names s)
+  pub back : AreAllBack new s disks
   pub counted : CountsFailure (map (pair_of state) disks) result
   pub leaves : AllTell state → Leaves s (map (pair_of state) disks) result
 
--- A disk wasn't had for the next node of the scenario, behind those whose disks were taken and given back: the shelf failed, or memory was
--- refused. These were opened, and no entry was made, which their disks, of the scenario's size, show.
-pub record IsNotTaken {D : Type 0} (state : D → DiskState) (old new : ShelfState D) (s : Scenario) (missed : RunFault) : Type 0 where
-  pub disks : List (D × D)
-  pub taken : AreTaken old new s (length disks)
-  pub back : FirstGivenBack new s disks
-  pub next : length disks < length s.resources + 1
-  pub device : AllTell state → ShowOpened s (length disks) (map (pair_of state) disks)
-  pub sized : HaveSizes s (map (pair_of state) disks)
-  pub cause : IsShelfFault (server_at (length disks)) old new missed
-
-abbrev pub TakesNone : {D : Type 0} → (D → DiskState) → (old new : ShelfState D) → Scenario → Result (List Entry) RunFault → Type 0
-TakesNone state old new s (Ok es) = ⊥
-TakesNone state old new s (Err missed) = IsNotTaken state old new s missed
+-- the nodes weren't opened, and no entry was made
+abbrev pub EndsAtOpening : {D : Type 0} → (D → DiskState) → (old new : ShelfState D) → Scenario → Result (List Entry) RunFault → Type 0
+EndsAtOpening state old new s (Ok es) = ⊥
+EndsAtOpening state old new s (Err missed) = AreNotOpened state s.disk (servers_of s) old new missed
 
 -- what a replay does with a shelf
 abbrev pub Replays : {D : Type 0} → (D → DiskState) → (old new : ShelfState D) → Scenario → Result (List Entry) RunFault → Type 0
-Replays state old new s result = GivesBack state old new s result ⊎ TakesNone state old new s result
+Replays state old new s result = GivesBack state new s result ⊎ EndsAtOpening state old new s result
 
 -- ---- where nothing fails
 

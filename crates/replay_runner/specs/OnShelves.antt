@@ -1,53 +1,54 @@
--- What opening the nodes of a replay does with a shelf, and closing them.
-use Rattle.std.specs.Prelude.{◌≡◌, ℕ, List, length, Result, Err, IfOk, IfErr, OnOk, OnErr, String}
+-- What opening the nodes of a replay does with a shelf, and playing its schedule.
+use Rattle.std.specs.Prelude.{◌≡◌, ◌≤◌, ℕ, List, [], map, Result, IfOk, IfErr, String, vec_capacity}
 use Rattle.std.specs.declared.alloc.Global.{Global}
 use Rattle.disk_model.specs.Disk.{DiskState}
-use Rattle.disk_model.specs.Shelf.{KeepsOthers, SamePlaces, ShelfState}
+use Rattle.disk_model.specs.Shelf.{KeepsOthers, ShelfState}
 use Rattle.scenario_form.specs.declared.scenarios.Scenario.{Scenario}
-use Rattle.scenario_form.specs.Runnable.{IsRunnable}
+use Rattle.scenario_form.specs.Runnable.{IsRunnable, resource_name}
 use Rattle.history_rules.specs.Nodes.{Past, World, no_past}
+use Rattle.history_text.specs.declared.entries.Entry.{Entry}
 use Rattle.history_text.specs.Worlds.{world_of}
-use Rattle.resource_core.specs.declared.nodes.Resource.{Resource}
 use Rattle.node_seat.specs.declared.faults.RunFault.{RunFault}
-use Rattle.scenario_nodes.specs.Shelves.{ReturnsAll, ReturnsBut}
-use Rattle.replay_runner.specs.declared.members.Member.{Member}
+use Rattle.scenario_nodes.specs.Nodes.{server_names, servers_of}
+use Rattle.scenario_nodes.specs.Opening.{AreNotOpened}
+use Rattle.scenario_nodes.specs.Shelves.{AllTell, ReturnsAll, pair_of}
+use Rattle.scenario_nodes.specs.Together.{AreSecondNames, TakesOrReturns}
+use Rattle.scenario_nodes.specs.Together.{GivesBack as GivesDisks}
+use Rattle.replay_runner.specs.declared.closings.Room.{Room}
 use Rattle.replay_runner.specs.declared.nodes.Nodes.{Nodes}
-use Rattle.replay_runner.specs.Leaving.{IsServerDisk, Replays}
-use Rattle.replay_runner.specs.Opened.{AreAll, AreFirst, AreNewNodes, HaveBoth, HaveTaken, IsNewResourceOf, IsOfOne, IsOfServer, IsSecondName}
-
--- ---- opening
+use Rattle.replay_runner.specs.Leaving.{CountsFailure, IsServerDisk, Leaves, Replays}
+use Rattle.replay_runner.specs.Opened.{AreNewNodes}
 
 -- nodes of a scenario in a run of its world, without records before it, can be opened with these names of second disks
 pub record CanOpen (world : World) (past : Past) (s : Scenario) (seconds : List (String Global)) : Type 0 where
   pub runnable : IsRunnable s
   pub is_world : world ≡ world_of s
   pub is_past : past ≡ no_past
-  pub named : AreAll IsSecondName s.resources seconds
+  pub named : AreSecondNames (map resource_name s.resources) seconds
 
--- The first resources were opened on disks of a shelf, which are out: places were made for so many resources at most.
-pub record OpensFirst {D K : Type 0} (state : D → DiskState) (s : Scenario) (old new : ShelfState D) (members : List (Member (Resource D) K)) (asked : ℕ) : Type 0 where
-  pub opened : AreFirst (IsNewResourceOf state s) s.resources members
-  pub taken : HaveBoth new s.resources (length members)
-  pub keeps : KeepsOthers (IsOfOne s.resources asked) old new
-  pub out : ReturnsBut (IsOfOne s.resources (length members)) old new
-
--- All nodes with disks were opened, whose disks are out; or the replay ended at one, and all disks were given back.
+-- All nodes were opened, and their disks are out; or they weren't, and all disks that were taken were given back.
 pub record OpensNodes {D K : Type 0} (state : D → DiskState) (s : Scenario) (old new : ShelfState D) (result : Result (Nodes D K) RunFault) : Type 0 where
   pub nodes : IfOk result (AreNewNodes state s)
-  pub taken : OnOk result (HaveTaken new s.resources (length s.resources))
-  pub refused : IfErr result (λ missed. Replays state old new s (Err missed))
-  pub out : OnOk result (ReturnsBut (IsOfServer s.resources (length s.resources)) old new)
-  pub returned : OnErr result (ReturnsAll old new)
-  pub keeps : KeepsOthers (IsServerDisk s) old new
+  pub refused : IfErr result (AreNotOpened state s.disk (servers_of s) old new)
+  pub shelf : TakesOrReturns (server_names s) old new result
 
--- ---- closing
+-- there is room for so many resources and for their traces, and none is there yet
+pub record IsRoom {D : Type 0} (count : ℕ) (room : Room D) : Type 0 where
+  pub no_resource : room.resources.items ≡ []
+  pub no_trace : room.traces.items ≡ []
+  pub resources : count ≤ vec_capacity room.resources
+  pub traces : count ≤ vec_capacity room.traces
 
--- Disks of some names were given back, and nothing was done under others: no place was made, and none is gone.
-pub record GivesBackOnly {D : Type 0} (IsItsName : List ℕ → Type 0) (old new : ShelfState D) : Type 0 where
-  pub keeps : KeepsOthers IsItsName old new
-  pub places : SamePlaces old new
+-- The disks of all nodes were given back, and nothing else was done. Those that failed counted a fault, and where disks tell their bytes,
+-- they show how the replay ended.
+pub record Closes {D : Type 0} (state : D → DiskState) (s : Scenario) (old new : ShelfState D) (result : Result (List Entry) RunFault) : Type 0 where
+  pub disks : List (D × D)
+  pub gives : GivesDisks (server_names s) disks old new
+  pub counted : CountsFailure (map (pair_of state) disks) result
+  pub leaves : AllTell state → Leaves s (map (pair_of state) disks) result
+
+-- what is promised of a replay and its shelf, whatever else holds
+pub record RunsOn {D : Type 0} (state : D → DiskState) (s : Scenario) (old new : ShelfState D) (result : Result (List Entry) RunFault) : Type 0 where
+  pub replays : Replays state old new s result
   pub returned : ReturnsAll old new
-
--- a shelf as if no disk was taken from it
-abbrev pub without_places : {D : Type 0} → ShelfState D → ShelfState D
-without_places shelf = record shelf { has_place = λ name. ⊥ }
+  pub keeps : KeepsOthers (IsServerDisk s) old new

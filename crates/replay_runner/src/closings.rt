@@ -1,108 +1,62 @@
 //! The nodes of a replay that ended: their disks go back to the shelf, and their traces are gathered.
-ghost use Rattle.std.specs.Prelude.{◌≡◌, ◌≤◌, ◌++◌, ◌∷◌, [], true, List as Items, Vec as TheVec, IfOk, length};
-ghost use Rattle.std.specs.declared.alloc.Global.{Global as TheGlobal};
-ghost use Rattle.scenario_form.specs.Runnable.{IsRunnable};
+ghost use Rattle.std.specs.Prelude.{◌≡◌, List as Items, IfOk, length, map};
+ghost use Rattle.scenario_form.specs.Runnable.{IsRunnable, resource_name};
 ghost use Rattle.history_rules.specs.Histories.{Moment};
-ghost use Rattle.history_text.specs.declared.entries.Entry.{Entry as TheEntry};
 ghost use Rattle.history_text.specs.History.{entries};
-ghost use Rattle.scenario_nodes.specs.Nodes.{resource_disks};
-ghost use Rattle.scenario_nodes.specs.Shelves.{AreGivenBack, HasBoth, IsDiskName, second_name};
-ghost use Rattle.replay_runner.specs.Collecting.{AreTraces, AreTracesOf, trace_of};
-ghost use Rattle.replay_runner.specs.Leaving.{FirstGivenBack};
-ghost use Rattle.replay_runner.specs.OnShelves.{GivesBackOnly};
-ghost use Rattle.replay_runner.specs.Opened.{AreAll, AreDefsApart, AreReturned, HaveBoth, HaveTaken, IsOfOne, IsOfServer, IsSecondName, server_disks};
+ghost use Rattle.scenario_nodes.specs.Nodes.{server_names};
+ghost use Rattle.scenario_nodes.specs.Together.{AreSecondNames, GivesBack, HaveBoth};
+ghost use Rattle.replay_runner.specs.Collecting.{AreNodesOf, AreTraces, AreTracesOf, trace_of};
+ghost use Rattle.replay_runner.specs.OnShelves.{IsRoom};
+ghost use Rattle.replay_runner.specs.Opened.{node_disks};
 ghost use Rattle.replay_runner.specs.Traces.{places_of};
 
 use crate::collecting::{Traces, collected, put};
 use crate::members::Member;
 use crate::runs::Run;
-use coordinator_core::Coordinator;
-use disk_model::Shelf;
+use disk_model::{Disk, Shelf};
 use history_text::Entry;
 use manager_core::Manager;
 use node_seat::RunName;
 use resource_core::Resource;
-use scenario_form::{ResourceDef, Scenario};
-use scenario_nodes::{close_coordinator, close_resource};
+use scenario_form::Scenario;
+use scenario_nodes::{Servers, close_servers};
 use seata_types::{List, NoMemory};
 use std::alloc::Global;
 
-/// Adds a trace, if there is memory.
-fn keep(traces: &mut Vec<Vec<Entry>>, trace: List<Entry>) -> bool
-    ensures { result ≡ true → (kept : TheVec TheEntry TheGlobal) × (kept.items ≡ trace)
-        × (traces.new.items ≡ traces.old.items ++ kept ∷ []) }
-{
-    put(traces, trace.into_vec()).is_ok()
+/// Room for the resources of a replay and for their traces, once they are out of their seats. It is had before any disk is
+/// taken: so all disks are given back, whatever memory is refused later.
+#[derive(Drop)]
+pub struct Room<D: Disk> {
+    pub resources: Vec<Resource<D>>,
+    pub traces: Vec<Vec<Entry>>,
 }
 
-/// Gives back the disks of a resource, whose second name this is, and adds its trace, if there is memory.
-fn close_member<H: Shelf, K: RunName>(
-    shelf: &mut H,
-    def: &ResourceDef,
-    second: &str,
-    member: Member<Resource<H::D>, K>,
-    traces: &mut Vec<Vec<Entry>>,
-) -> bool
-    requires second { second.now ≡ second_name def.now.name }
-    requires both { HasBoth (H.state shelf.old) def.now.name }
-    ensures back { AreGivenBack (H.state shelf.new) def.now.name (resource_disks member.seat.node) }
-    ensures only { GivesBackOnly (IsDiskName def.now.name) (H.state shelf.old) (H.state shelf.new) }
-    ensures kept { result ≡ true → (kept : TheVec TheEntry TheGlobal)
-        × (kept.items ≡ member.seat.trace) × (traces.new.items ≡ traces.old.items ++ kept ∷ []) }
+/// Room for so many resources.
+pub fn room_for<D: Disk + Drop>(alloc: Global, count: usize) -> Result<Room<D>, NoMemory>
+    ensures { IfOk result (IsRoom count) }
 {
-    let (resource, trace) = member.seat.finish();
-    close_resource(shelf, def.name.as_str(), second, resource);
-    keep(traces, trace)
+    let resources = Vec::with_capacity(alloc, count)?;
+    let traces = Vec::with_capacity(alloc, count)?;
+    Ok(Room { resources, traces })
 }
 
-/// Gives back the disks of each resource, whose second names these are, and gathers the traces.
-fn close_resources<H: Shelf, K: RunName>(
-    alloc: Global,
-    shelf: &mut H,
-    defs: &[ResourceDef],
-    seconds: &[String],
-    resources: Vec<Member<Resource<H::D>, K>>,
-) -> Result<Vec<Vec<Entry>>, NoMemory>
-    requires few { length resources.items ≤ length defs.now }
-    requires seconds { AreAll IsSecondName defs.now seconds.now }
-    requires apart { AreDefsApart defs.now }
-    requires taken { HaveBoth (H.state shelf.old) defs.now (length resources.items) }
-    ensures back { AreReturned (H.state shelf.new) defs.now resources.items }
-    ensures only { GivesBackOnly (IsOfOne defs.now (length resources.items))
-        (H.state shelf.old) (H.state shelf.new) }
-    ensures traces { IfOk result (λ traces. AreTracesOf resources.items traces.items) }
+/// Takes resources out of their seats, with their traces.
+fn unseated<D: Disk + Drop, K: RunName>(
+    members: Vec<Member<Resource<D>, K>>,
+    room: Room<D>,
+) -> (Vec<Resource<D>>, Vec<Vec<Entry>>)
+    requires { IsRoom (length members.items) room }
+    ensures nodes { AreNodesOf members.items result.0.items }
+    ensures traces { AreTracesOf members.items result.1.items }
 {
-    let mut traces = Vec::new(alloc);
-    let mut kept = true;
-    for (k, member) in resources.into_iter().enumerate() {
-        kept &= close_member(shelf, &defs[k], seconds[k].as_str(), member, &mut traces);
+    let mut resources = room.resources;
+    let mut traces = room.traces;
+    for member in members {
+        let (resource, trace) = member.seat.finish();
+        resources.push_reserved(resource);
+        traces.push_reserved(trace.into_vec());
     }
-    if kept { Ok(traces) } else { Err(NoMemory) }
-}
-
-/// Gives back the disks of the coordinator and of the first resources, whose second names these are, and gathers the traces of
-/// these resources.
-pub fn close_servers<H: Shelf, K: RunName>(
-    alloc: Global,
-    shelf: &mut H,
-    scenario: &Scenario,
-    seconds: &[String],
-    coordinator: Coordinator<H::D>,
-    resources: Vec<Member<Resource<H::D>, K>>,
-) -> Result<Vec<Vec<Entry>>, NoMemory>
-    requires runnable { IsRunnable scenario.now }
-    requires few { length resources.items ≤ length scenario.now.resources }
-    requires seconds { AreAll IsSecondName scenario.now.resources seconds.now }
-    requires taken { HaveTaken (H.state shelf.old) scenario.now.resources (length resources.items) }
-    ensures back { FirstGivenBack (H.state shelf.new) scenario.now
-        (server_disks coordinator resources.items) }
-    ensures only { GivesBackOnly (IsOfServer scenario.now.resources (length resources.items))
-        (H.state shelf.old) (H.state shelf.new) }
-    ensures traces { IfOk result (λ traces. AreTracesOf resources.items traces.items) }
-{
-    close_coordinator(shelf, coordinator);
-    let defs = scenario.resources.as_slice();
-    close_resources(alloc, shelf, defs, seconds, resources)
+    (resources, traces)
 }
 
 /// The traces of the managers.
@@ -120,23 +74,21 @@ fn manager_traces<K: RunName>(
     Ok(traces)
 }
 
-/// Gives back all disks of a replay, and gives its history.
+/// Gives back all disks of a replay, and gives its history. There is room for its resources and their traces.
 pub fn close<H: Shelf, K: RunName>(
     alloc: Global,
     shelf: &mut H,
     scenario: &Scenario,
     seconds: &[String],
     run: Run<H::D, K>,
+    room: Room<H::D>,
 ) -> Result<List<Entry>, NoMemory>
     requires runnable { IsRunnable scenario.now }
-    requires few { length run.nodes.resources.items ≤ length scenario.now.resources }
-    requires seconds { AreAll IsSecondName scenario.now.resources seconds.now }
-    requires taken { HaveTaken (H.state shelf.old) scenario.now.resources
-        (length run.nodes.resources.items) }
-    ensures back { FirstGivenBack (H.state shelf.new) scenario.now
-        (server_disks run.nodes.coordinator.seat.node run.nodes.resources.items) }
-    ensures only { GivesBackOnly
-        (IsOfServer scenario.now.resources (length run.nodes.resources.items))
+    requires seconds { AreSecondNames (map resource_name scenario.now.resources) seconds.now }
+    requires whole { length run.nodes.resources.items ≡ length scenario.now.resources }
+    requires room { IsRoom (length scenario.now.resources) room }
+    requires taken { HaveBoth (H.state shelf.old) (server_names scenario.now) }
+    ensures gives { GivesBack (server_names scenario.now) (node_disks run.nodes)
         (H.state shelf.old) (H.state shelf.new) }
     ensures history { IfOk result (λ history. (ms : Items Moment) →
         run.places.items ≡ places_of ms → AreTraces (trace_of run.network.items run.nodes) ms →
@@ -149,19 +101,17 @@ pub fn close<H: Shelf, K: RunName>(
         ..
     } = run;
     let (coordinator, trace) = nodes.coordinator.seat.finish();
-    let resources = close_servers(
-        alloc,
-        shelf,
-        scenario,
-        seconds,
+    let (resources, traces) = unseated(nodes.resources, room);
+    let servers = Servers {
         coordinator,
-        nodes.resources,
-    )?;
+        resources,
+    };
+    close_servers(shelf, scenario, seconds, servers);
     let managers = manager_traces(alloc, nodes.managers)?;
     let traces = Traces {
         network,
         coordinator: trace.into_vec(),
-        resources,
+        resources: traces,
         managers,
     };
     collected(alloc, places.as_slice(), traces)

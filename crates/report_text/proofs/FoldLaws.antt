@@ -60,10 +60,15 @@ pub record NodesMay (s : Scenario) (past : Past) (ms : List Moment) : Type 0 whe
   pub sessions : MayStand (coordinator_left past ms)
   pub resources : (k : ℕ) (u : Setup) → slice_get (resources_of s) k ≡ Some u → MayStandAt (opening_tables u) (memory_at past u ms)
 
--- the records of each resource are so few that one more is counted in 32 bits
-unfoldable pub HaveRoom : Scenario → Past → List Moment → Type 0
-HaveRoom s past ms =
-    (k : ℕ) (u : Setup) → slice_get (resources_of s) k ≡ Some u → suc (length (added (memory_at past u ms).left.flight (memory_at past u ms).left.records)) < 2 ^ 32
+-- the records of the k-th resource, counted from 0, are so few that one more is counted in 32 bits
+unfoldable pub HasRoomFor : Scenario → Past → List Moment → (k : ℕ) → Type 0
+HasRoomFor s past ms k =
+    (u : Setup) → slice_get (resources_of s) k ≡ Some u → suc (length (added (memory_at past u ms).left.flight (memory_at past u ms).left.records)) < 2 ^ 32
+
+-- so are those of the resource where an entry is
+abbrev pub HasRoomHere : Scenario → Past → List Moment → Place → Option Event → Type 0
+HasRoomHere s past ms (place.Res (suc k)) (Some event) = HasRoomFor s past ms k
+HasRoomHere s past ms _ _ = Unit {0}
 
 -- the statements of an entry of the k-th resource, counted from 0, are those that the rules take
 unfoldable pub ActsFor : Scenario → Past → List Moment → FoldedKept → (k : ℕ) → Event → (now : ℕ) → Cause → Step → Type 0
@@ -205,16 +210,16 @@ module _ (s : Scenario) (past : Past) (f : FoldedKept) (ms : List Moment) (follo
         reads = reads_now;
       }
 
-    resource_follows : HaveRoom s past ms → NodesMay s past ms → NodesMay s past more → ActsFor s past ms f k event now why step
+    resource_follows : HasRoomFor s past ms k → NodesMay s past ms → NodesMay s past more → ActsFor s past ms f k event now why step
         → Follows s past (entry_step s (names_of s) (entries ms) (entry at (Some event)) f) (moment at (Some event) ∷ ms)
-    unfolding ActsFor HaveRoom
+    unfolding ActsFor HasRoomFor
     resource_follows room before after acts =
         let e = entry at (Some event) in
         let has = follows.resources k u there in
         let run = run_now s (suc k) e f in
         let tries = tries_for s e.cause e.act in
         let t =
-        taken u has.0 mem has.2 event run tries (before.resources k u there) (room k u there) step.act (acts u e there refl refl)
+        taken u has.0 mem has.2 event run tries (before.resources k u there) (room u there) step.act (acts u e there refl refl)
         (subst (λ (m : Memory). MayStandAt (opening_tables u) m) memory_here (after.resources k u there)) in
         whole at (Some event) (folded_now has.0 has.1 has.2 run tries t) (ap (with_resource (names_of s) k run tries e f) has.1) (resource_nodes has.0 has.1 has.2 run tries t)
 
@@ -228,7 +233,7 @@ module _ (s : Scenario) (past : Past) (f : FoldedKept) (ms : List Moment) (follo
   quiet_manager n event = record { coordinator = follows.coordinator; count = follows.count; resources = follows.resources; same_sent = refl; reads = no_reads [] refl }
 
   resource_there : (k : ℕ) (event : Event) (o : Option Setup) → slice_get (resources_of s) k ≡ o → IsDone (world_of s) past ms (moment (place.Res (suc k)) (Some event)) (Some event)
-      → HaveRoom s past ms → NodesMay s past ms → NodesMay s past (moment (place.Res (suc k)) (Some event) ∷ ms) → ActsFor s past ms f k event now why step
+      → HasRoomFor s past ms k → NodesMay s past ms → NodesMay s past (moment (place.Res (suc k)) (Some event) ∷ ms) → ActsFor s past ms f k event now why step
       → Follows s past (entry_step s (names_of s) (entries ms) (entry (place.Res (suc k)) (Some event)) f) (moment (place.Res (suc k)) (Some event) ∷ ms)
   resource_there k event None there done room before after acts =
       absurd (subst (λ o. HappensAt (option_map (λ u. Resource u (past.resource (suc k))) o) (own (place.Res (suc k)) ms) now event step) there done)
@@ -240,7 +245,7 @@ module _ (s : Scenario) (past : Past) (f : FoldedKept) (ms : List Moment) (follo
   ActsHere (place.Res (suc k)) (Some event) = ActsFor s past ms f k event now why step
   ActsHere _ _ = Unit {0}
 
-  pub next_follows : (p : Place) (event : Option Event) → Stands (world_of s) past ms (moment p event) → EachSent TellResources ms → HaveRoom s past ms → NodesMay s past ms → NodesMay s past (moment p event ∷ ms)
+  pub next_follows : (p : Place) (event : Option Event) → Stands (world_of s) past ms (moment p event) → EachSent TellResources ms → HasRoomHere s past ms p event → NodesMay s past ms → NodesMay s past (moment p event ∷ ms)
       → ActsHere p event → Follows s past (entry_step s (names_of s) (entries ms) (entry p event) f) (moment p event ∷ ms)
   next_follows place.Tc (Some event) stands each room before after acts =
       whole place.Tc (Some event) (session_step (entries ms) (entry place.Tc (Some event)) f) refl (session_follows event each stands.brought before.sessions after.sessions)

@@ -9,7 +9,7 @@ use Rattle.report_text.specs.Folds.{FoldedKept, entry_step}
 use Rattle.report_text.specs.Following.{FollowsAll, Reports}
 use Rattle.report_text.specs.Sections.{text_kept}
 use Rattle.report_text.proofs.Lists.{take_snoc}
-use Rattle.report_text.proofs.RecordLaws.{records_may}
+use Rattle.report_text.proofs.RecordLaws.{has_room, records_may}
 use Rattle.report_text.proofs.ReportLaws.{next_folded, reports}
 use Rattle.report_text.proofs.StatementLaws.{statements_are}
 
@@ -21,7 +21,7 @@ module _ (s : Scenario) (es : List Entry) (k : ℕ) (f : FoldedKept) (kept : Fol
       let taken : g ≡ entry_step s (names_of s) (take k es) e f =
       step ∙ ap (λ (n : Names). entry_step s n before e f) named ∙ ap (λ (ds : List Entry). entry_step s (names_of s) ds e f) front in
       subst (λ (ds : List Entry). FollowsAll s ds g) (sym (ap (λ n. take n es) (let next : k + 1 ≡ suc k = omega arith in next) ∙ take_snoc es k e at))
-      (subst (FollowsAll s (take k es ++ e ∷ [])) (sym taken) (next_folded s (records_may s) (statements_are s) (take k es) e f kept))
+      (subst (FollowsAll s (take k es ++ e ∷ [])) (sym taken) (next_folded s (records_may s) (has_room s) (statements_are s) (take k es) e f kept))
 
   -- all of them
   pub all_taken : k ≡ length es → FollowsAll s es f

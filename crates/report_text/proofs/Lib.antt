@@ -14,6 +14,7 @@ pub mod LockLaws
 pub mod PrintedLaws
 pub mod SectionLaws
 pub mod FoldLaws
+pub mod Counts
 pub mod ReportLaws
 pub mod AskLaws
 pub mod ComingLaws

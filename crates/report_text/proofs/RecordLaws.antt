@@ -1,5 +1,6 @@
 -- The records of a legal history may come one after the other, and are counted in 32 bits.
-use Rattle.std.proofs.Common.{◌≡◌, ◌+◌, ◌≤◌, ℕ, suc, Bool, true, false, List, [], ◌∷◌, length, slice_get, Option, Some, None, option_map, refl, sym, ap, ◌∙◌, subst, arith}
+use Rattle.std.proofs.Common.{◌≡◌, ◌+◌, ◌≤◌, ℕ, zero, suc, Bool, true, false, List, [], ◌∷◌, length, slice_get, Option, Some, None, option_map, refl, sym, ap, ◌∙◌, subst, arith}
+use Rattle.std.proofs.lemmas.Bool.Decides.{nat_tests}
 use Rattle.seata_types.specs.declared.acts.Act.{Act}
 use Rattle.seata_types.specs.declared.acts.Act.TheVariants as act
 use Rattle.seata_types.specs.declared.acts.Durable.{Durable}
@@ -25,9 +26,9 @@ use Rattle.history_text.proofs.Worlds.{world_of-numbered}
 use Rattle.history_text.specs.Worlds.{resources_of, world_of}
 use Rattle.report_text.proofs.AskLaws.{is_asked}
 use Rattle.report_text.proofs.ComingLaws.{ComesBoth, OpensFit, act_comes, from_fits}
-use Rattle.report_text.proofs.FoldLaws.{HaveRoom}
+use Rattle.report_text.proofs.FoldLaws.{HasRoomFor, HasRoomHere}
 use Rattle.report_text.proofs.NumberedLaws.{setup_at}
-use Rattle.report_text.proofs.ReportLaws.{RecordsMay}
+use Rattle.report_text.proofs.ReportLaws.{RecordsFit, RecordsMay}
 
 blank : IsBlankPast no_past
 blank = record { sessions = refl; resources = λ n. (0, refl) }
@@ -70,15 +71,6 @@ memory_most : (u : Setup) (os : List Own) → length (all_of (memory u [] os).le
 memory_most u [] = omega arith
 memory_most u (o ∷ os) =
     let one = booted_most o.step.act (resource_asked u (memory u [] os) o) (memory u [] os).left in let below = memory_most u os in omega (arith, one, below)
-
-own_by : (b : Bool) (event : Option Event) (m : Moment) (os : List Own) → length (own_if b event m os) ≤ length os + 1
-own_by true (Some e) m os = omega arith
-own_by true None m os = omega arith
-own_by false event m os = omega arith
-
-own_most : (p : Place) (ms : List Moment) → length (own p ms) ≤ length ms
-own_most p [] = omega arith
-own_most p (m ∷ ms) = let one = own_by (same_place p m.place) m.event m (own p ms) in let below = own_most p ms in omega (arith, one, below)
 
 -- ---- records that come
 
@@ -136,22 +128,41 @@ module _ (s : Scenario) (k : ℕ) (u : Setup) (there : slice_get (resources_of s
 -- ---- all nodes
 
 pub records_may : (s : Scenario) → RecordsMay s
-unfolding RecordsMay HaveRoom
-records_may s ms legal counted = (
-  record {
-    sessions =
-        let both = both_allowed (world_of s) no_past ms tt legal in
-        let most = sessions_most (own place.Tc ms) in
-        let few = own_most place.Tc ms in
-        record { stand = both.stand; fly = both.fly; few = omega (arith, most, few, counted) };
-    resources = λ k u there.
-        let both = (all_come s k u there ms legal).records in
-        let most = memory_most u (own (place.Res u.number) ms) in
-        let few = own_most (place.Res u.number) ms in
-        record { stand = both.stand; fly = both.fly; few = omega (arith, most, few, counted) };
-  },
-  λ room k u there.
+unfolding RecordsMay
+records_may s ms legal counted = record {
+  sessions =
+      let both = both_allowed (world_of s) no_past ms tt legal in
+      let most = sessions_most (own place.Tc ms) in
+      let few = counted place.Tc in
+      record { stand = both.stand; fly = both.fly; few = omega (arith, most, few) };
+  resources = λ k u there.
+      let both = (all_come s k u there ms legal).records in
       let most = memory_most u (own (place.Res u.number) ms) in
-      let few = own_most (place.Res u.number) ms in
-      omega (arith, most, few, room),
-)
+      let few = counted (place.Res u.number) in
+      record { stand = both.stand; fly = both.fly; few = omega (arith, most, few) };
+}
+
+-- the own entries of a resource where an entry is are one more
+one_more : (k : ℕ) (event : Event) (m : Moment) (ms : List Moment) → m.place ≡ place.Res k → m.event ≡ Some event → length (own (place.Res k) (m ∷ ms)) ≡ suc (length (own (place.Res k) ms))
+one_more k event m ms at is =
+    let here : same_place (place.Res k) (place.Res k) ≡ true = grind (arith, nat_tests) in
+    ap (λ b. length (own_if b m.event m (own (place.Res k) ms))) (ap (same_place (place.Res k)) at ∙ here)
+    ∙ ap (λ e. length (own_if true e m (own (place.Res k) ms))) is
+
+pub has_room : (s : Scenario) → RecordsFit s
+unfolding RecordsFit HasRoomFor
+has_room s ms m few = here m.place m.event refl refl where
+  here : (p : Place) (event : Option Event) → m.place ≡ p → m.event ≡ event → HasRoomHere s no_past ms p event
+  here (place.Res (suc k)) (Some event) at is = λ u there.
+      let set = setup_at s k u there in
+      let number : u.number ≡ suc k = ap (λ (v : Setup). v.number) set.is ∙ omega arith in
+      let most = memory_most u (own (place.Res u.number) ms) in
+      let more = one_more (suc k) event m ms at is in
+      let same = ap (λ n. length (own (place.Res n) ms)) number in
+      let bound = few (place.Res (suc k)) in
+      omega (arith, most, more, same, bound)
+  here (place.Res zero) event at is = tt
+  here (place.Res (suc k)) None at is = tt
+  here place.Tc event at is = tt
+  here (place.Man n) event at is = tt
+  here place.Net event at is = tt

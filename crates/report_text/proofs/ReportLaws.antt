@@ -1,5 +1,5 @@
 -- What is kept of the entries of a legal history, from the first to the last, and the report that is printed of it.
-use Rattle.std.proofs.Common.{◌≡◌, ◌+◌, ◌<◌, ◌^◌, ℕ, zero, suc, List, [], ◌∷◌, ◌++◌, length, slice_get, Some, option_map, refl, sym, ap, ◌∙◌, subst, arith}
+use Rattle.std.proofs.Common.{◌≡◌, ◌+◌, ℕ, zero, suc, List, [], ◌∷◌, ◌++◌, length, slice_get, Some, option_map, refl, sym, ap, ◌∙◌, subst, arith}
 use Rattle.local_tables.specs.Rows.{Database, opened}
 use Rattle.scenario_form.specs.declared.scenarios.ResourceDef.{ResourceDef}
 use Rattle.scenario_form.specs.declared.scenarios.Scenario.{Scenario}
@@ -14,12 +14,13 @@ use Rattle.history_text.specs.Report.{names_of}
 use Rattle.history_text.specs.Worlds.{world_of}
 use Rattle.history_text.proofs.Worlds.{world_of-numbered}
 use Rattle.report_text.specs.Folds.{FoldedKept, first_from, first_folded, entry_step}
-use Rattle.report_text.specs.Following.{Follows, FollowsAll, HasResource, IsOfResource, Reports}
+use Rattle.report_text.specs.Following.{AreCounted, Follows, FollowsAll, HasResource, IsOfResource, Reports}
 use Rattle.report_text.specs.Keeping.{first_kept, known_with}
 use Rattle.report_text.specs.Sections.{text_kept}
-use Rattle.report_text.proofs.FoldLaws.{NodesMay, ActsHere, HaveRoom, next_follows}
+use Rattle.report_text.proofs.Counts.{AreFew, counted_front, few_below, few_of}
+use Rattle.report_text.proofs.FoldLaws.{NodesMay, ActsHere, HasRoomHere, next_follows}
 use Rattle.report_text.proofs.HeardLaws.{heard}
-use Rattle.report_text.proofs.Lists.{same_ends, snoc_not_nil, length-snoc}
+use Rattle.report_text.proofs.Lists.{same_ends, snoc_not_nil}
 use Rattle.report_text.proofs.NumberedLaws.{setup_at, length-resources}
 use Rattle.report_text.proofs.ResourceLaws.{known_now, boot_is, none_sorted, none_open}
 use Rattle.report_text.proofs.SectionLaws.{text_alike}
@@ -76,8 +77,11 @@ none_folded s (m ∷ ms) legal same counted = absurd (snoc_not_nil (entries ms) 
 
 -- what is shown of each legal history: its records may come one after the other
 unfoldable pub RecordsMay : Scenario → Type 0
-RecordsMay s =
-    (ms : List Moment) → Legal (world_of s) no_past ms → length ms + 1 < 2 ^ 32 → NodesMay s no_past ms × (length ms + 2 < 2 ^ 32 → HaveRoom s no_past ms)
+RecordsMay s = (ms : List Moment) → Legal (world_of s) no_past ms → AreFew ms → NodesMay s no_past ms
+
+-- an entry of a resource has room for its record
+unfoldable pub RecordsFit : Scenario → Type 0
+RecordsFit s = (ms : List Moment) (m : Moment) → AreFew (m ∷ ms) → HasRoomHere s no_past ms m.place m.event
 
 -- and the statements of its entries are those that the rules take
 unfoldable pub StatementsAre : Scenario → Type 0
@@ -85,32 +89,24 @@ StatementsAre s =
     (ms : List Moment) (m : Moment) (f : FoldedKept) (follows : Follows s no_past f ms) → Legal (world_of s) no_past (m ∷ ms)
     → ActsHere s no_past f ms follows m.stamp m.now m.cause m.step m.place m.event
 
-length-entries : (ms : List Moment) → length (entries ms) ≡ length ms
-length-entries [] = refl
-length-entries (m ∷ ms) = length-snoc (entries ms) (entry_of m) ∙ (let below = length-entries ms in omega (arith, below))
-
-module _ (s : Scenario) (records : RecordsMay s) (statements : StatementsAre s) (es : List Entry) (e : Entry) (f : FoldedKept) (before : FollowsAll s es f) where
-  more_by : (m : Moment) (ms : List Moment) → Legal (world_of s) no_past (m ∷ ms) → entries ms ≡ es → entry_of m ≡ e → length ms + 2 < 2 ^ 32
+module _ (s : Scenario) (records : RecordsMay s) (fit : RecordsFit s) (statements : StatementsAre s) (es : List Entry) (e : Entry) (f : FoldedKept) (before : FollowsAll s es f) where
+  more_by : (m : Moment) (ms : List Moment) → Legal (world_of s) no_past (m ∷ ms) → entries ms ≡ es → entry_of m ≡ e → AreCounted (entries (m ∷ ms))
       → Follows s no_past (entry_step s (names_of s) es e f) (m ∷ ms)
-  unfolding RecordsMay StatementsAre
+  unfolding RecordsMay RecordsFit StatementsAre
   more_by m ms legal front end counted =
-      let short : length es + 1 < 2 ^ 32 = let same = ap length (sym front) ∙ length-entries ms in omega (arith, same, counted) in
-      let follows = before ms legal.0 front short in
-      let here = records ms legal.0 (omega (arith, counted)) in
+      let few = few_of (m ∷ ms) counted in
+      let follows = before ms legal.0 front (subst AreCounted front (counted_front (entries ms) (entry_of m) counted)) in
       let told = heard (world_of s) no_past (world_of-numbered s) (covers_first (world_of s) no_past (record { sessions = refl; resources = λ n. (0, refl) })) ms legal.0 in
       subst (λ (d : Entry). Follows s no_past (entry_step s (names_of s) es d f) (m ∷ ms)) end
       (subst (λ (ds : List Entry). Follows s no_past (entry_step s (names_of s) ds (entry_of m) f) (m ∷ ms)) front
-      (next_follows s no_past f ms follows m.stamp m.now m.cause m.step m.place m.event legal.1 told.resources (here.1 counted) here.0
-      (records (m ∷ ms) legal (omega (arith, counted))).0 (statements ms m f follows legal)))
+      (next_follows s no_past f ms follows m.stamp m.now m.cause m.step m.place m.event legal.1 told.resources (fit ms m few) (records ms legal.0 (few_below m ms few))
+      (records (m ∷ ms) legal few) (statements ms m f follows legal)))
 
   pub next_folded : FollowsAll s (es ++ e ∷ []) (entry_step s (names_of s) es e f)
   next_folded [] legal same counted = absurd (snoc_not_nil es e (sym same))
   next_folded (m ∷ ms) legal same counted =
       let ends = same_ends (entries ms) es (entry_of m) e same in
-      more_by m ms legal ends.front ends.end
-      (let size : length (es ++ e ∷ []) ≡ length es + 1 = length-snoc es e in
-      let front : length es ≡ length ms = ap length (sym ends.front) ∙ length-entries ms in
-      omega (arith, counted, size, front))
+      more_by m ms legal ends.front ends.end (subst AreCounted (sym same) counted)
 
 -- ---- the report
 

@@ -1,7 +1,8 @@
 -- What is kept of a history, in the words of the rules of all nodes; and what a report says.
-use Rattle.std.specs.Prelude.{◌≡◌, ℕ, ◌+◌, ◌<◌, ◌^◌, List, length, map, slice_get, Some}
+use Rattle.std.specs.Prelude.{◌≡◌, ℕ, ◌+◌, ◌<◌, ◌^◌, List, length, filter, map, slice_get, Some}
 use Rattle.std.specs.List.Sorted.{IsStrictlySortedBy}
 use Rattle.std.specs.Map.{keys_of}
+use Rattle.seata_types.specs.declared.ids.Place.{Place}
 use Rattle.durable_records.specs.declared.coordinators.SessionRecord.{SessionRecord}
 use Rattle.durable_records.specs.Transactions.{Session, sessions}
 use Rattle.durable_records.specs.Branches.{Grant, grants}
@@ -12,7 +13,7 @@ use Rattle.resource_memory.specs.Known.{known_of}
 use Rattle.history_rules.specs.Own.{Left}
 use Rattle.history_rules.specs.ResourceMemory.{Setup, Memory, opening_tables}
 use Rattle.history_rules.specs.Nodes.{Past, no_past}
-use Rattle.history_rules.specs.Histories.{Moment, Legal, coordinator_left, memory_at}
+use Rattle.history_rules.specs.Histories.{Moment, Legal, coordinator_left, memory_at, same_place}
 use Rattle.history_rules.specs.Reports.{read_lines}
 use Rattle.history_text.specs.declared.entries.Entry.{Entry}
 use Rattle.history_text.specs.History.{entries}
@@ -68,9 +69,13 @@ pub record Follows (s : Scenario) (past : Past) (f : FoldedKept) (ms : List Mome
   pub sent : IsIndexOf f.sent ms
   pub reads : f.reads ≡ lines (read_text (names_of s)) (read_lines (world_of s) past ms)
 
--- a history's entries are so few that the records of each node are counted in 32 bits
+-- the entries of a place
+abbrev pub entries_at : Place → List Entry → List Entry
+entries_at p es = filter (λ (e : Entry). same_place p e.place) es
+
+-- the entries of each node are so few that its records are counted in 32 bits
 abbrev pub AreCounted : List Entry → Type 0
-AreCounted es = length es + 1 < 2 ^ 32
+AreCounted es = (p : Place) → length (entries_at p es) + 1 < 2 ^ 32
 
 -- said of each legal history of these entries on disks without records
 abbrev pub FollowsAll : Scenario → List Entry → FoldedKept → Type 0

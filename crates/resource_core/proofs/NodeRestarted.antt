@@ -30,7 +30,7 @@ use Rattle.history_rules.specs.Nodes.{Role, Coordinator, Manager, happens}
 use Rattle.history_rules.specs.Nodes.{Resource as ResourceRole}
 use Rattle.node_steps.specs.Durable.{HavePick, keepable, own_faults}
 use Rattle.node_steps.specs.Nodes.{NodeState}
-use Rattle.node_steps.specs.Promises.{AreTold, DisksFail, FailsRestart, IsRestartError, Restarts, StandsAsBefore, own_entry}
+use Rattle.node_steps.specs.Promises.{AreTold, DisksFail, IsRestartError, Restarts, StandsAsBefore, own_entry}
 use Rattle.resource_log.specs.Records.{fields_bytes, record_bytes}
 use Rattle.resource_memory.specs.Changes.{after}
 use Rattle.resource_memory.specs.Known.{Known}

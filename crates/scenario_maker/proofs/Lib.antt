@@ -1,2 +1,13 @@
+pub mod Calls
 pub mod DrawLemmas
+pub mod Lengths
 pub mod ListLemmas
+pub mod Numerals
+pub mod Proper
+pub mod ReadBack
+pub mod Servers
+pub mod Shapes
+pub mod Statements
+pub mod Texts
+pub mod Users
+pub mod Whole

@@ -11,7 +11,7 @@ range_more (suc n) a = let e : a + 1 + n ≡ a + suc n = omega arith in ap (λ l
 comma_suc : (n : ℕ) → comma (suc n) ≡ codes ","
 comma_suc n = let more : nat_lt 0 (suc n) ≡ true = search (rules, tests) in ap (λ there. cond there (codes ",") []) more
 
-listed_suc : (item : ℕ → List ℕ) (n : ℕ) → listed item (suc n) ≡ listed item n ++ (comma n ++ item n)
+pub listed_suc : (item : ℕ → List ℕ) (n : ℕ) → listed item (suc n) ≡ listed item n ++ (comma n ++ item n)
 unfolding listed
 listed_suc item zero = append-nil (item 0)
 listed_suc item (suc n) =

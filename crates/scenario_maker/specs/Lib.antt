@@ -1,3 +1,4 @@
 pub mod Draws
 pub mod Made
+pub mod Scenarios
 pub mod Worked

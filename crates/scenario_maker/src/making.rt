@@ -158,7 +158,7 @@ fn add_scenario(out: &mut String, number: u64, size: u32) -> Result<(), AllocErr
 }
 
 /// The text of the scenario that is made of a number for so many managers, 1 to 256: compact JSON,
-/// whose members stand in order of their names.
+/// whose members stand in order of their names. It can be read (`made_texts_are_scenarios`).
 pub fn make(alloc: Global, number: u64, size: u32) -> Result<String, NoMemory>
     requires least { 1 ≤ size }
     requires most { size ≤ 256 }

@@ -1,11 +1,22 @@
+pub mod AllBack
+mod AllLoaded
+mod AllStarted
+mod Apart
 mod Blank
+mod Closing
+mod Cut
+mod Framable
+mod LoadedResource
+mod Made
+mod NewCoordinator
+mod NewServers
+mod NotOpened
+pub mod Numbered
 mod OpenedCoordinator
 mod OpenedResource
-mod NotOpened
-mod Made
 mod Passes
 mod ReadParts
-mod Tables
-mod Framable
 mod SetupWithin
+mod Tables
 pub mod Returned
+pub mod Together

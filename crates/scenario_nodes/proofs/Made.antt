@@ -22,10 +22,6 @@ drop_end [] (suc k) e = refl
 drop_end (x ∷ xs) zero e = absurd (omega (arith, e))
 drop_end (x ∷ xs) (suc k) e = drop_end xs k (omega (arith, e))
 
-append_nil : {A : Type 0} (xs : List A) → xs ++ [] ≡ xs
-append_nil [] = refl
-append_nil (x ∷ xs) = ap (λ ys. x ∷ ys) (append_nil xs)
-
 -- ---- the calls of a manager
 
 abbrev with_action : (manager call : ℕ) → Option Action → List ((ℕ × ℕ) × Action) → List ((ℕ × ℕ) × Action)

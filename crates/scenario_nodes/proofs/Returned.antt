@@ -1,11 +1,15 @@
 -- Calls of a shelf one after the other: what they keep, and that each disk that was taken is given back, but those that are out.
-use Rattle.std.proofs.Common.{◌≡◌, ◌⊎◌, ⊎_elim, inl, inr, ◌∙◌, ℕ, Bool, List, IsTrue, sym, subst, arith}
+use Rattle.std.proofs.Common.{◌≡◌, ◌⊎◌, ⊎_elim, inl, inr, ◌∙◌, ℕ, Bool, List, IsTrue, codes, length, length-append, ap, sym, subst, arith}
 use Rattle.disk_model.specs.Shelf.{IsGivenBack, KeepsOthers, SamePlaces, SameUnder, ShelfState}
 use Rattle.disk_model.proofs.Named.{same_or_other}
-use Rattle.scenario_nodes.specs.Shelves.{AreGivenBack, HasDisk, IsDiskName, ReturnsAll, ReturnsBut, with_places}
+use Rattle.scenario_nodes.specs.Shelves.{AreGivenBack, HasDisk, IsDiskName, ReturnsAll, ReturnsBut, second_name, with_places}
 
 pub still : (t u : Bool) → u ≡ t → IsTrue t → IsTrue u
 still t u same told = subst (λ (v : Bool). IsTrue v) (sym same) told
+
+-- a node's second disk has a name of its own
+pub second_other : (name : List ℕ) → ¬ (second_name name ≡ name)
+second_other name same = let longer = length-append name (codes ".2") in let here = ap length same in omega (arith, longer, here)
 
 module _ {D : Type 0} where
   -- ---- what calls keep
@@ -44,7 +48,7 @@ module _ {D : Type 0} where
   all_same a = record { made = λ told n has. inl has; kept = λ told n had. had }
 
   -- what a call left under other names, and under its own
-  everywhere : (name : List ℕ) (a b : ShelfState D) → SameUnder name a b → KeepsOthers (λ n. n ≡ name) a b → (n : List ℕ) → SameUnder n a b
+  pub everywhere : (name : List ℕ) (a b : ShelfState D) → SameUnder name a b → KeepsOthers (λ n. n ≡ name) a b → (n : List ℕ) → SameUnder n a b
   everywhere name a b same keeps n =
       ⊎_elim (λ is. subst (λ (m : List ℕ). SameUnder m a b) (sym is) same) (λ other. keeps.others n other) (same_or_other n name)
 

@@ -36,19 +36,22 @@ pub record AreRead (stmts : List Stmt) : Type 0 where
   pub few : length stmts ≤ STATEMENTS
   pub each : All IsRead stmts
 
--- the same of the parts of a TCC call, of a call's work, of a call and of a local
+-- the same of the parts of a TCC call
 pub record IsReadAction (action : Action) : Type 0 where
   pub tries : AreRead action.tries
   pub confirms : AreRead action.confirms
   pub cancels : AreRead action.cancels
 
+-- of a call's work
 abbrev pub IsReadWork : Work → Type 0
 IsReadWork (work.At stmts) = AreRead stmts
 IsReadWork (work.Tcc action) = IsReadAction action
 
+-- of a call
 abbrev pub IsReadCall : ℕ × Work → Type 0
 IsReadCall call = IsReadWork call.1
 
+-- of a local
 abbrev pub IsReadLocal : ℕ × List Stmt → Type 0
 IsReadLocal one = AreRead one.1
 
@@ -64,16 +67,18 @@ pub record AreFramable (stmts : List Stmt) : Type 0 where
   pub layout : FitsStmts stmts
   pub limits : AreStmtsWithin stmts
 
--- the same of the parts of a TCC call, of a call's work and of a call
+-- the same of the parts of a TCC call
 pub record IsFramableAction (action : Action) : Type 0 where
   pub tries : AreFramable action.tries
   pub confirms : AreFramable action.confirms
   pub cancels : AreFramable action.cancels
 
+-- of a call's work
 pub record IsFramableWork (asked : Work) : Type 0 where
   pub layout : FitsWork asked
   pub limits : IsWorkWithin asked
 
+-- of a call
 abbrev pub IsFramableCall : ℕ × Work → Type 0
 IsFramableCall call = IsFramableWork call.1
 

@@ -16,7 +16,7 @@ use std::alloc::Global;
 
 /// Takes the coordinator's two disks from the shelf and opens it on them. Where it isn't opened they are given back; at `Store`
 /// the shelf or one of them counted a fault, whatever they tell.
-pub fn open_coordinator<H: Shelf>(
+pub(crate) fn open_coordinator<H: Shelf>(
     alloc: Global,
     scenario: &Scenario,
     shelf: &mut H,
@@ -63,7 +63,7 @@ pub fn open_coordinator<H: Shelf>(
 }
 
 /// Gives the coordinator's two disks back.
-pub fn close_coordinator<H: Shelf>(shelf: &mut H, coordinator: Coordinator<H::D>)
+pub(crate) fn close_coordinator<H: Shelf>(shelf: &mut H, coordinator: Coordinator<H::D>)
     requires { HasBoth (H.state shelf.old) coordinator_name }
     ensures back { AreGivenBack (H.state shelf.new)
         coordinator_name (coordinator_disks coordinator) }

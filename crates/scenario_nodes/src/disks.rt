@@ -16,7 +16,7 @@ pub(crate) const FIRST_DISK: &str = "tc";
 pub(crate) const SECOND_DISK: &str = "tc.2";
 
 /// The name of the second disk of a node with this name.
-pub fn second_name(alloc: Global, name: &str) -> Result<String, NoMemory>
+pub(crate) fn second_name(alloc: Global, name: &str) -> Result<String, NoMemory>
     ensures { IfOk result (λ second. string_bytes second ≡ name_of_second name.now) }
 {
     let mut second = String::from_str(alloc, name)?;
@@ -35,7 +35,8 @@ fn shelf_fault(place: Place, error: ShelfError) -> RunFault
     }
 }
 
-/// Takes both disks of the node at a place. Where the second can't be had the first is given back, and the second has no place.
+/// Takes both disks of the node at a place. Where the second can't be had the first is given back as it was
+/// taken, and the second has no place.
 pub(crate) fn take_disks<H: Shelf>(
     alloc: Global,
     shelf: &mut H,
@@ -49,8 +50,8 @@ pub(crate) fn take_disks<H: Shelf>(
     ensures first { IfOk result (λ disks. IsBlank size (H.D.state disks.0)) }
     ensures second { IfOk result (λ disks. IsBlank size (H.D.state disks.1)) }
     ensures both { OnOk result (HasBoth (H.state shelf.new) first.now) }
-    ensures refused { IfErr result (IsNotHad place (H.state shelf.old)
-        (H.state shelf.new) first.now) }
+    ensures refused { IfErr result (IsNotHad H.D.state size place
+        (H.state shelf.old) (H.state shelf.new) first.now) }
     ensures keeps { KeepsOthers (IsDiskName first.now) (H.state shelf.old) (H.state shelf.new) }
     ensures out { OnOk result (ReturnsBut (IsDiskName first.now)
         (H.state shelf.old) (H.state shelf.new)) }

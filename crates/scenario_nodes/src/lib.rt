@@ -1,15 +1,17 @@
 //! The nodes of a scenario on the disks of a shelf: how each is opened, and how its disks are given back.
 #![tactic(auto)]
 
+mod closings;
 mod coordinators;
 mod disks;
+mod loading;
 mod managers;
-mod resources;
+mod openings;
+pub mod servers;
 mod setups;
 mod types;
 
-pub use coordinators::{close_coordinator, open_coordinator};
-pub use disks::second_name;
+pub use closings::close_servers;
 pub use managers::new_manager;
-pub use resources::{close_resource, open_resource};
-pub use setups::setup_of;
+pub use openings::{open_servers, second_names};
+pub use servers::Servers;

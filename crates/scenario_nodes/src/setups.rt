@@ -19,7 +19,7 @@ use seata_types::{Action, Duplicate, List, NoMemory, Stmt, Work};
 use std::alloc::Global;
 
 /// Adds one behind the others.
-fn put<T: Drop>(made: &mut Vec<T>, item: T) -> Result<(), NoMemory>
+pub(crate) fn put<T: Drop>(made: &mut Vec<T>, item: T) -> Result<(), NoMemory>
     ensures { OnOk result (made.new.items ≡ made.old.items ++ item ∷ []) }
 {
     made.push(item)?;
@@ -46,8 +46,10 @@ fn put_calls(
 ) -> Result<(), NoMemory>
     requires few { length calls.now ≤ CALLS }
     requires read { All IsReadCall calls.now }
-    ensures made { OnOk result (entries_of made.new.items ≡ entries_of made.old.items ++ worlds.call_actions resource manager 1 calls.now) }
-    ensures within { OnOk result (AllByRecursion HasActionWithin made.old.items → AllByRecursion HasActionWithin made.new.items) }
+    ensures made { OnOk result (entries_of made.new.items ≡
+        entries_of made.old.items ++ worlds.call_actions resource manager 1 calls.now) }
+    ensures within { OnOk result (AllByRecursion HasActionWithin made.old.items →
+        AllByRecursion HasActionWithin made.new.items) }
 {
     for (k, (at, work)) in calls.iter().enumerate() {
         if let Some(action) = action_here(resource, *at, work) {
@@ -67,7 +69,8 @@ fn actions_of(
 ) -> Result<List<(u16, u16, Action)>, NoMemory>
     requires few { length managers.now ≤ MANAGERS }
     requires read { All HasReadCalls managers.now }
-    ensures made { IfOk result (λ made. entries_of made ≡ worlds.actions_at resource 1 managers.now) }
+    ensures made { IfOk result (λ made.
+        entries_of made ≡ worlds.actions_at resource 1 managers.now) }
     ensures within { IfOk result (λ made. AllByRecursion HasActionWithin made) }
 {
     let mut made = Vec::new(alloc);
@@ -106,7 +109,7 @@ fn locals_of(
 }
 
 /// What the resource with a number, counted from 1, and a definition is.
-pub fn setup_of(
+pub(crate) fn setup_of(
     alloc: Global,
     scenario: &Scenario,
     number: u16,
@@ -115,7 +118,8 @@ pub fn setup_of(
     requires runnable { IsRunnable scenario.now }
     requires counted { IsBetween 1 (length scenario.now.resources) number }
     requires there { slice_get scenario.now.resources (number - 1) ≡ Some def.now }
-    ensures setup { IfOk result (λ setup. setup_at number setup ≡ worlds.setup_of scenario.now number def.now) }
+    ensures setup { IfOk result (λ setup.
+        setup_at number setup ≡ worlds.setup_of scenario.now number def.now) }
     ensures within { IfOk result (IsSetupWithin number) }
 {
     tell_rows(def.opening.as_slice());

@@ -1,5 +1,5 @@
-//! `seata_lab`: reads a scenario from standard input, replays it, and prints the whole history; or reads frames and
-//! prints a line for each.
+//! `seata_lab`: reads a scenario from standard input, replays it, and prints the whole history; or reads frames and prints a line
+//! for each; or prints the scenario that is made of a number.
 #![tactic(auto)]
 
 use disk_model::MemShelf;

@@ -1,0 +1,12 @@
+//! What a call of the program does.
+
+/// What is done for words.
+#[derive(Clone, Copy)]
+pub enum Work {
+    /// A replay that keeps nothing.
+    Replay,
+    Frames,
+    Make { number: u64, size: u32 },
+    /// The usage line, for words outside the grammar, and for those whose work isn't built.
+    Usage,
+}

@@ -1,0 +1,5 @@
+mod Joined
+mod Numerals
+mod Ranges
+mod Spelling
+mod Swapped

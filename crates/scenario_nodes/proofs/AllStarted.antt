@@ -1,0 +1,114 @@
+-- The resources of a scenario that were loaded, once each wrote its boot or one didn't.
+use Rattle.std.proofs.Common.{◌≡◌, ◌≤◌, ◌∙◌, ◌+◌, ◌++◌, ℕ, List, ◌∷◌, map, length, length-append, ap, sym, subst, arith}
+use Rattle.std.specs.List.{AllByRecursion}
+use Rattle.std.proofs.lemmas.List.{length-map, map-append}
+use Rattle.disk_model.specs.Disk.{DiskState}
+use Rattle.disk_model.specs.Shelf.{ShelfState}
+use Rattle.seata_types.specs.declared.errors.OpenError.{OpenError}
+use Rattle.seata_types.specs.declared.ids.Place.TheVariants as place
+use Rattle.seata_types.specs.declared.limits.TheConstants.{DISK_LEAST}
+use Rattle.scenario_form.specs.declared.scenarios.ResourceDef.{ResourceDef}
+use Rattle.scenario_form.specs.declared.scenarios.Scenario.{Scenario}
+use Rattle.resource_core.specs.declared.nodes.Resource.{Resource}
+use Rattle.resource_core.specs.declared.opening.Loaded.{Loaded}
+use Rattle.resource_core.specs.NodeOpening.{IsUp, loaded_disks}
+use Rattle.node_seat.specs.Faults.{open_fault}
+use Rattle.node_seat.specs.declared.faults.RunFault.{RunFault}
+use Rattle.scenario_nodes.specs.Loading.{AreLoaded, WriteFirst, WritesBoot}
+use Rattle.scenario_nodes.specs.Nodes.{AreNewResources, IsNewResource, Server, name_of, resource_disks, resource_role, resource_server, resource_servers}
+use Rattle.scenario_nodes.specs.Opening.{HaveCounted, IsUnopened, ShowNoEntry, ShowNoRecord, StopsStarting}
+use Rattle.scenario_nodes.specs.Shelves.{AreGivenBack, HasBoth, pair_of}
+use Rattle.scenario_nodes.specs.Together.{AreEach, GivesBack, HaveBoth, numbered}
+use Rattle.scenario_nodes.proofs.AllBack.{all_back}
+use Rattle.scenario_nodes.proofs.AllLoaded.{IsLoadedAt, all_show}
+use Rattle.scenario_nodes.proofs.LoadedResource.{new_shows, start_counted, start_unopened, started}
+use Rattle.scenario_nodes.proofs.Numbered.{length_numbered, names_append, names_of, number_of}
+use Rattle.scenario_nodes.proofs.Together.{IsSplit, all_behind, all_front, each_all, each_length, each_map, each_mapped, each_parts, each_split, each_then, each_weaker}
+
+-- the resource behind a number was opened
+abbrev IsNewAt : {D : Type 0} → (D → DiskState) → Scenario → ℕ × ResourceDef → Resource D → Type 0
+IsNewAt state s one r = IsNewResource state s one.0 one.1 r
+
+-- the disks of those that wrote their boots, of the next one, and of those that were loaded
+abbrev pub all_disks : {D : Type 0} → List (Resource D) → D × D → List (Loaded D) → List (D × D)
+all_disks started disks loaded = map resource_disks started ++ disks ∷ map loaded_disks loaded
+
+-- each of them takes records
+pub all_up : {D : Type 0} (state : D → DiskState) (s : Scenario) (defs : List (ℕ × ResourceDef)) (loaded : List (Loaded D)) → AreLoaded state s defs loaded → AllByRecursion IsUp loaded
+all_up state s defs loaded each = each_all (IsLoadedAt state s) IsUp defs loaded (λ one l is. is.loaded.up) each
+
+module _ {D : Type 0} (state : D → DiskState) (s : Scenario) (large : DISK_LEAST ≤ s.disk) where
+  -- each is a new resource, and its disks show it
+  pub all_started : (defs : List (ℕ × ResourceDef)) (loaded : List (Loaded D)) (nodes : List (Resource D)) → AreLoaded state s defs loaded → AreEach (WritesBoot state) loaded nodes → AreNewResources state s defs nodes
+  all_started defs loaded nodes each boots =
+      each_then (IsLoadedAt state s) (WritesBoot state) (IsNewAt state s) defs loaded nodes (λ one l r is boot. started state s large one.0 one.1 l is r boot) each boots
+
+  nodes_show : (defs : List (ℕ × ResourceDef)) (nodes : List (Resource D)) → AreNewResources state s defs nodes
+      → AreEach (λ (v : Server) (d : D × D). ShowNoEntry state s.disk v.role d) (map (resource_server s) defs) (map resource_disks nodes)
+  nodes_show defs nodes each =
+      each_mapped (λ (v : Server) (d : D × D). ShowNoEntry state s.disk v.role d) (resource_server s) defs (map resource_disks nodes)
+      (each_map (λ (one : ℕ × ResourceDef) (d : D × D). ShowNoEntry state s.disk (resource_server s one).role d) resource_disks defs nodes
+      (each_weaker (IsNewAt state s) (λ (one : ℕ × ResourceDef) (r : Resource D). ShowNoEntry state s.disk (resource_server s one).role (resource_disks r)) defs nodes
+      (λ one r is. new_shows state s large one.0 one.1 r is) each))
+
+  -- one didn't write its boot, and all were closed
+  module _ (loaded left : List (Loaded D)) (nodes : List (Resource D)) (failed : OpenError × D × D) (each : AreLoaded state s (numbered 1 s.resources) loaded) (w : WriteFirst state loaded left nodes failed) where
+    abbrev parts : IsSplit (IsLoadedAt state s) (numbered 1 s.resources) w.before w.next left
+    parts = each_split (IsLoadedAt state s) (numbered 1 s.resources) w.before w.next left (subst (AreLoaded state s (numbered 1 s.resources)) w.all each)
+
+    names_split : names_of s (numbered 1 s.resources) ≡ names_of s parts.before ++ parts.at.1.name ∷ names_of s parts.behind
+    names_split = ap (names_of s) parts.all ∙ names_append s parts.before (parts.at ∷ parts.behind)
+
+    fresh : AreNewResources state s parts.before nodes
+    fresh = all_started parts.before w.before nodes parts.front w.each
+
+    count : length parts.before ≡ length nodes
+    count = each_length (IsNewAt state s) parts.before nodes fresh
+
+    number_is : parts.at.0 ≡ length nodes + 1
+    number_is =
+        let number = number_of 1 s.resources parts.before parts.at parts.behind parts.all in
+        let same = count in
+        omega (arith, number, same)
+
+    -- as many as there are definitions
+    pub all_counted : length nodes + 1 + length left ≡ length s.resources
+    all_counted =
+        let same = count in
+        let behind = each_length (IsLoadedAt state s) parts.behind left parts.rest in
+        let all = ap length parts.all in
+        let sum = length-append parts.before (parts.at ∷ parts.behind) in
+        let numbers = length_numbered 1 s.resources in
+        omega (arith, same, behind, all, sum, numbers)
+
+    pub starting_stops : (mid new : ShelfState D) (told : RunFault) → told ≡ open_fault (place.Res (length nodes + 1)) failed.0 → HaveBoth new (names_of s (numbered 1 s.resources))
+        → GivesBack (names_of s (numbered 1 s.resources)) (all_disks nodes (failed.1, failed.2) left) mid new → StopsStarting state s.disk (resource_servers s) new told
+    starting_stops mid new told is taken gives =
+        let same = count in
+        let names_count = length-map (map (resource_server s) parts.before) name_of in
+        let servers_count = length-map parts.before (resource_server s) in
+        let disks_count = length-map nodes (resource_disks {D = D}) in
+        let all_taken = subst (HaveBoth new) names_split taken in
+        let later = all_behind (HasBoth new) (names_of s parts.before) (parts.at.1.name ∷ names_of s parts.behind) all_taken in
+        let backs = each_parts (AreGivenBack new) (names_of s parts.before) (parts.at.1.name ∷ names_of s parts.behind) (map resource_disks nodes) ((failed.1, failed.2) ∷ map loaded_disks left)
+        (omega (arith, same, names_count, servers_count, disks_count))
+        (subst (λ (names : List (List ℕ)). AreEach (AreGivenBack new) names (all_disks nodes (failed.1, failed.2) left)) names_split gives.back) in
+        let fault : told ≡ open_fault (place.Res parts.at.0) failed.0 = is ∙ ap (λ (n : ℕ). open_fault (place.Res n) failed.0) (sym number_is) in
+        record {
+          before = map (resource_server s) parts.before;
+          server = resource_server s parts.at;
+          behind = map (resource_server s) parts.behind;
+          all = ap (map (resource_server s)) parts.all ∙ map-append (resource_server s) parts.before (parts.at ∷ parts.behind);
+          started = all_back (ShowNoEntry state s.disk) (map (resource_server s) parts.before) (map resource_disks nodes) new
+              (all_front (HasBoth new) (names_of s parts.before) (parts.at.1.name ∷ names_of s parts.behind) all_taken) backs.0 (nodes_show parts.before nodes fresh);
+          refused = record {
+            disks = (failed.1, failed.2);
+            taken = later.0;
+            back = backs.1.0;
+            counted = subst (λ (f : RunFault). HaveCounted (place.Res parts.at.0) (pair_of state (failed.1, failed.2)) f) (sym fault)
+                (start_counted state s large parts.at.0 parts.at.1 w.next parts.here failed w.fails);
+            unopened = λ all. subst (λ (f : RunFault). IsUnopened (resource_role s parts.at.0 parts.at.1) s.disk (pair_of state (failed.1, failed.2)) f) (sym fault)
+                (start_unopened state s large parts.at.0 parts.at.1 w.next parts.here failed w.fails all);
+          };
+          unwritten = all_back (ShowNoRecord state s.disk) (map (resource_server s) parts.behind) (map loaded_disks left) new later.1 backs.1.1 (all_show state s large parts.behind left parts.rest);
+        }

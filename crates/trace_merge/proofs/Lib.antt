@@ -1,0 +1,3 @@
+mod Order
+mod Unique
+pub mod Histories
