@@ -17,7 +17,7 @@ use crate::undo_entries::standing;
 use disk_model::Disk;
 use local_txn::{ExecError, LocalTxns, OpenTxn};
 use resource_store::Store;
-use seata_types::{Leg, Stmt, StoreError, Ticket, Why, Xid};
+use seata_types::{Leg, List, Shared, Stmt, StoreError, Ticket, Why, Xid};
 use std::alloc::Global;
 
 /// Opens the local transaction of an AT call, on the tables that the store knows: the ticket, or the first statement without a
@@ -29,7 +29,7 @@ pub fn phase_one<D: Disk>(
     xid: Xid,
     call: u16,
     manager: u16,
-    stmts: &[Stmt],
+    stmts: &Shared<List<Stmt>>,
 ) -> Result<Ticket, ExecError>
     requires statements { length stmts.now ≤ FIELD_ITEMS }
     requires tickets { txns.old.opened < 2 ^ 32 - 1 }

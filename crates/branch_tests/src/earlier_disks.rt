@@ -74,6 +74,26 @@ fn open(
     }
 }
 
+/// The same, of disks that are read and not changed.
+fn read(
+    alloc: Global,
+    disks: (MemDisk, MemDisk),
+    schema: Schema,
+    opening: List<(Text, Row)>,
+) -> Result<Resource, Fail>
+    requires schema { schema ≡ accounts }
+    requires opening { opening ≡ account_rows }
+{
+    let (mut first, mut second) = disks;
+    if first.restart(0).is_err() || second.restart(0).is_err() {
+        return Err(Fail::Failed);
+    }
+    match Store::read(alloc, first, second, 1, schema, opening) {
+        Ok(store) => Ok(store),
+        Err((error, _, _)) => Err(fail_of(error)),
+    }
+}
+
 /// Two disks of which the first begins with these parts, and the second is blank.
 fn disks(alloc: Global, parts: &[&[u8]]) -> Result<(MemDisk, MemDisk), Fail> {
     let bytes = joined(alloc, parts)?;
@@ -327,6 +347,22 @@ fn are_opened(alloc: Global) -> Result<(), Fail> {
         }
     }
     Ok(())
+}
+
+/// Whether disks with the record of a first boot are read as it, and no boot is added.
+fn is_read(alloc: Global) -> Result<(), Fail> {
+    let schema = accounts(alloc)?;
+    let opening = opening(alloc)?;
+    let disks = disks(alloc, &[&FIRST_BOOT])?;
+    let store = read(alloc, disks, schema, opening)?;
+    let is_read = store.boot() == 1 && store.records() == 1;
+    drop(store);
+    so(is_read, "reading adds no boot")
+}
+
+#[test]
+fn disks_are_read_without_a_boot(rt: HostRuntime) -> Result<(), Fail> {
+    is_read(rt.alloc())
 }
 
 #[test]

@@ -44,7 +44,7 @@ fn execute(
     ensures { txns.new.opened ≤ txns.old.opened + 1 }
 {
     let stmts = statements(alloc, words)?;
-    let answer = txns.execute(alloc, Xid(xid), 1, 1, stmts.as_slice(), tables);
+    let answer = txns.execute(alloc, Xid(xid), 1, 1, &stmts, tables);
     Ok(told(&answer))
 }
 
@@ -60,7 +60,7 @@ fn execute_and_withdraw(
     ensures { txns.new.opened ≤ txns.old.opened + 1 }
 {
     let stmts = statements(alloc, words)?;
-    match txns.execute(alloc, Xid(xid), 1, 1, stmts.as_slice(), tables) {
+    match txns.execute(alloc, Xid(xid), 1, 1, &stmts, tables) {
         Ok(ticket) => {
             txns.withdraw(ticket);
             Ok(ticket.seq)

@@ -3,7 +3,9 @@ ghost use Rattle.std.specs.Prelude.{◌≡◌, [], length, IfOk};
 ghost use Rattle.branch_tests.specs.Accounts.{account_table, accounts};
 
 use local_tables::{ColType, Schema, TableDef, Tables};
-use seata_types::{BranchId, BranchKind, Leg, List, NoMemory, RowKey, Stmt, Text, Value, Xid};
+use seata_types::{
+    BranchId, BranchKind, Leg, List, NoMemory, RowKey, Shared, Stmt, Text, Value, Xid,
+};
 use sql_reader::read_stmt;
 use std::alloc::{AllocError, AllocFailed, Global};
 
@@ -127,11 +129,14 @@ pub fn tables(alloc: Global) -> Result<Tables, Fail> {
 }
 
 /// The one statement that a text is.
-pub fn statements(alloc: Global, words: &str) -> Result<Vec<Stmt>, Fail>
-    ensures { IfOk result (λ stmts. length stmts.items ≡ 1) }
+pub fn statements(alloc: Global, words: &str) -> Result<Shared<List<Stmt>>, Fail>
+    ensures { IfOk result (λ stmts. length stmts ≡ 1) }
 {
     match read_stmt(alloc, words) {
-        Ok(stmt) => Ok(Vec::from_array(alloc, [stmt])?),
+        Ok(stmt) => {
+            let stmts = Vec::from_array(alloc, [stmt])?;
+            Ok(Shared::new(alloc, List::of(stmts))?)
+        }
         Err(_) => Err(Fail::Failed),
     }
 }

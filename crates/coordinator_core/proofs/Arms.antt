@@ -6,7 +6,7 @@ use Rattle.disk_model.specs.declared.stoppable.Stop.TheVariants.{Armed}
 use Rattle.disk_model.specs.declared.stoppable.Stoppable.{Stoppable}
 use Rattle.disk_journal.specs.Reading.{row_length}
 use Rattle.journal_checkpoint.specs.declared.types.Found.{Found}
-use Rattle.journal_checkpoint.specs.Keeping.{KeepsPair, active_disk, other_disk, is_second, with_active}
+use Rattle.journal_checkpoint.specs.Keeping.{AreSized, KeepsPair, active_disk, other_disk, is_second, with_active}
 use Rattle.journal_checkpoint.specs.Pairs.{chosen}
 use Rattle.memory_store.specs.Settling.{KeepsOrSettled, settled}
 use Rattle.seata_types.specs.declared.acts.Act.TheVariants as act
@@ -77,6 +77,7 @@ module _ {D : Type 0} (state : D → DiskState) (calls : ℕ) where
     active = k.active;
     passive = k.passive;
     side = k.side;
+    extent = k.extent;
   }
 
   keeps_armed : (s : Sessions (Stoppable D)) (rs : List SessionRecord) → KeepsRecords (state_of state) rs s → KeepsRecords (state_of state) rs (armed s)
@@ -89,7 +90,7 @@ module _ {D : Type 0} (state : D → DiskState) (calls : ℕ) where
 
   settled_armed : (s : Sessions (Stoppable D)) (found : Found) → KeepsOrSettled (state_of state) (meaning s) found (known s) (twin s) → KeepsOrSettled (state_of state) (meaning s) found (known s) (twin (armed s))
   settled_armed s found (inl k) = inl (kept_armed s found k)
-  settled_armed s found (inr (writable, k)) = inr (writable, kept_armed s (settled (meaning s) (known s)) k)
+  settled_armed s found (inr (writable, k)) = inr (writable, kept_armed s (settled (meaning s) found (known s)) k)
 
   leaves_armed : (second : Bool) (a o : Stoppable D) (c : List ℕ)
       → ((state_of state (chosen second (armed_disk calls a) o)).may_leave c → (state_of state (chosen second a o)).may_leave c)
@@ -103,6 +104,11 @@ module _ {D : Type 0} (state : D → DiskState) (calls : ℕ) where
   size_armed false a o = (refl, refl)
   size_armed true a o = (refl, refl)
 
+  sized_armed : (s : Sessions (Stoppable D)) (size : ℕ) → AreSized (state_of state) (twin (armed s)) size → AreSized (state_of state) (twin s) size
+  sized_armed s size sized =
+      let same = size_armed (is_second (twin s)) (active_disk (twin s)) (other_disk (twin s)) in
+      record { first = sym same.0 ∙ sized.first; second = sym same.1 ∙ sized.second }
+
   back_armed : (s : Sessions (Stoppable D)) (pick : ℕ) (before : Sessions (Stoppable D)) → BringsBack (state_of state) pick before s → BringsBack (state_of state) pick before (armed s)
   back_armed s pick before back = record {
     a = back.a;
@@ -115,6 +121,7 @@ module _ {D : Type 0} (state : D → DiskState) (calls : ℕ) where
       held = back.is.held;
       kept = settled_armed s back.is.found back.is.kept;
       short = back.is.short;
+      extent = λ size sized. back.is.extent size (sized_armed s size sized);
       same = λ one two.
           let alone = back.is.same (subst (λ (n : ℕ). 2 * row_length back.is.found.records ≤ n) (size_armed (is_second (twin s)) (active_disk (twin s)) (other_disk (twin s))).0 one)
           (subst (λ (n : ℕ). 2 * row_length back.is.found.records ≤ n) (size_armed (is_second (twin s)) (active_disk (twin s)) (other_disk (twin s))).1 two) in (

@@ -13,7 +13,7 @@ abbrev pub zeros : ℕ → List ℕ
 zeros n = replicate n 0
 
 abbrev pub nothing : Found
-nothing = record { snapshot = None; records = [] }
+nothing = record { second = false; generation = 0; snapshot = None; records = [] }
 
 blank_head : (n : ℕ) → 0 < n → head_of (zeros n) ≡ head.Shut
 unfolding head_in

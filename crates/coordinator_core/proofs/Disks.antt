@@ -6,7 +6,7 @@ use Rattle.disk_model.specs.Disk.{DiskState, IsLawful, SameKind, KeepsRest, Pass
 use Rattle.disk_model.specs.Stop.{below, stop_of, failures_of, state_of, stopped_lawful}
 use Rattle.disk_model.specs.declared.stoppable.Stoppable.{Stoppable}
 use Rattle.journal_checkpoint.specs.Images.{Pair}
-use Rattle.journal_checkpoint.specs.Keeping.{active_disk, other_disk, is_second}
+use Rattle.journal_checkpoint.specs.Keeping.{active_disk, other_disk, is_second, twin_extent}
 use Rattle.journal_checkpoint.specs.Pairs.{chosen}
 use Rattle.journal_checkpoint.proofs.Kept.{kept_pairs}
 use Rattle.memory_store.specs.Keeping.{Takes, Falls}
@@ -18,7 +18,7 @@ use Rattle.seata_types.specs.declared.messages.Outgoing.{Outgoing}
 use Rattle.durable_records.specs.declared.coordinators.SessionRecord.{SessionRecord}
 use Rattle.session_store.specs.declared.sessions.Sessions.{Sessions}
 use Rattle.session_store.specs.Standing.{StandsForSessions}
-use Rattle.session_store.specs.Keeping.{twin, is_down as sessions_down, managers_of, resources_of, SameOpening, SameDisks, StandsFor, WithOrWithout, KeepsRecords, Adds, Loses}
+use Rattle.session_store.specs.Keeping.{twin, is_down as sessions_down, managers_of, resources_of, SameOpening, SameDisks, StandsFor, AtOrBehind, KeepsRecords, Adds, Loses}
 use Rattle.history_rules.specs.Own.{Own, Given, Stopped, Crashed, still, added}
 use Rattle.history_rules.specs.Devices.{calls_left, fault_entries, is_short, may_stand, spent, is_down as down_by}
 use Rattle.history_rules.specs.CoordinatorMemory.{sessions_left, session_record}
@@ -160,12 +160,12 @@ module _ {D : Type 0} (state : D → DiskState) (law : (d : Stoppable D) → IsL
       cause = cause_by l.falls.cause
 
       image_by : (b : Bool) → may_stand (calls_left false os) ≡ b → (x y : List ℕ) → (pair_of state s').first.may_leave x → (pair_of state s').second.may_leave y
-          → WithOrWithout s' r rs x y → StandsFor s' rs x y ⊎ ((q : SessionRecord) × ((if b then session_record now (Given given) done else None) ≡ Some q) × StandsFor s' (q ∷ rs) x y)
-      image_by b is x y first second (inl e) = inl e
-      image_by true is x y first second (inr e) = inr (r, asked, e)
+          → AtOrBehind s' r rs (twin_extent (twin s)) x y → StandsFor s' rs x y ⊎ ((q : SessionRecord) × ((if b then session_record now (Given given) done else None) ≡ Some q) × StandsFor s' (q ∷ rs) x y)
+      image_by b is x y first second (inl e) = inl e.0
+      image_by true is x y first second (inr e) = inr (r, asked, e.0)
       image_by false is x y first second (inr e) =
           let few = cut_is (calls_left false os) is in
-          inl (pairs_now (state_of state) _ (twin s') (l.not_begun rs kept_now few.0 (d.left upos ∙ few.1) few.2) x y first second)
+          inl (pairs_now (state_of state) _ (twin s') (l.not_begun rs kept_now few.0 (d.left upos ∙ few.1) few.2) x y first second).0
 
       pub on_lost : OnDisks state s' past (own_step given now (cut done) ∷ os)
       on_lost = record {

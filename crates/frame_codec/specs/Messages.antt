@@ -94,6 +94,22 @@ FitsMessage (message.Call xid manager resource call work) =
     FitsXid xid × (manager < 2 ^ 16) × (resource < 2 ^ 16) × (call < 2 ^ 16) × FitsWork work
 FitsMessage (message.Answer xid call given) = FitsXid xid × (call < 2 ^ 16) × FitsAnswer given
 
+-- a message that tells a resource how a branch ends, or its answer
+abbrev pub IsOfSecondPhase : Message → Type 0
+IsOfSecondPhase (message.BranchCommit xid id mode manager call) = Unit {0}
+IsOfSecondPhase (message.BranchCommitted xid id status stmt) = Unit {0}
+IsOfSecondPhase (message.BranchRollback xid id mode manager call) = Unit {0}
+IsOfSecondPhase (message.BranchRollbacked xid id status stmt) = Unit {0}
+IsOfSecondPhase _ = ⊥
+
+-- a registration, a lock query, or the answer to one of these
+abbrev pub IsOfLocks : Message → Type 0
+IsOfLocks (message.Register xid resource call ticket mode hold check) = Unit {0}
+IsOfLocks (message.RegisterAnswer ticket xid given) = Unit {0}
+IsOfLocks (message.LockQuery resource ticket check) = Unit {0}
+IsOfLocks (message.LockAnswer ticket held) = Unit {0}
+IsOfLocks _ = ⊥
+
 -- ---- the fields of each message
 
 -- each message by its fields, in the order in which they are written

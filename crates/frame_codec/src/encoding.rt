@@ -6,7 +6,7 @@ ghost use Rattle.byte_fields.specs.Layout.{FitsKeys, keys_bytes, ticket_bytes};
 ghost use Rattle.byte_fields.specs.Parts.{kind_code, xid_bytes, branch_bytes, joined};
 ghost use Rattle.frame_codec.specs.Parts.{FitsRegistered, FitsHeld, FitsAnswer, registered_bytes, held_bytes, answer_bytes};
 ghost use Rattle.frame_codec.specs.Works.{FitsWork, work_bytes};
-ghost use Rattle.frame_codec.specs.Messages.{FitsMessage, type_code, fields_bytes};
+ghost use Rattle.frame_codec.specs.Messages.{FitsMessage, IsOfSecondPhase, IsOfLocks, type_code, fields_bytes};
 ghost use Rattle.frame_codec.specs.Heads.{head_bytes};
 ghost use Rattle.frame_codec.specs.Frames.{HasFrame, body_bytes, frame_bytes};
 
@@ -198,20 +198,14 @@ fn put_call(
     Ok(())
 }
 
+// The fields of a message that tells a resource how a branch ends, or of its answer.
 #[tactic(auto, unfolding(crate::specs::Messages::fields_bytes))]
-fn put_fields(alloc: Global, out: &mut Vec<u8>, message: &Message) -> Result<(), NoMemory>
-    requires { FitsMessage message.now }
+fn put_second_phase(out: &mut Vec<u8>, message: &Message) -> Result<(), NoMemory>
+    requires fits { FitsMessage message.now }
+    requires kind { IsOfSecondPhase message.now }
     ensures { OnOk result (out.new.items ≡ out.old.items ++ fields_bytes message.now) }
 {
     match message {
-        Message::Begin { manager, timeout } => {
-            put_u16(out, *manager)?;
-            put_u64(out, *timeout)
-        }
-        Message::Begun { xid }
-        | Message::GlobalCommit { xid }
-        | Message::GlobalRollback { xid }
-        | Message::GlobalStatus { xid } => put_u64(out, xid.0),
         Message::BranchCommit {
             xid,
             branch,
@@ -238,9 +232,18 @@ fn put_fields(alloc: Global, out: &mut Vec<u8>, message: &Message) -> Result<(),
             status,
             stmt,
         } => put_ended(out, *xid, *branch, *status, *stmt),
-        Message::CommitStatus { xid, status } => put_status(out, *xid, *status),
-        Message::RollbackStatus { xid, status } => put_status(out, *xid, *status),
-        Message::StatusAnswer { xid, status } => put_status(out, *xid, *status),
+        _ => unreachable!(),
+    }
+}
+
+// The fields of a registration, of a lock query, or of the answer to one of these.
+#[tactic(auto, unfolding(crate::specs::Messages::fields_bytes))]
+fn put_locking(out: &mut Vec<u8>, message: &Message) -> Result<(), NoMemory>
+    requires fits { FitsMessage message.now }
+    requires kind { IsOfLocks message.now }
+    ensures { OnOk result (out.new.items ≡ out.old.items ++ fields_bytes message.now) }
+{
+    match message {
         Message::Register {
             xid,
             resource,
@@ -265,6 +268,35 @@ fn put_fields(alloc: Global, out: &mut Vec<u8>, message: &Message) -> Result<(),
             check,
         } => put_query(out, *resource, *ticket, check.as_slice()),
         Message::LockAnswer { ticket, held } => put_lock(out, *ticket, held),
+        _ => unreachable!(),
+    }
+}
+
+#[tactic(auto, unfolding(crate::specs::Messages::fields_bytes))]
+fn put_fields(alloc: Global, out: &mut Vec<u8>, message: &Message) -> Result<(), NoMemory>
+    requires { FitsMessage message.now }
+    ensures { OnOk result (out.new.items ≡ out.old.items ++ fields_bytes message.now) }
+{
+    match message {
+        Message::Begin { manager, timeout } => {
+            put_u16(out, *manager)?;
+            put_u64(out, *timeout)
+        }
+        Message::Begun { xid }
+        | Message::GlobalCommit { xid }
+        | Message::GlobalRollback { xid }
+        | Message::GlobalStatus { xid } => put_u64(out, xid.0),
+        Message::CommitStatus { xid, status } => put_status(out, *xid, *status),
+        Message::RollbackStatus { xid, status } => put_status(out, *xid, *status),
+        Message::StatusAnswer { xid, status } => put_status(out, *xid, *status),
+        Message::BranchCommit { .. }
+        | Message::BranchRollback { .. }
+        | Message::BranchCommitted { .. }
+        | Message::BranchRollbacked { .. } => put_second_phase(out, message),
+        Message::Register { .. }
+        | Message::RegisterAnswer { .. }
+        | Message::LockQuery { .. }
+        | Message::LockAnswer { .. } => put_locking(out, message),
         Message::Call {
             xid,
             manager,

@@ -9,7 +9,7 @@ ghost use Rattle.byte_fields.specs.Taking.{Reads};
 ghost use Rattle.frame_codec.specs.Works.{FitsStmt, FitsStmts, FitsWork, stmt_bytes, stmts_bytes, work_bytes, if_canonical, stmt_of, any_stmt, stmt_at, stmts_at, at_work_at, tcc_work_at, work_at};
 
 use byte_fields::{FieldError, Fields, put_text, put_u8, put_u16};
-use seata_types::{Action, List, NoMemory, Stmt, Text, Work};
+use seata_types::{Action, List, NoMemory, Shared, Stmt, Text, Work};
 use sql_reader::{SqlError, read_stmt, write_stmt};
 use std::alloc::Global;
 
@@ -92,7 +92,10 @@ fn at_work(alloc: Global, fields: &mut Fields) -> Result<Work, FieldError>
     ensures { Reads at_work_at fields.old fields.new result }
 {
     let found = statements(alloc, fields)?;
-    Ok(Work::At(found))
+    match Shared::new(alloc, found) {
+        Ok(found) => Ok(Work::At(found)),
+        Err(NoMemory) => Err(FieldError::NoMemory),
+    }
 }
 
 #[tactic(auto, unfolding(crate::specs::Works::tcc_work_at))]
@@ -102,11 +105,15 @@ fn tcc_work(alloc: Global, fields: &mut Fields) -> Result<Work, FieldError>
     let tries = statements(alloc, fields)?;
     let confirms = statements(alloc, fields)?;
     let cancels = statements(alloc, fields)?;
-    Ok(Work::Tcc(Action {
+    let action = Action {
         tries,
         confirms,
         cancels,
-    }))
+    };
+    match Shared::new(alloc, action) {
+        Ok(action) => Ok(Work::Tcc(action)),
+        Err(NoMemory) => Err(FieldError::NoMemory),
+    }
 }
 
 /// What a call asks, taken.
@@ -157,9 +164,10 @@ pub(crate) fn put_work(alloc: Global, out: &mut Vec<u8>, work: &Work) -> Result<
     match work {
         Work::At(stmts) => {
             put_u8(out, 0)?;
-            put_statements(alloc, out, stmts.as_slice())
+            put_statements(alloc, out, stmts.get().as_slice())
         }
         Work::Tcc(action) => {
+            let action = action.get();
             put_u8(out, 1)?;
             put_statements(alloc, out, action.tries.as_slice())?;
             put_statements(alloc, out, action.confirms.as_slice())?;

@@ -1,5 +1,5 @@
-//! A link and a merge with ample memory, and what no clause says of a link: it takes 64 packets, gives the next one back, and
-//! has none left once they are taken. Each end is in a thread of its own.
+//! A link and a merge with ample memory, and what no clause says of a link: it takes 64 packets, gives the next one back, has
+//! none left once they are taken, and then takes the next one. Each end is in a thread of its own.
 use crate::errors::Fail;
 use frame_codec::{Packet, encode};
 use history_text::{Cause, Entry};
@@ -60,12 +60,16 @@ fn filled<R: Wait>(rt: &R, alloc: Global, mut sender: SendSeat) -> Result<SendSe
     }
 }
 
-/// Fills a link in one thread while its other end is in another, and then empties it.
+/// Fills a link in one thread while its other end is in another, empties it, and has one more packet go over it.
 fn goes_over<R: Threads + Wait + Sync>(rt: &R, alloc: Global) -> Result<(), Fail> {
     let (sender, taker) = link(alloc, Place::Tc, Place::Res(1))?;
     let (filled, mut taker) = thread::join(rt, move || filled(rt, alloc, sender), move || taker);
-    let _sender = filled?;
-    empties(rt, &mut taker)
+    let mut sender = filled?;
+    empties(rt, &mut taker)?;
+    if !goes(rt, alloc, &mut sender, ROOM)? || taker.take(rt).is_none() {
+        return Err(Fail::Other("an empty link gives a packet back"));
+    }
+    Ok(())
 }
 
 #[test]

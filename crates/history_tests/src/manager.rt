@@ -7,8 +7,8 @@ use crate::steps::has_line;
 use manager_core::Manager;
 use node_steps::Node;
 use seata_types::{
-    CallAnswer, Ending, GlobalStatus, Input, List, Message, NoMemory, Place, RowKey, Text, Ticket,
-    Work, Xid,
+    CallAnswer, Ending, GlobalStatus, Input, List, Message, NoMemory, Place, RowKey, Shared, Text,
+    Ticket, Work, Xid,
 };
 use std::alloc::Global;
 
@@ -77,8 +77,9 @@ fn calls(alloc: Global) -> Result<List<(u16, Work)>, NoMemory>
     ensures few { IfOk result (λ calls. length calls ≤ 2) }
     ensures within { IfOk result (λ calls. All IsCallWithin calls) }
 {
+    let stmts = Shared::new(alloc, List::of(Vec::new(alloc)))?;
     let mut calls = Vec::new(alloc);
-    calls.push((1, Work::At(List::of(Vec::new(alloc)))))?;
+    calls.push((1, Work::At(stmts)))?;
     Ok(List::of(calls))
 }
 

@@ -14,7 +14,7 @@ use Rattle.journal_checkpoint.specs.declared.types.Found.{Found}
 use Rattle.journal_checkpoint.specs.declared.types.TwinError.{TwinError}
 use Rattle.journal_checkpoint.specs.declared.types.TwinError.TheVariants as why
 use Rattle.journal_checkpoint.specs.Pairs.{open_head, head_of, active_of, is_active, held, held_by, with_records, begins_at, snapshot_in, chosen, pair_reading}
-use Rattle.journal_checkpoint.specs.Images.{TellAlike, TellsPair, Restarts, RecoversPair, PairStandsFor, IsActiveDisk, IsOtherHead, IsHeadDamage, IsPairDamage}
+use Rattle.journal_checkpoint.specs.Images.{HasHead, TellAlike, TellsPair, Restarts, RecoversPair, PairStandsFor, IsActiveDisk, IsOtherHead, IsHeadDamage, IsPairDamage}
 use Rattle.journal_checkpoint.specs.Keeping.{IsHeldDamage}
 use Rattle.journal_checkpoint.proofs.Switches.{no_head, shut_head, opened_head}
 
@@ -117,10 +117,14 @@ module _ (a b : List ℕ) (active : Active) (is : active_of (head_of a) (head_of
   unfolding pair_reading
   pair_held = ap (held_by a b) is
 
-  pub found_here : (found : Found) → found.snapshot ≡ option_map (snapshot_in (chosen active.second a b)) active.snapshot → StandsFor (begins_at active.snapshot) found.records (chosen active.second a b) → PairStandsFor found a b
-  found_here found text stands =
-      let with_text : Option (List ℕ) → Result Found TwinError = λ t. Ok (record { snapshot = t; records = found.records }) in
-      pair_held ∙ ap (with_records active (chosen active.second a b)) stands ∙ ap with_text (sym text)
+  pub found_here : (found : Found) → HasHead active found → found.snapshot ≡ option_map (snapshot_in (chosen active.second a b)) active.snapshot → StandsFor (begins_at active.snapshot) found.records (chosen active.second a b) → PairStandsFor found a b
+  found_here found here text stands = pair_held ∙ ap (with_records active (chosen active.second a b)) stands ∙ same
+    where
+      is_found : Bool → ℕ → Option (List ℕ) → Result Found TwinError
+      is_found second generation snapshot = Ok (record { second = second; generation = generation; snapshot = snapshot; records = found.records })
+
+      same : is_found active.second active.generation (option_map (snapshot_in (chosen active.second a b)) active.snapshot) ≡ Ok found
+      same = λ i. is_found (sym here.second i) (sym here.generation i) (sym text i)
 
   pub damage_here : (e : TwinError) → IsHeldDamage active (chosen active.second a b) e → IsPairDamage a b e
   damage_here (why.Damaged second at) held_is = pair_held ∙ held_is

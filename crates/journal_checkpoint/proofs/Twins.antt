@@ -13,11 +13,11 @@ use Rattle.journal_checkpoint.specs.declared.types.Active.{Active}
 use Rattle.journal_checkpoint.specs.declared.types.Found.{Found}
 use Rattle.journal_checkpoint.specs.declared.types.TwinError.{TwinError}
 use Rattle.journal_checkpoint.specs.Pairs.{head_in, head_of, active_of, is_active, held, held_by, with_records, snapshot_in, chosen, pair_reading}
-use Rattle.journal_checkpoint.specs.Images.{LeavesPairs, Either, PairStandsFor, only_snapshot, IsActiveDisk, IsOtherHead, IsPassive, IsFresh, IsOldOrFresh}
+use Rattle.journal_checkpoint.specs.Images.{LeavesPairs, Either, PairStandsFor, only_snapshot, with_record, IsActiveDisk, IsOtherHead, IsPassive, IsFresh, IsOldOrFresh}
 use Rattle.journal_checkpoint.specs.Keeping.{ordered}
 
-abbrev pub found_as : Option (List ℕ) → List (List ℕ) → Found
-found_as snapshot records = record { snapshot = snapshot; records = records }
+abbrev pub found_as : Bool → ℕ → Option (List ℕ) → List (List ℕ) → Found
+found_as second g snapshot records = record { second = second; generation = g; snapshot = snapshot; records = records }
 
 -- ---- a pair of bytes
 
@@ -25,12 +25,12 @@ by_heads : (x y : List ℕ) (h k : Head) (r : Result Active TwinError) → head_
 unfolding pair_reading
 by_heads x y h k r one two is = ap (λ (i : Head). held_by x y (active_of i (head_of y))) one ∙ ap (λ (i : Head). held_by x y (active_of h i)) two ∙ ap (held_by x y) is
 
-held_none : (second o : Bool) (g : ℕ) (a : List ℕ) (records : List (List ℕ)) → reading 9 (drop 9 a) ≡ Ok records → held (is_active second g None o) a ≡ Ok (found_as None records)
+held_none : (second o : Bool) (g : ℕ) (a : List ℕ) (records : List (List ℕ)) → reading 9 (drop 9 a) ≡ Ok records → held (is_active second g None o) a ≡ Ok (found_as second g None records)
 held_none second o g a records is = ap (with_records (is_active second g None o) a) is
 
-held_some : (second o : Bool) (g : ℕ) (s a : List ℕ) (records : List (List ℕ)) → snapshot_in a (length s) ≡ s → reading (9 + length s) (drop (9 + length s) a) ≡ Ok records → held (is_active second g (Some (length s)) o) a ≡ Ok (found_as (Some s) records)
+held_some : (second o : Bool) (g : ℕ) (s a : List ℕ) (records : List (List ℕ)) → snapshot_in a (length s) ≡ s → reading (9 + length s) (drop (9 + length s) a) ≡ Ok records → held (is_active second g (Some (length s)) o) a ≡ Ok (found_as second g (Some s) records)
 held_some second o g s a records text is =
-    let with_text : List ℕ → Result Found TwinError = λ t. Ok (found_as (Some t) records) in
+    let with_text : List ℕ → Result Found TwinError = λ t. Ok (found_as second g (Some t) records) in
     ap (with_records (is_active second g (Some (length s)) o) a) is ∙ ap with_text text
 
 newer_first : (g n k m : ℕ) → k < g → active_of (head.Open g n) (head.Open k m) ≡ Ok (is_active false g (Some n) true)
@@ -41,9 +41,12 @@ newer_second g n k m older = grind (arith, nat_tests)
 
 -- an active disk and a passive one
 pub reads_pair : (g from : ℕ) (second : Bool) (snap : Option (List ℕ)) (records : List (List ℕ)) (a b : List ℕ) → (g ≡ 0 → second ≡ false)
-    → IsActiveDisk g from snap a → StandsFor from records a → IsPassive g b → PairStandsFor (found_as snap records) (chosen second a b) (chosen second b a)
+    → IsActiveDisk g from snap a → StandsFor from records a → IsPassive g b → PairStandsFor (found_as second g snap records) (chosen second a b) (chosen second b a)
 reads_pair g from false None records a b side (none, nine, shut) stands (inl closed) =
-    by_heads a b _ _ _ shut closed refl ∙ held_none false false 0 a records (subst (λ n. StandsFor n records a) nine stands)
+    by_heads a b _ _ _ shut closed refl ∙ held_none false false 0 a records (subst (λ n. StandsFor n records a) nine stands) ∙ ap of_none (sym none)
+  where
+    of_none : ℕ → Result Found TwinError
+    of_none n = Ok (found_as false n None records)
 reads_pair g from false None records a b side (none, nine, shut) stands (inr (k, m, is, older)) = absurd (omega arith)
 reads_pair g from true None records a b side (none, nine, shut) stands passive = let no : true ≡ false = side none in absurd (cc)
 reads_pair g from false (Some s) records a b side (some, begins, is, text) stands (inl closed) =
@@ -64,9 +67,9 @@ pub passed_over : (g from : ℕ) (snap : Option (List ℕ)) (c : List ℕ) → I
 passed_over g from None c (none, nine, shut) = inl shut
 passed_over g from (Some s) c (some, begins, is, text) = inr (g, length s, is, omega arith)
 
-fresh_pair : (g : ℕ) (second : Bool) (s a b : List ℕ) → IsPassive (g + 1) a → IsFresh (g + 1) s b → PairStandsFor (only_snapshot s) (chosen second a b) (chosen second b a)
-fresh_pair g false s a b passive fresh = reads_pair (g + 1) (9 + length s) true (Some s) [] b a (λ none. absurd (omega arith)) fresh.active fresh.empty passive
-fresh_pair g true s a b passive fresh = reads_pair (g + 1) (9 + length s) false (Some s) [] b a (λ none. refl) fresh.active fresh.empty passive
+fresh_pair : (g : ℕ) (second : Bool) (snap : Option (List ℕ)) (records : List (List ℕ)) (s a b : List ℕ) → IsPassive (g + 1) a → IsFresh (g + 1) s b → PairStandsFor (only_snapshot (found_as second g snap records) s) (chosen second a b) (chosen second b a)
+fresh_pair g false snap records s a b passive fresh = reads_pair (g + 1) (9 + length s) true (Some s) [] b a (λ none. absurd (omega arith)) fresh.active fresh.empty passive
+fresh_pair g true snap records s a b passive fresh = reads_pair (g + 1) (9 + length s) false (Some s) [] b a (λ none. refl) fresh.active fresh.empty passive
 
 -- ---- a call on one of the disks
 
@@ -102,31 +105,52 @@ front_active g from (Some s) c d same size (some, begins, is, text) =
     let whole : take (9 + length s) c ≡ take (9 + length s) d = subst (λ n. take n c ≡ take n d) begins same in
     (some, begins, front_head from c d (omega arith) same size ∙ is, sym (drop-take 9 (length s) c) ∙ ap (drop 9) whole ∙ drop-take 9 (length s) d ∙ text)
 
-module _ (second : Bool) (g from : ℕ) (snap : Option (List ℕ)) (records : List (List ℕ)) (o : Bool) (side : g ≡ 0 → second ≡ false)
+-- what is found, by its side and its generation
+pub found_is : (found : Found) (second : Bool) (g : ℕ) → second ≡ found.second → g ≡ found.generation → found_as second g found.snapshot found.records ≡ found
+found_is found second g one two = λ i. record found { second = one i; generation = two i }
+
+module _ (second : Bool) (g from : ℕ) (found : Found) (second_is : second ≡ found.second) (generation_is : g ≡ found.generation) (o : Bool) (side : g ≡ 0 → second ≡ false)
     {a b : DiskState} (la : IsLawful a) (lb : IsLawful b)
-    (active : (c : List ℕ) → a.may_leave c → IsActiveDisk g from snap c) (stands : (c : List ℕ) → a.may_leave c → StandsFor from records c)
+    (active : (c : List ℕ) → a.may_leave c → IsActiveDisk g from found.snapshot c) (stands : (c : List ℕ) → a.may_leave c → StandsFor from found.records c)
     (passive : (c : List ℕ) → b.may_leave c → IsOtherHead g o (head_of c)) where
-  pub checkpoint_pairs : (s : List ℕ) {b' : DiskState} → Leaves b b' (IsOldOrFresh g s) → LeavesPairs (ordered second a b) (ordered second a b') (Either (found_as snap records) (only_snapshot s))
-  checkpoint_pairs s leaves = pairs_leave second {P = λ c. IsActiveDisk g from snap c × StandsFor from records c} la lb
+  here : found_as second g found.snapshot found.records ≡ found
+  here = found_is found second g second_is generation_is
+
+  reads_found : (a b : List ℕ) → IsActiveDisk g from found.snapshot a → StandsFor from found.records a → IsPassive g b → PairStandsFor found (chosen second a b) (chosen second b a)
+  reads_found a b act is other = subst (λ (f : Found). PairStandsFor f (chosen second a b) (chosen second b a)) here (reads_pair g from second found.snapshot found.records a b side act is other)
+
+  reads_more : (body a b : List ℕ) → IsActiveDisk g from found.snapshot a → StandsFor from (found.records ++ body ∷ []) a → IsPassive g b → PairStandsFor (with_record found body) (chosen second a b) (chosen second b a)
+  reads_more body a b act is other = subst (λ (f : Found). PairStandsFor (with_record f body) (chosen second a b) (chosen second b a)) here (reads_pair g from second found.snapshot (found.records ++ body ∷ []) a b side act is other)
+
+  fresh_found : (s a b : List ℕ) → IsPassive (g + 1) a → IsFresh (g + 1) s b → PairStandsFor (only_snapshot found s) (chosen second a b) (chosen second b a)
+  fresh_found s a b passive fresh = subst (λ (f : Found). PairStandsFor (only_snapshot f s) (chosen second a b) (chosen second b a)) here (fresh_pair g second found.snapshot found.records s a b passive fresh)
+
+  pub checkpoint_pairs : (s : List ℕ) {b' : DiskState} → Leaves b b' (IsOldOrFresh g s) → LeavesPairs (ordered second a b) (ordered second a b') (Either found (only_snapshot found s))
+  checkpoint_pairs s leaves = pairs_leave second {P = λ c. IsActiveDisk g from found.snapshot c × StandsFor from found.records c} la lb
       (leaves_same (λ c left. (active c left, stands c left))) leaves (λ c left. (active c left, stands c left)) (λ d left. inl (is_passive g o d (passive d left)))
-      (λ c d (act, is) other. ⊎_elim (λ old. inl (reads_pair g from second snap records c d side act is old)) (λ fresh. inr (fresh_pair g second s c d (passed_over g from snap c act) fresh)) other)
+      (λ c d (act, is) other. ⊎_elim (λ old. inl (reads_found c d act is old)) (λ fresh. inr (fresh_found s c d (passed_over g from found.snapshot c act) fresh)) other)
+
+  pub still_pairs : LeavesPairs (ordered second a b) (ordered second a b) (PairStandsFor found)
+  still_pairs = pairs_leave second {P = λ c. IsActiveDisk g from found.snapshot c × StandsFor from found.records c} {Q = IsPassive g} la lb
+      (leaves_same (λ c left. (active c left, stands c left))) (leaves_same (λ d left. is_passive g o d (passive d left))) (λ c left. (active c left, stands c left)) (λ d left. is_passive g o d (passive d left))
+      (λ c d (act, is) other. reads_found c d act is other)
 
   module _ {a' : DiskState} (front : Leaves a a' (SameFront from a.may_leave)) where
-    fronts : Leaves a a' (IsActiveDisk g from snap)
-    fronts = leaves_weaker front (λ c (d, left, same, size). front_active g from snap c d same size (active d left))
+    fronts : Leaves a a' (IsActiveDisk g from found.snapshot)
+    fronts = leaves_weaker front (λ c (d, left, same, size). front_active g from found.snapshot c d same size (active d left))
 
-    pub still_active : (c : List ℕ) → a'.may_leave c → IsActiveDisk g from snap c
+    pub still_active : (c : List ℕ) → a'.may_leave c → IsActiveDisk g from found.snapshot c
     still_active c left = fronts.now c left
 
-    pub append_pairs : (body : List ℕ) → AddsAtMost from records body a a' → LeavesPairs (ordered second a b) (ordered second a' b) (Either (found_as snap records) (found_as snap (records ++ body ∷ [])))
-    append_pairs body adds = pairs_leave second {P = λ c. IsActiveDisk g from snap c × IsBeforeOrAfter from records body c} {Q = IsPassive g} la lb
+    pub append_pairs : (body : List ℕ) → AddsAtMost from found.records body a a' → LeavesPairs (ordered second a b) (ordered second a' b) (Either found (with_record found body))
+    append_pairs body adds = pairs_leave second {P = λ c. IsActiveDisk g from found.snapshot c × IsBeforeOrAfter from found.records body c} {Q = IsPassive g} la lb
         (leaves_both fronts adds.leaves) (leaves_same (λ d left. is_passive g o d (passive d left))) (λ c left. (active c left, inl (stands c left))) (λ d left. is_passive g o d (passive d left))
-        (λ c d (act, is) other. ⊎_elim (λ old. inl (reads_pair g from second snap records c d side act old other)) (λ new. inr (reads_pair g from second snap (records ++ body ∷ []) c d side act new other)) is)
+        (λ c d (act, is) other. ⊎_elim (λ old. inl (reads_found c d act old other)) (λ new. inr (reads_more body c d act new other)) is)
 
-    pub same_pairs : Leaves a a' (StandsFor from records) → LeavesPairs (ordered second a b) (ordered second a' b) (PairStandsFor (found_as snap records))
-    same_pairs leaves = pairs_leave second {P = λ c. IsActiveDisk g from snap c × StandsFor from records c} {Q = IsPassive g} la lb
+    pub same_pairs : Leaves a a' (StandsFor from found.records) → LeavesPairs (ordered second a b) (ordered second a' b) (PairStandsFor found)
+    same_pairs leaves = pairs_leave second {P = λ c. IsActiveDisk g from found.snapshot c × StandsFor from found.records c} {Q = IsPassive g} la lb
         (leaves_both fronts leaves) (leaves_same (λ d left. is_passive g o d (passive d left))) (λ c left. (active c left, stands c left)) (λ d left. is_passive g o d (passive d left))
-        (λ c d (act, is) other. reads_pair g from second snap records c d side act is other)
+        (λ c d (act, is) other. reads_found c d act is other)
 
 -- the head of a disk that was active, beside the next generation
 pub is_former : (g from : ℕ) (snap : Option (List ℕ)) (c : List ℕ) → IsActiveDisk g from snap c → IsOtherHead (g + 1) (nat_lt 0 g) (head_of c)

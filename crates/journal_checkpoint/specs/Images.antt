@@ -1,5 +1,5 @@
 -- What the images of two disks stand for, at the exits of a call and at each moment of it.
-use Rattle.std.specs.Prelude.{◌≡◌, ◌⊎◌, ℕ, ◌+◌, ◌-◌, ◌^◌, ◌<◌, ◌≤◌, Bool, true, false, if◌then◌else◌, Option, Some, None, List, [], ◌∷◌, ◌++◌, length, Result, Ok, Err, IfOk, IfErr, OnOk}
+use Rattle.std.specs.Prelude.{◌≡◌, ◌⊎◌, ℕ, ◌+◌, ◌-◌, ◌^◌, ◌<◌, ◌≤◌, Bool, true, false, not, if◌then◌else◌, Option, Some, None, option_map, List, [], ◌∷◌, ◌++◌, length, Result, Ok, Err, IfOk, IfErr, OnOk}
 use Rattle.disk_model.specs.Disk.{DiskState, Counts, SameKind, CountsCalls, HasCause, IsSettled, IsPicked, KeepsRest, Leaves, Rose, present, last_pick}
 use Rattle.disk_model.specs.declared.errors.Failed.{Failed}
 use Rattle.disk_journal.specs.Keeping.{OnlyReads, StandsFor}
@@ -20,11 +20,11 @@ PairStandsFor found first second = pair_reading first second ≡ Ok found
 
 -- one record more
 abbrev pub with_record : Found → List ℕ → Found
-with_record found body = record { snapshot = found.snapshot; records = found.records ++ body ∷ [] }
+with_record found body = record found { records = found.records ++ body ∷ [] }
 
--- a snapshot and no record past it
-abbrev pub only_snapshot : List ℕ → Found
-only_snapshot snapshot = record { snapshot = Some snapshot; records = [] }
+-- a snapshot on the other disk, of the next generation, and no record past it
+abbrev pub only_snapshot : Found → List ℕ → Found
+only_snapshot found snapshot = record { second = not found.second; generation = found.generation + 1; snapshot = Some snapshot; records = [] }
 
 -- the bytes stand for the one or the other
 abbrev pub Either : Found → Found → List ℕ → List ℕ → Type 0
@@ -126,6 +126,12 @@ FitsHead size (head.Open g n) = (0 < g) × (n + AROUND ≤ size)
 abbrev pub FitsSnapshot : ℕ → Option ℕ → Type 0
 FitsSnapshot size None = Unit {0}
 FitsSnapshot size (Some n) = n + AROUND ≤ size
+
+-- what was read is of this head
+pub record HasHead (active : Active) (found : Found) : Type 0 where
+  pub second : found.second ≡ active.second
+  pub generation : found.generation ≡ active.generation
+  pub snapshot : option_map length found.snapshot ≡ active.snapshot
 
 -- two disks give this, or are not opened for another reason than damage
 abbrev pub RecoversPair : Found → Result Found TwinError → Type 0

@@ -1,5 +1,5 @@
 -- What two disks keep, as their owner sees it.
-use Rattle.std.specs.Prelude.{◌≡◌, ℕ, ◌+◌, ◌-◌, Bool, true, false, not, List, Result, Ok, Err}
+use Rattle.std.specs.Prelude.{◌≡◌, ℕ, ◌-◌, Bool, true, false, List, Result, Ok, Err}
 use Rattle.std.specs.Borrow.{Lends, Fml, RattleType, MutBor}
 use Rattle.disk_model.specs.Disk.{DiskState, IsSettled, KeepsRest, CountsCalls}
 use Rattle.disk_model.specs.declared.errors.Failed.{Failed}
@@ -12,6 +12,7 @@ use Rattle.journal_checkpoint.specs.declared.twin.Twin.{Twin}
 use Rattle.journal_checkpoint.specs.contracts.twin.Twin.{the_row}
 use Rattle.journal_checkpoint.specs.Pairs.{chosen, head_of, held}
 use Rattle.journal_checkpoint.specs.Images.{Pair, IsActiveDisk, IsOtherHead, checkpoint_calls}
+use Rattle.journal_checkpoint.specs.Extents.{Extent, extent_of, on_snapshot}
 
 -- The disks
 
@@ -64,6 +65,15 @@ needed_for t body = journal_needs t.journal body
 abbrev pub records_length : {D : Type 0} → Twin D → ℕ
 records_length t = end_of t.journal - from_of t.journal
 
+-- where its journal stands
+abbrev pub twin_extent : {D : Type 0} → Twin D → Extent
+twin_extent t = record { second = is_second t; generation = generation_of t; begins = from_of t.journal; end = end_of t.journal }
+
+-- both disks have so many bytes
+pub record AreSized {D : Type 0} (state : D → DiskState) (t : Twin D) (size : ℕ) : Type 0 where
+  pub first : (state (first_disk t)).size ≡ size
+  pub second : (state (second_disk t)).size ≡ size
+
 -- Nothing is pending, each pair of images stands for this snapshot and these records, and the next record goes behind them.
 pub record KeepsPair {D : Type 0} (state : D → DiskState) (found : Found) (t : Twin D) : Type 0 where
   pub journal : Keeps state found.records t.journal
@@ -71,14 +81,14 @@ pub record KeepsPair {D : Type 0} (state : D → DiskState) (found : Found) (t :
   pub active : (c : List ℕ) → (state (active_disk t)).may_leave c → IsActiveDisk t.generation (from_of t.journal) found.snapshot c
   pub passive : (c : List ℕ) → (state (other_disk t)).may_leave c → IsOtherHead t.generation t.other_open (head_of c)
   pub side : t.generation ≡ 0 → t.second ≡ false
+  pub extent : twin_extent t ≡ extent_of found
 
 -- Checkpoints
 
--- A checkpoint was made on the other disk, which is now the active one. No call was made of the disk that was active.
-pub record IsExchanged {D : Type 0} (state : D → DiskState) (old new : Twin D) : Type 0 where
+-- A checkpoint of so many bytes was made on the other disk, which is now the active one. No call was made of the disk that was active.
+pub record IsExchanged {D : Type 0} (state : D → DiskState) (count : ℕ) (old new : Twin D) : Type 0 where
   pub former : other_disk new ≡ active_disk old
-  pub second : is_second new ≡ not (is_second old)
-  pub generation : generation_of new ≡ generation_of old + 1
+  pub extent : twin_extent new ≡ on_snapshot count (twin_extent old)
   pub counts : CountsCalls {E = Failed} (checkpoint_calls (other_is_open old)) (Ok true) (state (other_disk old)).counts (state (active_disk new)).counts
   pub rest : KeepsRest (state (other_disk old)) (state (active_disk new))
 

@@ -55,7 +55,7 @@ snapshot_in bytes n = take n (drop SNAPSHOT_HEAD_BYTES bytes)
 
 -- the snapshot and these records, or the damage on the active disk
 abbrev pub with_records : Active → List ℕ → Result (List (List ℕ)) ℕ → Result Found TwinError
-with_records active bytes (Ok records) = Ok (record { snapshot = option_map (snapshot_in bytes) active.snapshot; records = records })
+with_records active bytes (Ok records) = Ok (record { second = active.second; generation = active.generation; snapshot = option_map (snapshot_in bytes) active.snapshot; records = records })
 with_records active bytes (Err at) = Err (why.Damaged active.second at)
 
 -- what the active disk holds, by its bytes

@@ -1,5 +1,5 @@
 //! The snapshot on a disk, and where its records begin.
-ghost use Rattle.std.specs.Prelude.{◌≡◌, ℕ, List, Some, Err, option_map, IfOk, IfErr};
+ghost use Rattle.std.specs.Prelude.{◌≡◌, ℕ, List, length, Some, Err, option_map, IfOk, IfErr};
 ghost use Rattle.disk_model.specs.Disk.{HasCause, present};
 ghost use Rattle.disk_journal.specs.Keeping.{OnlyReads};
 ghost use Rattle.journal_checkpoint.specs.Pairs.{begins_at, snapshot_in};
@@ -16,15 +16,16 @@ use std::alloc::Global;
 pub fn read_snapshot<D: Disk>(
     alloc: Global,
     disk: &mut D,
-    length: Option<u32>,
+    count: Option<u32>,
 ) -> Result<Option<List<u8>>, TwinError>
-    requires { FitsSnapshot (D.state disk.old).size length }
-    ensures snapshot { IfOk result (λ found. (c : List ℕ) → present (D.state disk.old) ≡ Some c → found ≡ option_map (snapshot_in c) length) }
+    requires { FitsSnapshot (D.state disk.old).size count }
+    ensures snapshot { IfOk result (λ found. (c : List ℕ) → present (D.state disk.old) ≡ Some c → found ≡ option_map (snapshot_in c) count) }
+    ensures whole { IfOk result (λ found. option_map length found ≡ count) }
     ensures undamaged { IfErr result IsNoDamage }
     ensures failed { result ≡ Err TwinError.Failed → HasCause (D.state disk.old).counts (D.state disk.new).counts }
     ensures only_reads { OnlyReads (D.state disk.old) (D.state disk.new) }
 {
-    let Some(count) = length else {
+    let Some(count) = count else {
         return Ok(None);
     };
     let mut bytes = match zeros(alloc, count as usize) {

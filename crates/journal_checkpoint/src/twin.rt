@@ -33,8 +33,9 @@ impl<D: Disk> Twin<D> {
     ghost use Rattle.disk_journal.specs.Journals.{from_of, Keeps};
     ghost use Rattle.seata_types.specs.declared.limits.TheConstants.{BODY_BYTES};
     ghost use Rattle.journal_checkpoint.specs.Pairs.{begins_at, snapshot_in};
-    ghost use Rattle.journal_checkpoint.specs.Images.{TellAlike, FindsActive, TellsPair, ReadsPair, RestartsPair, FailsItself, CannotCheckpoint, PairStandsFor, FitsSnapshot, LeavesPairs, Either, with_record, only_snapshot};
-    ghost use Rattle.journal_checkpoint.specs.Keeping.{KeepsPair, IsExchanged, IsFallen, IsHeldDamage, LendsActive, LendsOther, active_disk, other_disk, is_second, generation_of, first_disk, second_disk, first_after, second_after, read_by, disks, is_down, needed_for, records_length};
+    ghost use Rattle.journal_checkpoint.specs.Images.{TellAlike, FindsActive, TellsPair, ReadsPair, RestartsPair, FailsItself, CannotCheckpoint, PairStandsFor, FitsSnapshot, HasHead, LeavesPairs, Either, with_record, only_snapshot};
+    ghost use Rattle.journal_checkpoint.specs.Keeping.{KeepsPair, IsExchanged, IsFallen, IsHeldDamage, LendsActive, LendsOther, active_disk, other_disk, is_second, generation_of, first_disk, second_disk, first_after, second_after, read_by, disks, is_down, needed_for, records_length, twin_extent};
+    ghost use Rattle.journal_checkpoint.specs.Extents.{longer};
 
     /// Reads two disks, and gives what they hold. It writes nothing. The disks come back where it fails: `Damaged` where
     /// their bytes hold nothing, `NoMemory` where there is none for what they hold or for appends.
@@ -117,6 +118,8 @@ impl<D: Disk> Twin<D> {
         ensures other { other_disk self.new ≡ other_disk self.old }
         ensures second { is_second self.new ≡ is_second self.old }
         ensures generation { generation_of self.new ≡ generation_of self.old }
+        ensures extent { OnOk result
+            (twin_extent self.new ≡ longer (length body.now) (twin_extent self.old)) }
     {
         self.journal.append(body)
     }
@@ -137,15 +140,15 @@ impl<D: Disk> Twin<D> {
         requires up { is_down self.old ≡ false }
 
         ensures done { result ≡ Ok true → (found : Found) →
-            KeepsPair D.state found self.old → KeepsPair D.state (only_snapshot snapshot.now) self.new }
+            KeepsPair D.state found self.old → KeepsPair D.state (only_snapshot found snapshot.now) self.new }
 
         // A crash at any moment of the call, however it ends, leaves the old snapshot and records, or the new snapshot.
         ensures any_moment { (found : Found) → KeepsPair D.state found self.old →
-            LeavesPairs (disks D.state self.old) (disks D.state self.new) (Either found (only_snapshot snapshot.now)) }
+            LeavesPairs (disks D.state self.old) (disks D.state self.new) (Either found (only_snapshot found snapshot.now)) }
 
         ensures refused { result ≡ Ok false ↔ CannotCheckpoint (D.state (other_disk self.old)).size (length snapshot.now) (generation_of self.old) }
         ensures unchanged { result ≡ Ok false → self.new ≡ self.old }
-        ensures exchanged { result ≡ Ok true → IsExchanged D.state self.old self.new }
+        ensures exchanged { result ≡ Ok true → IsExchanged D.state (length snapshot.now) self.old self.new }
         ensures fallen { IfErr result (λ error. IsFallen D.state error self.old self.new) }
         ensures down { is_down self.new ≡ is_err result }
     {
@@ -302,6 +305,7 @@ impl<D: Disk> Twin<D> {
         ensures records { IfOk result (λ found. (c : List ℕ) → present (D.state (active_disk self.old)) ≡ Some c
             → StandsFor (begins_at active.snapshot) found.records c) }
         ensures keeps { IfOk result (λ found. Keeps D.state found.records self.new.journal) }
+        ensures head { IfOk result (HasHead active) }
         ensures damaged { IfErr result (λ error. (c : List ℕ) → present (D.state (active_disk self.old)) ≡ Some c → IsHeldDamage active c error) }
         ensures failed { result ≡ Err TwinError.Failed → HasCause (D.state (active_disk self.old)).counts (D.state (active_disk self.new)).counts }
         ensures only_reads { OnlyReads (D.state (active_disk self.old)) (D.state (active_disk self.new)) }
@@ -320,7 +324,12 @@ impl<D: Disk> Twin<D> {
             Ok(records) => {
                 self.generation = active.generation;
                 self.other_open = active.other_open;
-                Ok(Found { snapshot, records })
+                Ok(Found {
+                    second: active.second,
+                    generation: active.generation,
+                    snapshot,
+                    records,
+                })
             }
             Err(error) => {
                 drop(snapshot);

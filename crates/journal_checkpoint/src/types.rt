@@ -28,6 +28,10 @@ pub struct Active {
 /// What two disks hold: the snapshot, if there is one, and the records past it, in order.
 #[derive(Drop)]
 pub struct Found {
+    /// The second disk is the active one.
+    pub second: bool,
+    /// Of its snapshot, and 0 where there is none.
+    pub generation: u32,
     pub snapshot: Option<List<u8>>,
     pub records: List<List<u8>>,
 }

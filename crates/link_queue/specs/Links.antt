@@ -56,7 +56,7 @@ IsFront front whole = (rest : List Sent) × (whole ≡ front ++ rest)
 abbrev pub IsBack : List Sent → List Sent → Type 0
 IsBack back whole = (rest : List Sent) × (whole ≡ rest ++ back)
 
--- at the call's step the link held as many packets as it can, the last of what was pushed
+-- at least as many packets were pushed as a link holds; those are the last of them, which it held at the call's step
 abbrev pub WasFull : List Sent → Type 0
 WasFull pushed = (queued : List Sent) × (length queued ≡ room) × IsBack queued pushed
 

@@ -125,7 +125,8 @@ impl SendSeat {
         self.to
     }
 
-    /// Pushes a packet. It comes back only where the link was full at this call's step, and is counted. Takes no memory.
+    /// Pushes a packet. It comes back where the link was full at this call's step, never before as many were pushed as a link
+    /// holds, and is counted. Takes no memory.
     pub fn send<R: Wait>(&mut self, rt: &R, packet: Packet) -> Result<(), Packet>
         requires counts { self.old.refused < 2 ^ 64 - 1 }
         ensures pushed { OnOk result (self.new ≡ with_pushed self.old packet) }
@@ -165,7 +166,7 @@ impl TakeSeat {
         self.to
     }
 
-    /// Takes the oldest packet. None only where none was there at this call's step, which is counted up to the greatest u64.
+    /// Takes the oldest packet. None where none was there at this call's step; each none is counted, up to the greatest u64.
     /// Takes no memory.
     pub fn take<R: Wait>(&mut self, rt: &R) -> Option<Packet>
         ensures taken { IfSome result (λ packet. self.new ≡ with_taken self.old packet) }

@@ -12,7 +12,7 @@ ghost use Rattle.local_guard.specs.Locals.{freed, freed_by, local_number, number
 use disk_model::Disk;
 use local_txn::{ExecError, LocalTxns, OpenTxn};
 use resource_store::Store;
-use seata_types::{Duplicate, NoMemory, Stmt, StoreError, Ticket, Xid};
+use seata_types::{Duplicate, List, NoMemory, Shared, Stmt, StoreError, Ticket, Xid};
 use std::alloc::Global;
 
 /// Opens a guarded local transaction by its number, on the tables as they are now: the ticket, or the first statement without a
@@ -22,7 +22,7 @@ pub fn open_local<D: Disk>(
     store: &Store<D>,
     txns: &mut LocalTxns,
     number: u16,
-    stmts: &[Stmt],
+    stmts: &Shared<List<Stmt>>,
 ) -> Result<Ticket, ExecError>
     requires statements { length stmts.now ≤ FIELD_ITEMS }
     requires tickets { txns.old.opened < 2 ^ 32 - 1 }

@@ -5,13 +5,16 @@ use Rattle.seata_types.specs.declared.ids.Ticket.{Ticket}
 use Rattle.seata_types.specs.declared.rows.Image.{Image}
 use Rattle.seata_types.specs.declared.rows.ReadRow.{ReadRow}
 use Rattle.seata_types.specs.declared.rows.RowKey.{RowKey}
+use Rattle.local_tables.specs.Calls.{Means}
 use Rattle.local_tables.specs.declared.schemas.Effect.{Effect}
+use Rattle.local_tables.specs.declared.schemas.EffectError.{EffectError}
+use Rattle.local_tables.specs.declared.schemas.EffectError.TheVariants as fault
 use Rattle.durable_records.specs.Branches.{same_ticket}
 use Rattle.durable_records.specs.ResourceOrder.{image_keys, read_keys}
 use Rattle.local_txn.specs.declared.transactions.ExecError.{ExecError}
 use Rattle.local_txn.specs.declared.transactions.ExecError.TheVariants as error
 use Rattle.local_txn.specs.OpenTickets.{Owner, Open, open_at, without, with_first, sent_again, lesser_row, busy_row, opening_of}
-use Rattle.local_txn.specs.Answers.{Tickets, raised, counted, new_ticket, last_ticket, with_open, with_opens, taken_back, Executes, TellsBusy}
+use Rattle.local_txn.specs.Answers.{Tickets, raised, counted, new_ticket, last_ticket, with_open, with_opens, taken_back, refusal, Executes, TellsBusy}
 use Rattle.local_txn.specs.RowIndex.{Index, at, first_at, has_either, IsIndex, AreApart, KeepsRows}
 use Rattle.local_txn.proofs.Tests.{false_true, ticket_itself}
 use Rattle.local_txn.proofs.OpenLaws.{found_counted, found_ticket, without_none, apart_counting, rows_counting, apart_back}
@@ -108,6 +111,11 @@ keeps_counted boot opened opens rows t (Some o) k = record {
 }
 
 -- ---- an opening
+
+-- statements without an effect open nothing
+pub not_executed : (old : Tickets) (owner : Owner) (meaning : Result Effect (ℕ × StmtError)) (err : EffectError) → Means meaning (Err err) → Executes old owner meaning (Err (refusal err)) old
+not_executed old owner meaning (fault.At index why) means = (means, refl)
+not_executed old owner meaning fault.NoMemory means = refl
 
 module _ (old : Tickets) (owner : Owner) (meaning : Result Effect (ℕ × StmtError)) (e : Effect) (means : meaning ≡ Ok e) where
   pub told_busy : (k : RowKey) (t : Ticket) (err : ExecError) → busy_row old.opens e ≡ Some (k, t) → TellsBusy k t err → Executes old owner meaning (Err err) old

@@ -7,7 +7,7 @@ ghost use Rattle.seata_types.specs.declared.rows.RowKey.{RowKey as Key};
 use crate::transactions::{ExecError, OpenTxn};
 use crate::{opening, order, rows};
 use local_tables::{Effect, Tables};
-use seata_types::{Action, NoMemory, RowKey, Stmt, Ticket, Xid};
+use seata_types::{Action, List, NoMemory, RowKey, Shared, Stmt, Ticket, Xid};
 use std::alloc::Global;
 use std::collections::{BTreeMap, VecDeque};
 use std::marker::Model;
@@ -70,14 +70,14 @@ impl LocalTxns {
         xid: Xid,
         call: u16,
         manager: u16,
-        stmts: &[Stmt],
+        stmts: &Shared<List<Stmt>>,
         tables: &Tables,
     ) -> Result<Ticket, ExecError>
         requires statements { length stmts.now ≤ FIELD_ITEMS }
         requires tickets { self.old.opened < 2 ^ 32 - 1 }
         ensures { Executes self.old (owner_by xid.0 manager call (work.At stmts.now)) (effect tables.now stmts.now) result self.new }
     {
-        let effect = match tables.effect(alloc, stmts) {
+        let effect = match tables.effect(alloc, stmts.get().as_slice()) {
             Ok(effect) => effect,
             Err(error) => return Err(opening::refused(error)),
         };
@@ -101,7 +101,7 @@ impl LocalTxns {
         xid: Xid,
         call: u16,
         manager: u16,
-        action: &Action,
+        action: &Shared<Action>,
     ) -> Result<Ticket, NoMemory>
         requires { self.old.opened < 2 ^ 32 - 1 }
         ensures { Prepares self.old (owner_by xid.0 manager call (work.Tcc action.now)) result self.new }

@@ -6,7 +6,7 @@ ghost use Rattle.local_txn.specs.Answers.{open_of, owner_by, refusal, TellsBusy}
 
 use crate::transactions::{ExecError, OpenTxn};
 use local_tables::{Effect, EffectError};
-use seata_types::{Action, Duplicate, List, NoMemory, RowKey, Stmt, Ticket, Work, Xid};
+use seata_types::{Action, Duplicate, List, NoMemory, RowKey, Shared, Stmt, Ticket, Work, Xid};
 use std::alloc::Global;
 
 /// The answer where statements have no effect.
@@ -29,17 +29,6 @@ pub(crate) fn busy(alloc: Global, key: &RowKey, by: Ticket) -> ExecError
     }
 }
 
-/// Copies of statements.
-fn copies(alloc: Global, stmts: &[Stmt]) -> Result<List<Stmt>, NoMemory>
-    ensures { IfOk result (λ copied. copied ≡ stmts.now) }
-{
-    let mut copied = Vec::new(alloc);
-    for stmt in stmts {
-        copied.push(stmt.copy(alloc)?)?;
-    }
-    Ok(List::of(copied))
-}
-
 /// A call of statements with their effect, at its opening.
 pub(crate) fn at_call(
     alloc: Global,
@@ -47,12 +36,12 @@ pub(crate) fn at_call(
     xid: Xid,
     call: u16,
     manager: u16,
-    stmts: &[Stmt],
+    stmts: &Shared<List<Stmt>>,
     effect: Effect,
 ) -> Result<OpenTxn, NoMemory>
     ensures { IfOk result (λ txn. open_of txn ≡ opening_of ticket (owner_by xid.0 manager call (work.At stmts.now)) effect) }
 {
-    let work = Work::At(copies(alloc, stmts)?);
+    let work = Work::At(stmts.copy(alloc)?);
     let Effect { images, reads, .. } = effect;
     Ok(OpenTxn {
         ticket,
@@ -73,7 +62,7 @@ pub(crate) fn tcc_call(
     xid: Xid,
     call: u16,
     manager: u16,
-    action: &Action,
+    action: &Shared<Action>,
 ) -> Result<OpenTxn, NoMemory>
     ensures { IfOk result (λ txn. open_of txn ≡ opening_of ticket (owner_by xid.0 manager call (work.Tcc action.now)) no_effect) }
 {

@@ -6,8 +6,9 @@ use Rattle.seata_types.specs.declared.errors.Full.{Full}
 use Rattle.seata_types.specs.declared.errors.StoreError.{StoreError}
 use Rattle.seata_types.specs.declared.errors.StoreError.TheVariants as store_error
 use Rattle.journal_checkpoint.specs.declared.types.Found.{Found}
+use Rattle.journal_checkpoint.specs.Extents.{longer}
 use Rattle.journal_checkpoint.specs.Images.{PairStandsFor, LeavesPairs, Either, with_record}
-use Rattle.journal_checkpoint.specs.Keeping.{KeepsPair, active_disk, disks}
+use Rattle.journal_checkpoint.specs.Keeping.{KeepsPair, active_disk, disks, twin_extent}
 use Rattle.journal_checkpoint.proofs.Kept.{kept_pairs}
 use Rattle.memory_store.specs.declared.store.Store.{Store}
 use Rattle.memory_store.specs.Meanings.{Meaning}
@@ -33,6 +34,7 @@ module _ {M K D I : Type 0} (state : D → DiskState) (lawful : (d : D) → IsLa
     any_moment = λ kept keeps. pairs_weaker (same_pairs kept keeps) (λ a b is. inl is);
     not_begun = λ kept keeps calls left few. same_pairs kept keeps;
     took = tt;
+    extent = tt;
     failed = λ is. absurd (cc);
     full = λ other is. subst (λ (f : Full). IsFullFor state (length body) old f ⊎ IsAtEnd m old) (same_full other is) why;
     exact = λ kept other keeps is. subst (λ (f : Full). IsFullFor state (length body) old f) (same_full other is) (exact kept keeps);
@@ -57,6 +59,7 @@ module _ {M K D I : Type 0} (state : D → DiskState) (lawful : (d : D) → IsLa
     any_moment = λ kept keeps. pairs_weaker (same_pairs kept keeps) (λ a b is. inl is);
     not_begun = λ kept keeps calls left few. same_pairs kept keeps;
     took = tt;
+    extent = tt;
     failed = λ is. absurd (cc);
     full = λ full is. absurd (cc);
     exact = λ kept full keeps is. absurd (cc);
@@ -72,9 +75,9 @@ module _ {M K D I : Type 0} (state : D → DiskState) (lawful : (d : D) → IsLa
       → ((kept : Found) → KeepsPair state kept (twin_of old) → LeavesPairs (disks state (twin_of old)) (disks state (twin_of new)) (Either kept (with_record kept body)))
       → ((kept : Found) → KeepsPair state kept (twin_of old) → (calls : ℕ) → (state (active_disk (twin_of old))).counts.left ≡ Some calls → calls < 2 →
       LeavesPairs (disks state (twin_of old)) (disks state (twin_of new)) (PairStandsFor kept))
-      → Takes state (twin_of old) (twin_of new) → is_down new ≡ false → machine_of new ≡ machine_of old → found_of new ≡ found_of old
+      → Takes state (twin_of old) (twin_of new) → twin_extent (twin_of new) ≡ longer (length body) (twin_extent (twin_of old)) → is_down new ≡ false → machine_of new ≡ machine_of old → found_of new ≡ found_of old
       → Adds state m item body (Ok tt) old new
-  is_added new is may counted room knows pair any_moment not_begun took down machine found = record {
+  is_added new is may counted room knows pair any_moment not_begun took extent down machine found = record {
     keeps = λ kept keeps. record {
       pair = pair kept keeps.pair;
       held = held_more m (memory_of old) body item is (may_follow_now m (memory_of old) item counted may) kept keeps.held ∙ ap (λ (k : K). known_is k) (sym knows);
@@ -83,6 +86,7 @@ module _ {M K D I : Type 0} (state : D → DiskState) (lawful : (d : D) → IsLa
     any_moment = any_moment;
     not_begun = not_begun;
     took = took;
+    extent = extent;
     failed = λ is. absurd (cc);
     full = λ full is. absurd (cc);
     exact = λ kept full keeps is. absurd (cc);

@@ -1,5 +1,5 @@
 -- Disks through reads, a checkpoint and a restart.
-use Rattle.std.proofs.Common.{◌≡◌, ◌⊎◌, ⊎_elim, inl, inr, ℕ, ◌-◌, Bool, true, false, Option, Some, None, Ok, Err, List, refl, sym, ◌∙◌, subst, arith}
+use Rattle.std.proofs.Common.{◌≡◌, ◌⊎◌, ⊎_elim, inl, inr, ℕ, ◌-◌, Bool, true, false, Option, Some, None, Ok, Err, List, refl, sym, ◌∙◌, ap, subst, arith}
 use Rattle.std.specs.Prelude.{not, is_some, IsSome, option_map}
 use Rattle.std.proofs.lemmas.Option.{same_Some}
 use Rattle.disk_model.specs.Disk.{DiskState, Content, SameKind, KeepsRest, CountsCalls, Passed, PassedAtMost, HasCause, Rose, IsSettled, present}
@@ -8,6 +8,7 @@ use Rattle.disk_model.proofs.Calls.{keeps_rest_then, same_kind_then}
 use Rattle.disk_journal.specs.Keeping.{OnlyReads}
 use Rattle.journal_checkpoint.specs.declared.twin.Twin.{Twin}
 use Rattle.journal_checkpoint.specs.Pairs.{chosen}
+use Rattle.journal_checkpoint.specs.Extents.{Extent}
 use Rattle.journal_checkpoint.specs.Images.{Restarts, FailsItself, checkpoint_calls}
 use Rattle.journal_checkpoint.specs.Keeping.{active_disk, other_disk, first_disk, second_disk, other_is_open, IsExchanged, IsFallen}
 use Rattle.memory_store.specs.Settling.{RunsOn}
@@ -91,11 +92,14 @@ module _ {D : Type 0} (state : D → DiskState) where
   turned_second false false x y x' y' e same runs = absurd (cc)
 
   module _ (old new : Twin D) where
-    pub exchanged_first : IsExchanged state old new → RunsOn (state (first_disk old)) (state (first_disk new))
-    exchanged_first is = turned_first old.second new.second (active_disk old) (other_disk old) (active_disk new) (other_disk new) is.second is.former (calls_run (checkpoint_calls (other_is_open old)) is.counts is.rest)
+    turned_side : (count : ℕ) → IsExchanged state count old new → new.second ≡ not old.second
+    turned_side count is = ap (λ (e : Extent). e.second) is.extent
 
-    pub exchanged_second : IsExchanged state old new → RunsOn (state (second_disk old)) (state (second_disk new))
-    exchanged_second is = turned_second old.second new.second (active_disk old) (other_disk old) (active_disk new) (other_disk new) is.second is.former (calls_run (checkpoint_calls (other_is_open old)) is.counts is.rest)
+    pub exchanged_first : (count : ℕ) → IsExchanged state count old new → RunsOn (state (first_disk old)) (state (first_disk new))
+    exchanged_first count is = turned_first old.second new.second (active_disk old) (other_disk old) (active_disk new) (other_disk new) (turned_side count is) is.former (calls_run (checkpoint_calls (other_is_open old)) is.counts is.rest)
+
+    pub exchanged_second : (count : ℕ) → IsExchanged state count old new → RunsOn (state (second_disk old)) (state (second_disk new))
+    exchanged_second count is = turned_second old.second new.second (active_disk old) (other_disk old) (active_disk new) (other_disk new) (turned_side count is) is.former (calls_run (checkpoint_calls (other_is_open old)) is.counts is.rest)
 
     pub fallen_first : (e : Failed) → IsFallen state e old new → RunsOn (state (first_disk old)) (state (first_disk new))
     fallen_first e is = same_first old.second new.second (active_disk old) (other_disk old) (active_disk new) (other_disk new) is.second is.active (failures_run (checkpoint_calls (other_is_open old)) e is.counts is.rest)

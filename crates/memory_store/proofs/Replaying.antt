@@ -141,5 +141,5 @@ snapshot_there second (Some t) s (body ∷ bodies) is = refl
 
 -- ---- what two disks hold whose snapshot is read back
 
-pub held_settled : {K I : Type 0} (m : Meaning K I) (known : K) → m.memory_of (m.snapshot_bytes known) ≡ Some known → held_in m (settled m known) ≡ Ok known
-held_settled m known back = ap (from_start m (records_at (Some (m.snapshot_bytes known))) []) back
+pub held_settled : {K I : Type 0} (m : Meaning K I) (found : Found) (known : K) → m.memory_of (m.snapshot_bytes known) ≡ Some known → held_in m (settled m found known) ≡ Ok known
+held_settled m found known back = ap (from_start m (records_at (Some (m.snapshot_bytes known))) []) back

@@ -12,6 +12,7 @@ use Rattle.journal_checkpoint.specs.declared.types.Found.{Found}
 use Rattle.journal_checkpoint.specs.declared.types.TwinError.{TwinError}
 use Rattle.journal_checkpoint.specs.declared.twin.Twin.{Twin}
 use Rattle.journal_checkpoint.specs.Pairs.{head_of, active_of, is_active, chosen}
+use Rattle.journal_checkpoint.specs.Extents.{Extent}
 use Rattle.journal_checkpoint.specs.Images.{Pair, LeavesPairs, IsActiveDisk, IsOtherHead}
 use Rattle.journal_checkpoint.specs.Keeping.{KeepsPair, active_disk, other_disk, first_disk, second_disk, disks, ordered}
 use Rattle.memory_store.specs.Settling.{IsShort}
@@ -39,10 +40,6 @@ second_is g from false true (Some s) x y side (some, begins, is, text) (k, n, wa
 second_is g from true false (Some s) x y side (some, begins, is, text) other = of_heads y x _ _ _ other is refl
 second_is g from true true (Some s) x y side (some, begins, is, text) (k, n, was, older) = of_heads y x _ _ _ was is (newer_second g (length s) k n older)
 
-begins : (g from : ℕ) (snapshot : Option (List ℕ)) (c : List ℕ) → IsActiveDisk g from snapshot c → records_at snapshot ≡ from
-begins g from None c (none, nine, shut) = sym nine
-begins g from (Some s) c (some, is, open_is, text) = sym is
-
 module _ {D : Type 0} (state : D → DiskState) (found : Found) (t : Twin D) (keeps : KeepsPair state found t) where
   -- the records end where they can be counted
   pub end_is_small : from_of t.journal + row_length found.records < 2 ^ 32
@@ -57,7 +54,7 @@ module _ {D : Type 0} (state : D → DiskState) (found : Found) (t : Twin D) (ke
     images = here t.second (active_disk t) (other_disk t) one two
 
     pub records_are_small : records_at found.snapshot + row_length found.records < 2 ^ 64
-    records_are_small = omega (arith, end_is_small, begins t.generation (from_of t.journal) found.snapshot _ (keeps.active _ images.0))
+    records_are_small = omega (arith, end_is_small, ap (λ (e : Extent). e.begins) keeps.extent)
 
     twice : (s : Bool) → second_in (chosen s (chosen s a b) (chosen s b a)) (chosen s (chosen s b a) (chosen s a b)) ≡ second_in a b
     twice true = refl

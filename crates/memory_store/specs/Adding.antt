@@ -5,8 +5,9 @@ use Rattle.seata_types.specs.declared.errors.Full.{Full}
 use Rattle.seata_types.specs.declared.errors.StoreError.{StoreError}
 use Rattle.seata_types.specs.declared.errors.StoreError.TheVariants as store_error
 use Rattle.journal_checkpoint.specs.declared.types.Found.{Found}
+use Rattle.journal_checkpoint.specs.Extents.{longer}
 use Rattle.journal_checkpoint.specs.Images.{PairStandsFor, LeavesPairs, Either, with_record}
-use Rattle.journal_checkpoint.specs.Keeping.{KeepsPair, active_disk, disks}
+use Rattle.journal_checkpoint.specs.Keeping.{KeepsPair, active_disk, disks, twin_extent}
 use Rattle.memory_store.specs.declared.store.Store.{Store}
 use Rattle.memory_store.specs.Meanings.{Meaning}
 use Rattle.memory_store.specs.Keeping.{machine_of, twin_of, found_of, is_down, Keeps, Takes, Falls, IsAtEnd, IsFullFor, HasRoomIfTaken, ChangesMemory}
@@ -16,6 +17,8 @@ pub record Adds {M K D I : Type 0} (state : D → DiskState) (m : Meaning K I) (
   -- at Ok its disks keep the record behind what they kept
   pub keeps : OnOk result ((kept : Found) → Keeps state m kept old → Keeps state m (with_record kept body) new)
   pub memory : ChangesMemory m item result old new
+  -- its journal then stands behind the record
+  pub extent : OnOk result (twin_extent (twin_of new) ≡ longer (length body) (twin_extent (twin_of old)))
   -- a crash at any moment of the call, however it ends, leaves what was there, with the new record or without
   pub any_moment : (kept : Found) → KeepsPair state kept (twin_of old) →
       LeavesPairs (disks state (twin_of old)) (disks state (twin_of new)) (Either kept (with_record kept body))

@@ -14,10 +14,12 @@ use Rattle.journal_checkpoint.specs.declared.types.Found.{Found}
 use Rattle.journal_checkpoint.specs.declared.twin.Twin.{Twin}
 use Rattle.journal_checkpoint.specs.Images.{PairStandsFor}
 use Rattle.journal_checkpoint.specs.Keeping.{KeepsPair, active_disk, other_disk, first_disk, second_disk, is_second, needed_for, with_active, is_down as twin_is_down}
+use Rattle.journal_checkpoint.specs.Extents.{extent_of}
 use Rattle.memory_store.specs.declared.store.Store.{Store}
 use Rattle.memory_store.specs.contracts.store.Store.{the_row}
 use Rattle.memory_store.specs.Meanings.{Meaning}
 use Rattle.memory_store.specs.Holdings.{held_in, memory_on, second_in, first_place}
+use Rattle.memory_store.specs.Checkpoints.{AreChecked}
 use Rattle.memory_store.specs.Settling.{IsShort, CannotSettle, KeepsOrSettled}
 
 -- ---- what it shows of itself
@@ -125,6 +127,7 @@ pub record IsOf {M K D I : Type 0} (state : D → DiskState) (m : Meaning K I) (
   pub kept : KeepsOrSettled state m found (memory_of s) (twin_of s)
   -- the records past the snapshot take at most half of the disk, unless no snapshot can be put in their place
   pub short : IsShort state (twin_of s) ⊎ CannotSettle m state (memory_of s) (twin_of s)
+  pub extent : AreChecked state m (memory_of s) (extent_of found) (twin_of s)
   -- where the records of these bytes take at most half of either disk, no byte was changed: a crash now leaves these and no others
   pub same : 2 * row_length found.records ≤ (state (first_disk (twin_of s))).size → 2 * row_length found.records ≤ (state (second_disk (twin_of s))).size →
       LeavesAlone a (state (first_disk (twin_of s))) × LeavesAlone b (state (second_disk (twin_of s)))

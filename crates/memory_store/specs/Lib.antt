@@ -1,6 +1,7 @@
 pub mod Meanings
 pub mod Holdings
 pub mod Replays
+pub mod Checkpoints
 pub mod Settling
 pub mod Keeping
 pub mod Adding

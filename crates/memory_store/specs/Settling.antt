@@ -6,9 +6,10 @@ use Rattle.seata_types.specs.declared.errors.OpenError.TheVariants as open_error
 use Rattle.journal_checkpoint.specs.declared.types.Found.{Found}
 use Rattle.journal_checkpoint.specs.declared.twin.Twin.{Twin}
 use Rattle.journal_checkpoint.specs.Images.{PairStandsFor, LeavesPairs, CannotCheckpoint, only_snapshot}
-use Rattle.journal_checkpoint.specs.Keeping.{KeepsPair, active_disk, other_disk, first_disk, second_disk, disks, generation_of, is_down, records_length}
+use Rattle.journal_checkpoint.specs.Keeping.{KeepsPair, active_disk, other_disk, first_disk, second_disk, disks, generation_of, is_down, records_length, twin_extent}
 use Rattle.seata_types.specs.declared.limits.TheConstants.{ACTS}
 use Rattle.memory_store.specs.Meanings.{Meaning}
+use Rattle.memory_store.specs.Checkpoints.{AreChecked}
 use Rattle.memory_store.specs.Holdings.{held_in}
 
 -- the records past the snapshot take at most half of the active disk
@@ -28,16 +29,16 @@ pub record IsWritable {K I : Type 0} (m : Meaning K I) (known : K) : Type 0 wher
   pub sound : m.IsSound known
 
 -- the snapshot of what is known, and no record past it
-abbrev pub settled : {K I : Type 0} → Meaning K I → K → Found
-settled m known = only_snapshot (m.snapshot_bytes known)
+abbrev pub settled : {K I : Type 0} → Meaning K I → Found → K → Found
+settled m found known = only_snapshot found (m.snapshot_bytes known)
 
 -- two disks keep this, or the snapshot of what is known in its place
 abbrev pub KeepsOrSettled : {K I D : Type 0} → (D → DiskState) → Meaning K I → Found → K → Twin D → Type 0
-KeepsOrSettled state m found known t = KeepsPair state found t ⊎ (IsWritable m known × KeepsPair state (settled m known) t)
+KeepsOrSettled state m found known t = KeepsPair state found t ⊎ (IsWritable m known × KeepsPair state (settled m found known) t)
 
 -- the bytes stand for this, or for the snapshot of what is known in its place
 abbrev pub StandsOrSettled : {K I : Type 0} → Meaning K I → Found → K → List ℕ → List ℕ → Type 0
-StandsOrSettled m found known a b = PairStandsFor found a b ⊎ (IsWritable m known × PairStandsFor (settled m known) a b)
+StandsOrSettled m found known a b = PairStandsFor found a b ⊎ (IsWritable m known × PairStandsFor (settled m found known) a b)
 
 -- what a pair of bytes holds is on these bytes too: they are the same, or they stand for what those stand for, or for its
 -- snapshot
@@ -66,6 +67,7 @@ pub record Settles {K I D : Type 0} (state : D → DiskState) (m : Meaning K I) 
   -- a crash at any moment of the call, however it ends, leaves the old snapshot and records, or the new snapshot
   pub any_moment : (found : Found) → KeepsPair state found old → LeavesPairs (disks state old) (disks state new) (StandsOrSettled m found known)
   pub short : OnOk result ((found : Found) → KeepsPair state found old → IsShort state new ⊎ CannotSettle m state known new)
+  pub extent : OnOk result (AreChecked state m known (twin_extent old) new)
   pub not_due : IsShort state old → new ≡ old
   pub error : IfErr result IsNoDamage
   pub no_memory : result ≡ Err open_error.NoMemory → new ≡ old

@@ -25,8 +25,9 @@ impl<K: Drop, M: StateMachine<Memory = K> + Drop, D: Disk> Store<M, K, D> {
     ghost use Rattle.disk_model.specs.Disk.{IsSettled, present};
     ghost use Rattle.disk_model.specs.declared.disk.TheConstants.{LAST_PICK};
     ghost use Rattle.seata_types.specs.declared.limits.TheConstants.{BODY_BYTES};
+    ghost use Rattle.journal_checkpoint.specs.Extents.{longer};
     ghost use Rattle.journal_checkpoint.specs.Images.{PairStandsFor, LeavesPairs, Either, with_record};
-    ghost use Rattle.journal_checkpoint.specs.Keeping.{KeepsPair, active_disk, first_disk, second_disk, disks};
+    ghost use Rattle.journal_checkpoint.specs.Keeping.{KeepsPair, active_disk, first_disk, second_disk, disks, twin_extent};
     ghost use Rattle.memory_store.specs.Settling.{GoesOn};
     ghost use Rattle.memory_store.specs.Adding.{Adds};
     ghost use Rattle.memory_store.specs.Openings.{ReadsDisks, OpensDisks, ComesBack, TakesOver};
@@ -182,6 +183,8 @@ impl<K: Drop, M: StateMachine<Memory = K> + Drop, D: Disk> Store<M, K, D> {
             LeavesPairs (disks D.state (twin_of self.old)) (disks D.state (twin_of self.new)) (PairStandsFor found) }
 
         ensures took { OnOk result (Takes D.state (twin_of self.old) (twin_of self.new)) }
+        ensures extent { OnOk result
+            (twin_extent (twin_of self.new) ≡ longer (length body.now) (twin_extent (twin_of self.old))) }
         ensures failed { OnErr result (Falls D.state (twin_of self.old) (twin_of self.new)) }
         ensures down { is_down self.new ≡ is_err result }
         ensures memory { memory_of self.new ≡ memory_of self.old }

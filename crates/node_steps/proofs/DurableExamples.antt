@@ -1,5 +1,5 @@
 -- Disks computed over the definitions.
-use Rattle.std.proofs.Common.{◌≡◌, inl, ℕ, List, [], ◌∷◌, ◌++◌, None, refl, sym, subst₂, arith}
+use Rattle.std.proofs.Common.{◌≡◌, inl, ℕ, false, List, [], ◌∷◌, ◌++◌, None, refl, sym, subst₂, arith}
 use Rattle.std.specs.Prelude.{replicate}
 use Rattle.byte_fields.specs.Reading.{number_at}
 use Rattle.byte_fields.specs.Tags.{tagged}
@@ -22,7 +22,7 @@ zeros = replicate 48 0
 
 empty_disks : StandsForRecords of_coordinator [] zeros zeros
 unfolding pair_reading head_in reading reading_from found
-empty_disks = record { found = record { snapshot = None; records = [] }; pair = refl; records = refl }
+empty_disks = record { found = record { second = false; generation = 0; snapshot = None; records = [] }; pair = refl; records = refl }
 
 -- they are those of a coordinator that did nothing yet
 empty_are : (disks : Pair) → ((a : List ℕ) → disks.first.may_leave a → a ≡ zeros) → ((b : List ℕ) → disks.second.may_leave b → b ≡ zeros) → AreCoordinatorDisks [] [] 0 disks
@@ -42,7 +42,7 @@ begun = log.Begun (record { 0 = 1 }) 2 3 4
 
 one_begun : StandsForRecords of_coordinator (begun ∷ []) (with_record (sessions.record_bytes begun)) zeros
 unfolding pair_reading head_in reading reading_from found record_in number_in staged sessions.fields_bytes sessions.record_of sessions.record_at sessions.begun_at tagged number_at xid_at
-one_begun = record { found = record { snapshot = None; records = sessions.record_bytes begun ∷ [] }; pair = refl; records = refl }
+one_begun = record { found = record { second = false; generation = 0; snapshot = None; records = sessions.record_bytes begun ∷ [] }; pair = refl; records = refl }
 
 -- the first boot of a resource
 abbrev boot : ResourceRecord
@@ -50,4 +50,4 @@ boot = resource_log.Boot 1
 
 one_boot : (opening : Database) → StandsForRecords (of_resource opening) (boot ∷ []) (with_record (resources.record_bytes boot)) zeros
 unfolding pair_reading head_in reading reading_from found record_in number_in staged resources.fields_bytes resources.record_of resources.record_at resources.boot_at tagged number_at
-one_boot opening = record { found = record { snapshot = None; records = resources.record_bytes boot ∷ [] }; pair = refl; records = refl }
+one_boot opening = record { found = record { second = false; generation = 0; snapshot = None; records = resources.record_bytes boot ∷ [] }; pair = refl; records = refl }

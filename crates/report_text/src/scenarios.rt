@@ -35,7 +35,7 @@ pub(crate) fn statements(scenario: &Scenario, manager: u16, number: u16) -> Opti
     ensures { AreFound (option_copied result) (statements_at scenario.now manager number) }
 {
     match call(scenario, manager, number) {
-        Some((_, Work::At(stmts))) => Some(stmts),
+        Some((_, Work::At(stmts))) => Some(stmts.get()),
         _ => None,
     }
 }
@@ -46,7 +46,7 @@ pub(crate) fn tries(scenario: &Scenario, manager: u16, number: u16) -> Option<&L
     ensures { AreFound (option_copied result) (tries_at scenario.now manager number) }
 {
     match call(scenario, manager, number) {
-        Some((_, Work::Tcc(action))) => Some(&action.tries),
+        Some((_, Work::Tcc(action))) => Some(&action.get().tries),
         _ => None,
     }
 }
@@ -56,7 +56,7 @@ fn action(scenario: &Scenario, resource: u16, manager: u16, number: u16) -> Opti
     ensures { option_copied result ≡ action_at scenario.now resource manager number }
 {
     match call(scenario, manager, number) {
-        Some((at, Work::Tcc(action))) if *at == resource => Some(action),
+        Some((at, Work::Tcc(action))) if *at == resource => Some(action.get()),
         _ => None,
     }
 }

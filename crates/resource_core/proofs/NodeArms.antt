@@ -8,7 +8,7 @@ use Rattle.disk_model.specs.declared.stoppable.Stoppable.{Stoppable}
 use Rattle.journal_checkpoint.specs.Images.{Pair}
 use Rattle.disk_journal.specs.Reading.{row_length}
 use Rattle.journal_checkpoint.specs.declared.types.Found.{Found}
-use Rattle.journal_checkpoint.specs.Keeping.{KeepsPair, active_disk, other_disk, is_second}
+use Rattle.journal_checkpoint.specs.Keeping.{AreSized, KeepsPair, active_disk, other_disk, is_second}
 use Rattle.journal_checkpoint.specs.Pairs.{chosen}
 use Rattle.memory_store.specs.Settling.{KeepsOrSettled, settled}
 use Rattle.seata_types.specs.declared.acts.Act.TheVariants as act
@@ -62,6 +62,7 @@ module _ {D : Type 0} (state : D → DiskState) (calls : ℕ) where
     active = k.active;
     passive = k.passive;
     side = k.side;
+    extent = k.extent;
   }
 
   keeps_armed : (s : Store (Stoppable D)) (t : Setting) (rs : List ResourceRecord) → KeepsRecords (state_of state) t rs s → KeepsRecords (state_of state) t rs (armed s)
@@ -75,7 +76,7 @@ module _ {D : Type 0} (state : D → DiskState) (calls : ℕ) where
   settled_armed : (s : Store (Stoppable D)) (t : Setting) (found : Found) → KeepsOrSettled (state_of state) (meaning_of t) found (known s) (twin s)
       → KeepsOrSettled (state_of state) (meaning_of t) found (known s) (twin (armed s))
   settled_armed s t found (inl k) = inl (kept_armed s found k)
-  settled_armed s t found (inr (writable, k)) = inr (writable, kept_armed s (settled (meaning_of t) (known s)) k)
+  settled_armed s t found (inr (writable, k)) = inr (writable, kept_armed s (settled (meaning_of t) found (known s)) k)
 
   leaves_armed : (second : Bool) (a o : Stoppable D) (c : List ℕ)
       → ((state_of state (chosen second (armed_disk calls a) o)).may_leave c → (state_of state (chosen second a o)).may_leave c)
@@ -89,6 +90,11 @@ module _ {D : Type 0} (state : D → DiskState) (calls : ℕ) where
   size_armed false a o = (refl, refl)
   size_armed true a o = (refl, refl)
 
+  sized_armed : (s : Store (Stoppable D)) (size : ℕ) → AreSized (state_of state) (twin (armed s)) size → AreSized (state_of state) (twin s) size
+  sized_armed s size sized =
+      let same = size_armed (is_second (twin s)) (active_disk (twin s)) (other_disk (twin s)) in
+      record { first = sym same.0 ∙ sized.first; second = sym same.1 ∙ sized.second }
+
   back_armed : (s : Store (Stoppable D)) (pick : ℕ) (before : Store (Stoppable D)) → BringsBack (state_of state) pick before s → BringsBack (state_of state) pick before (armed s)
   back_armed s pick before back = record {
     a = back.a;
@@ -101,6 +107,7 @@ module _ {D : Type 0} (state : D → DiskState) (calls : ℕ) where
       held = back.is.held;
       kept = settled_armed s (setting_of before) back.is.found back.is.kept;
       short = back.is.short;
+      extent = λ size sized. back.is.extent size (sized_armed s size sized);
       same = λ one two.
           let alone = back.is.same (subst (λ (n : ℕ). 2 * row_length back.is.found.records ≤ n) (size_armed (is_second (twin s)) (active_disk (twin s)) (other_disk (twin s))).0 one)
           (subst (λ (n : ℕ). 2 * row_length back.is.found.records ≤ n) (size_armed (is_second (twin s)) (active_disk (twin s)) (other_disk (twin s))).1 two) in (

@@ -6,7 +6,7 @@ use Rattle.disk_model.specs.Disk.{DiskState, IsLawful, SameKind, Passed, Rose, l
 use Rattle.disk_model.specs.Stop.{below, stop_of, failures_of, state_of, stopped_lawful}
 use Rattle.disk_model.specs.declared.stoppable.Stoppable.{Stoppable}
 use Rattle.journal_checkpoint.specs.Images.{Pair}
-use Rattle.journal_checkpoint.specs.Keeping.{active_disk, other_disk, is_second, disks}
+use Rattle.journal_checkpoint.specs.Keeping.{active_disk, other_disk, is_second, disks, twin_extent}
 use Rattle.journal_checkpoint.specs.Pairs.{chosen}
 use Rattle.memory_store.specs.Keeping.{Falls}
 use Rattle.memory_store.specs.Settling.{RunsOn}
@@ -22,7 +22,7 @@ use Rattle.history_rules.specs.ResourceMemory.{booted}
 use Rattle.node_steps.specs.Durable.{own_faults, SamePicks}
 use Rattle.node_steps.specs.Promises.{DisksFail}
 use Rattle.resource_store.specs.declared.store.Store.{Store}
-use Rattle.resource_store.specs.Keeping.{twin, setting_of, KeepsRecords, Loses, Moves, WithOrWithout}
+use Rattle.resource_store.specs.Keeping.{twin, setting_of, KeepsRecords, Loses, Moves, AtOrBehind}
 use Rattle.resource_store.specs.Meaning.{Setting}
 use Rattle.resource_store.specs.Standing.{StandsForRecords}
 use Rattle.resource_store.proofs.OpeningLaws.{moved_first, moved_second, stands_now}
@@ -168,12 +168,12 @@ module _ {D : Type 0} (state : D → DiskState) (law : (d : Stoppable D) → IsL
   module _ (s s' : Store (Stoppable D)) (rs : List ResourceRecord) (r : ResourceRecord) (calls : Option ℕ) (passes : (active_of state s).counts.left ≡ calls) (same : setting_of s' ≡ setting_of s)
       (l : Loses (state_of state) r rs s s') where
     image_by : (b : Bool) → may_stand calls ≡ b → (x y : List ℕ) → (pair_of state s').first.may_leave x → (pair_of state s').second.may_leave y
-        → WithOrWithout (setting_of s) r rs x y → StandsForEither (setting_of s) (record { records = rs; flight = Some r }) (if b then Some r else None) x y
-    image_by b is x y first second (inl e) = inl e
-    image_by true is x y first second (inr e) = inr (r, refl, e)
+        → AtOrBehind (setting_of s) r rs (twin_extent (twin s)) x y → StandsForEither (setting_of s) (record { records = rs; flight = Some r }) (if b then Some r else None) x y
+    image_by b is x y first second (inl e) = inl e.0
+    image_by true is x y first second (inr e) = inr (r, refl, e.0)
     image_by false is x y first second (inr e) =
         let few = cut_is calls is in
-        inl (pairs_now (state_of state) (disks (state_of state) (twin s)) (twin s') (l.not_begun few.0 (passes ∙ few.1) few.2) x y first second)
+        inl (pairs_now (state_of state) (disks (state_of state) (twin s)) (twin s') (l.not_begun few.0 (passes ∙ few.1) few.2) x y first second).0
 
     pub lost_images : (x y : List ℕ) → (pair_of state s').first.may_leave x → (pair_of state s').second.may_leave y
         → StandsForEither (setting_of s') (record { records = rs; flight = Some r }) (if may_stand calls then Some r else None) x y

@@ -6,7 +6,8 @@ use local_txn::LocalTxns;
 use node_steps::{sends, still};
 use resource_store::Store;
 use seata_types::{
-    Act, Action, Input, Leg, List, Message, NoMemory, NodeError, Place, Step, Stmt, Ticket, Work,
+    Act, Action, Input, Leg, List, Message, NoMemory, NodeError, Place, Shared, Step, Stmt, Ticket,
+    Work,
 };
 use std::alloc::Global;
 
@@ -15,8 +16,8 @@ use std::alloc::Global;
 pub struct Branches<D> {
     pub number: u16,
     pub tries: u32,
-    pub actions: List<(u16, u16, Action)>,
-    pub locals: List<(u16, List<Stmt>)>,
+    pub actions: List<(u16, u16, Shared<Action>)>,
+    pub locals: List<(u16, Shared<List<Stmt>>)>,
     pub store: Store<D>,
     pub txns: LocalTxns,
 }

@@ -11,8 +11,8 @@ use disk_model::Disk;
 use local_txn::ExecError;
 use node_steps::{sends, still};
 use seata_types::{
-    Act, Action, BranchId, CallAnswer, Duplicate, Leg, NoMemory, NodeError, Place, RowKey, Step,
-    Stmt, StmtError, Ticket, Why, Work,
+    Act, Action, BranchId, CallAnswer, Duplicate, Leg, List, NoMemory, NodeError, Place, RowKey,
+    Shared, Step, Stmt, StmtError, Ticket, Why, Work,
 };
 use std::alloc::Global;
 use undo_log::UndoRecord;
@@ -52,7 +52,7 @@ impl<D: Disk> Branches<D> {
             return Ok(still(Act::Waiting { xid, call }));
         }
         match work {
-            Work::At(stmts) => self.open_at(alloc, caller, stmts.as_slice()),
+            Work::At(stmts) => self.open_at(alloc, caller, stmts),
             Work::Tcc(action) => self.open_tcc(alloc, caller, action),
         }
     }
@@ -70,7 +70,12 @@ impl<D: Disk> Branches<D> {
     }
 
     // Opens the local transaction of an AT call.
-    fn open_at(&mut self, alloc: Global, caller: Caller, stmts: &[Stmt]) -> Result<Step, NodeError>
+    fn open_at(
+        &mut self,
+        alloc: Global,
+        caller: Caller,
+        stmts: &Shared<List<Stmt>>,
+    ) -> Result<Step, NodeError>
         requires ready { IsReady self.old }
         requires fresh { IsNew D.state self.old caller (work.At stmts.now) }
         requires statements { AreStmtsWithin stmts.now }
@@ -96,7 +101,7 @@ impl<D: Disk> Branches<D> {
         &mut self,
         alloc: Global,
         caller: Caller,
-        action: &Action,
+        action: &Shared<Action>,
     ) -> Result<Step, NodeError>
         requires ready { IsReady self.old }
         requires fresh { IsNew D.state self.old caller (work.Tcc action.now) }

@@ -140,6 +140,7 @@ impl<D: Disk> Branches<D> {
         let Some(stmts) = local_of(self.locals.as_slice(), number) else {
             return Ok(still(Act::Ignored));
         };
+        let stmts = stmts.get().as_slice();
         match local_guard::outside(alloc, &mut self.store, &self.txns, number, stmts) {
             Ok(()) => Ok(still(Act::Durable(Durable::Outside { number }))),
             Err(error) => not_written(number, error),

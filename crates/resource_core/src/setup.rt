@@ -5,7 +5,7 @@ ghost use Rattle.history_rules.specs.ResourceMemory.{action_in, local_in};
 ghost use Rattle.resource_core.specs.Setups.{actions_of};
 
 use local_tables::Schema;
-use seata_types::{Action, List, Row, Stmt, Text};
+use seata_types::{Action, List, Row, Shared, Stmt, Text};
 
 /// What a resource is: its tables with the rows that they open with, each behind its table's name; how often a call tries for
 /// the global lock; the actions of its TCC calls, each behind its manager and its call; and its local transactions, each behind
@@ -15,29 +15,36 @@ pub struct Setup {
     pub schema: Schema,
     pub opening: List<(Text, Row)>,
     pub tries: u32,
-    pub actions: List<(u16, u16, Action)>,
-    pub locals: List<(u16, List<Stmt>)>,
+    pub actions: List<(u16, u16, Shared<Action>)>,
+    pub locals: List<(u16, Shared<List<Stmt>>)>,
 }
 
 /// The actions of a manager's call, if it has any here.
-pub(crate) fn action_of(actions: &[(u16, u16, Action)], manager: u16, call: u16) -> Option<&Action>
+pub(crate) fn action_of(
+    actions: &[(u16, u16, Shared<Action>)],
+    manager: u16,
+    call: u16,
+) -> Option<&Action>
     ensures { option_copied result ≡ action_in manager call (actions_of actions.now) }
 {
     for (of, at, action) in actions {
         if *of == manager && *at == call {
-            return Some(action);
+            return Some(action.get());
         }
     }
     None
 }
 
 /// The statements of a local transaction, if there is one of this number.
-pub(crate) fn local_of(locals: &[(u16, List<Stmt>)], number: u16) -> Option<&[Stmt]>
+pub(crate) fn local_of(
+    locals: &[(u16, Shared<List<Stmt>>)],
+    number: u16,
+) -> Option<&Shared<List<Stmt>>>
     ensures { option_copied result ≡ local_in number locals.now }
 {
     for (at, stmts) in locals {
         if *at == number {
-            return Some(stmts.as_slice());
+            return Some(stmts);
         }
     }
     None

@@ -9,10 +9,10 @@ use Rattle.seata_types.specs.declared.errors.StoreError.{StoreError}
 use Rattle.seata_types.specs.declared.errors.StoreError.TheVariants as store_error
 use Rattle.journal_checkpoint.specs.declared.twin.Twin.{Twin}
 use Rattle.disk_journal.specs.Keeping.{IsFull}
-use Rattle.journal_checkpoint.specs.Images.{LeavesPairs}
+use Rattle.journal_checkpoint.specs.Extents.{Extent}
 use Rattle.journal_checkpoint.specs.Ends.{HasNoPlace}
 use Rattle.journal_checkpoint.specs.Pairs.{chosen}
-use Rattle.journal_checkpoint.specs.Keeping.{active_disk, other_disk, first_disk, second_disk, is_second, disks, needed_for}
+use Rattle.journal_checkpoint.specs.Keeping.{active_disk, other_disk, first_disk, second_disk, is_second, disks, needed_for, twin_extent}
 use Rattle.journal_checkpoint.proofs.Ends.{no_place}
 use Rattle.journal_checkpoint.proofs.Kept.{kept_pairs}
 use Rattle.memory_store.specs.Meanings.{Meaning}
@@ -31,7 +31,7 @@ use Rattle.resource_memory.specs.Known.{Known}
 use Rattle.resource_store.specs.declared.store.Store.{Store}
 use Rattle.resource_store.specs.Meaning.{Setting, meaning_of}
 use Rattle.resource_store.specs.Standing.{StandsForRecords}
-use Rattle.resource_store.specs.Keeping.{setting_of, known, twin, is_down, IsTaken, KeepsRecords, WithOrWithout, Makes, Moves, Changes, boot_record, BootsAs, IsNoDamage, GoesOnAs, GoesOnWithBoot, BringsBack, StandsAlways}
+use Rattle.resource_store.specs.Keeping.{setting_of, known, twin, is_down, IsTaken, KeepsRecords, WithOrWithout, AtOrBehind, LeavesEither, Makes, Moves, Changes, boot_record, BootsAs, IsNoDamage, GoesOnAs, GoesOnWithBoot, BringsBack, StandsAlways}
 use Rattle.resource_store.specs.Openings.{opening_error, boot_length, IsBootFull, IsUndamaged, IsBootDamage}
 use Rattle.resource_store.proofs.StoreLaws.{open_keeps, not_damaged, goes_on, counts_boots}
 
@@ -186,13 +186,18 @@ module _ {D : Type 0} (state : D → DiskState) where
         → IsUndamaged (state (first_disk (twin new))) (state (second_disk (twin new))) (opening_error error)
     boot_refused law error new made rs stands = boot_undamaged law t rs ((known old).boots + 1) error old new (keeps rs stands) (made.makes rs (kept_now rs stands)) made.disks
 
+    -- wherever their journal stands
+    anywhere : (t : Setting) (r : ResourceRecord) (rs : List ResourceRecord) (e : Extent) (c d : List ℕ) → AtOrBehind t r rs e c d → WithOrWithout t r rs c d
+    anywhere t r rs e c d (inl h) = inl h.0
+    anywhere t r rs e c d (inr h) = inr h.0
+
     module _ (images : (c d : List ℕ) → (state (first_disk (twin old))).may_leave c → (state (second_disk (twin old))).may_leave d → GoesOnAs t a b c d) where
       either_boot : (new : Store D) (rs : List ResourceRecord) → StandsForRecords t rs a b
-          → LeavesPairs (disks state (twin old)) (disks state (twin new)) (WithOrWithout (setting_of old) (boot_record (known old)) rs)
+          → LeavesEither state (boot_record (known old)) rs old new
           → (c d : List ℕ) → (state (first_disk (twin new))).may_leave c → (state (second_disk (twin new))).may_leave d → WithOrWithout t (log.Boot (boots rs + 1)) rs c d
       either_boot new rs stands leaves c d one two =
           subst (λ r. WithOrWithout t r rs c d) (boot_is rs stands)
-          (subst (λ z. WithOrWithout z (boot_record (known old)) rs c d) same (pairs_now state (disks state (twin old)) (twin new) leaves c d one two))
+          (subst (λ z. WithOrWithout z (boot_record (known old)) rs c d) same (anywhere (setting_of old) (boot_record (known old)) rs (twin_extent (twin old)) c d (pairs_now state (disks state (twin old)) (twin new) leaves c d one two)))
 
       unchanged : (new : Store D) → new ≡ old → (c d : List ℕ) → (state (first_disk (twin new))).may_leave c → (state (second_disk (twin new))).may_leave d → GoesOnAs t a b c d
       unchanged new is c d one two = images c d (subst (λ s. (state (first_disk (twin s))).may_leave c) is one) (subst (λ s. (state (second_disk (twin s))).may_leave d) is two)

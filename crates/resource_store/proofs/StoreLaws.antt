@@ -1,9 +1,7 @@
 -- What the calls of a store say of lists of records.
-use Rattle.std.proofs.Common.{◌≡◌, ◌⊎◌, inl, inr, ◌<◌, ◌≤◌, ◌+◌, ◌^◌, ℕ, Bool, true, false, List, [], ◌∷◌, length, Some, Result, Ok, Err, refl, sym, ap, subst, ◌∙◌, IsTrue, ◌↔◌, arith}
+use Rattle.std.proofs.Common.{◌≡◌, ◌⊎◌, inl, inr, ◌<◌, ◌≤◌, ◌+◌, ◌^◌, ℕ, Bool, true, false, List, ◌∷◌, length, Some, Result, Ok, Err, refl, sym, ap, subst, ◌∙◌, IsTrue, ◌↔◌, arith}
 use Rattle.std.specs.Prelude.{OnOk}
 use Rattle.disk_model.specs.Disk.{DiskState}
-use Rattle.disk_journal.specs.Reading.{record_length}
-use Rattle.disk_journal.proofs.Rows.{row_length-append}
 use Rattle.seata_types.specs.declared.errors.Full.{Full}
 use Rattle.seata_types.specs.declared.errors.OpenError.{OpenError}
 use Rattle.seata_types.specs.declared.errors.OpenError.TheVariants as open_error
@@ -11,14 +9,16 @@ use Rattle.seata_types.specs.declared.errors.StoreError.{StoreError}
 use Rattle.seata_types.specs.declared.errors.StoreError.TheVariants as store_error
 use Rattle.journal_checkpoint.specs.declared.types.Found.{Found}
 use Rattle.journal_checkpoint.specs.Pairs.{pair_reading}
-use Rattle.journal_checkpoint.specs.Images.{Pair, PairStandsFor, LeavesPairs, Either, with_record}
-use Rattle.journal_checkpoint.specs.Keeping.{KeepsPair, active_disk, disks, records_length}
+use Rattle.journal_checkpoint.specs.Images.{PairStandsFor, LeavesPairs, Either, with_record}
+use Rattle.journal_checkpoint.specs.Extents.{Extent, extent_of, longer}
+use Rattle.journal_checkpoint.specs.Keeping.{KeepsPair, active_disk, disks, twin_extent}
+use Rattle.journal_checkpoint.proofs.Kept.{found_behind}
 use Rattle.memory_store.specs.Meanings.{Meaning}
 use Rattle.memory_store.specs.Holdings.{held_in as held_by_found, memory_on, second_in, on_disk, of_pair}
 use Rattle.memory_store.specs.Settling.{IsWritable, settled, GoesOn, StandsOrSettled}
 use Rattle.memory_store.specs.Keeping.{Keeps, Takes, Falls, HasRoomFor, HasRoomIfTaken, IsFullFor, ChangesMemory, IsDamage, IsRead, IsOf, machine_of}
 use Rattle.memory_store.proofs.Replaying.{few_acts, rows_are_long}
-use Rattle.memory_store.proofs.TwinFacts.{end_is_small}
+use Rattle.memory_store.proofs.TwinFacts.{end_is_small, pairs_weaker}
 use Rattle.durable_records.specs.declared.resources.ResourceRecord.{ResourceRecord}
 use Rattle.resource_memory.specs.Known.{Known, known_of}
 use Rattle.seata_types.specs.declared.limits.TheConstants.{ACTS}
@@ -36,14 +36,10 @@ use Rattle.resource_store.specs.declared.store.Store.{Store}
 use Rattle.resource_store.specs.Meaning.{Setting, opening_of, meaning_of}
 use Rattle.resource_store.specs.Lawful.{lawful}
 use Rattle.resource_store.specs.Standing.{IsListOf, StandsForRecords}
-use Rattle.resource_store.specs.Keeping.{setting_of, known, twin, found_of, is_down, KeepsRecords, WithOrWithout, LeavesEither, HasRoom, Adds, Loses, Makes, Moves, has_failed, Changes, IsNoDamage, GoesOnAs}
+use Rattle.resource_store.specs.Keeping.{setting_of, known, twin, found_of, is_down, KeepsRecords, StandsAt, AtOrBehind, LeavesEither, HasRoom, Adds, Loses, Makes, Moves, has_failed, Changes, IsNoDamage, GoesOnAs}
 use Rattle.resource_store.proofs.ListLaws.{held_of_list, list_more, kept_of, written_back}
 
--- ---- images
-
--- pairs that have P have what follows from it
-leaves_as : (old new : Pair) (P Q : List ℕ → List ℕ → Type 0) → ((a b : List ℕ) → P a b → Q a b) → LeavesPairs old new P → LeavesPairs old new Q
-leaves_as old new P Q so l = record { now = λ a b p q. so a b (l.now a b p q); since = λ a b p q. so a b (l.since a b p q) }
+-- ---- what bytes stand for
 
 one_ok : {A E : Type 0} (r : Result A E) (x y : A) → r ≡ Ok x → r ≡ Ok y → x ≡ y
 one_ok r x y p q = cc
@@ -51,15 +47,6 @@ one_ok r x y p q = cc
 -- two founds of the same bytes are one
 same_found : (found other : Found) (a b : List ℕ) → PairStandsFor found a b → PairStandsFor other a b → found ≡ other
 same_found found other a b is too = one_ok (pair_reading a b) found other is too
-
-module _ (t : Setting) (rs : List ResourceRecord) (r : ResourceRecord) (found : Found) (body : List ℕ)
-    (one : IsListOf t rs found) where
-  stands_still : (a b : List ℕ) → PairStandsFor found a b → StandsForRecords t rs a b
-  stands_still a b is = record { found = found; pair = is; list = one }
-
-  either_stands : IsListOf t (r ∷ rs) (with_record found body) → (a b : List ℕ) → Either found (with_record found body) a b → WithOrWithout t r rs a b
-  either_stands more a b (inl is) = inl (record { found = found; pair = is; list = one })
-  either_stands more a b (inr is) = inr (record { found = with_record found body; pair = is; list = more })
 
 -- ---- one record more
 
@@ -94,10 +81,25 @@ module _ {D : Type 0} (state : D → DiskState) (old new : Store D) (r : Resourc
         list_more (setting_of old) rs k.found r body k.list (ap (λ (s : Known). may_come s r) (sym k.knows) ∙ allowed) fits body_is
         (subst (λ (s : Known). s.acts + 1 < 2 ^ 32) k.knows (counts_more state old rs k))
 
+    -- where their journal stands
+    abbrev there : Extent
+    there = twin_extent (twin old)
+
+    old_there : extent_of k.found ≡ there
+    old_there = sym k.kept.pair.extent
+
+    more_there : extent_of (with_record k.found body) ≡ longer (length (record_bytes r)) there
+    more_there = found_behind k.found body ∙ ap (λ (bytes : List ℕ). longer (length bytes) (extent_of k.found)) is ∙ ap (λ (e : Extent). longer (length (record_bytes r)) e) old_there
+
+    stands_old : (a b : List ℕ) → PairStandsFor k.found a b → StandsAt (setting_of old) rs there a b
+    stands_old a b pair = (record { found = k.found; pair = pair; list = k.list }, old_there)
+
+    stands_either : (a b : List ℕ) → Either k.found (with_record k.found body) a b → AtOrBehind (setting_of old) r rs there a b
+    stands_either a b (inl pair) = inl (stands_old a b pair)
+    stands_either a b (inr pair) = inr (record { found = with_record k.found body; pair = pair; list = more }, more_there)
+
     pub leaves_either : LeavesEither state r rs old new
-    leaves_either =
-        leaves_as (disks state (twin old)) (disks state (twin new)) (Either k.found (with_record k.found body)) (WithOrWithout (setting_of old) r rs)
-        (either_stands (setting_of old) rs r k.found body k.list more) (any_moment k.found k.kept.pair)
+    leaves_either = pairs_weaker (any_moment k.found k.kept.pair) stands_either
 
     knows_more : known new ≡ after r (known old) → known new ≡ known_of (opening_of (setting_of old)) (r ∷ rs)
     knows_more now = now ∙ ap (after r) k.knows ∙ sym (applies (opening_of (setting_of old)) rs more.made.allowed.0 r more.made.allowed.1)
@@ -106,16 +108,12 @@ module _ {D : Type 0} (state : D → DiskState) (old new : Store D) (r : Resourc
     has_record_room : HasRoomFor state (length body) old.kept → HasRoom state r old
     has_record_room = subst (λ (bytes : List ℕ). HasRoomFor state (length bytes) old.kept) is
 
-    records_grow : KeepsPair state (with_record k.found body) (twin new) → records_length (twin new) ≡ records_length (twin old) + record_length (record_bytes r)
-    records_grow pair =
-        subst (λ (bytes : List ℕ). records_length (twin new) ≡ records_length (twin old) + record_length bytes) is
-        (omega (arith, pair.journal.end, k.kept.pair.journal.end, row_length-append k.found.records (body ∷ [])))
-
     -- the disks have it, and it is known
-    pub adds : HasRoomFor state (length body) old.kept → KeepsPair state (with_record k.found body) (twin new) → known new ≡ after r (known old) → Adds state r rs old new
-    adds room pair now = record {
+    pub adds : HasRoomFor state (length body) old.kept → KeepsPair state (with_record k.found body) (twin new) → twin_extent (twin new) ≡ longer (length body) (twin_extent (twin old)) → known new ≡ after r (known old)
+        → Adds state r rs old new
+    adds room pair behind now = record {
       fits = has_record_room room;
-      grows = records_grow pair;
+      extent = behind ∙ ap (λ (bytes : List ℕ). longer (length bytes) (twin_extent (twin old))) is;
       keeps = record {
         found = with_record k.found body;
         kept = record { pair = pair; held = held_of_list (setting_of old) (r ∷ rs) (with_record k.found body) more ∙ ap (λ (s : Known). Ok s) (sym (knows_more now)) };
@@ -131,9 +129,7 @@ module _ {D : Type 0} (state : D → DiskState) (old new : Store D) (r : Resourc
     loses room not_begun = record {
       fits = has_record_room room;
       any_moment = leaves_either;
-      not_begun = λ calls left few.
-          leaves_as (disks state (twin old)) (disks state (twin new)) (PairStandsFor k.found) (StandsForRecords (setting_of old) rs)
-          (stands_still (setting_of old) rs r k.found body k.list) (not_begun k.found k.kept.pair calls left few);
+      not_begun = λ calls left few. pairs_weaker (not_begun k.found k.kept.pair calls left few) stands_old;
     }
 
 -- ---- what adding a record answers
@@ -172,15 +168,18 @@ module _ {D : Type 0} (state : D → DiskState) (old new : Store D) (r : Resourc
     abbrev ChangesKnown : Result (Unit {0}) StoreError → Type 0
     ChangesKnown result = ChangesMemory (meaning_of (setting_of old)) r result old.kept new.kept
 
-    makes_by : (result : Result (Unit {0}) StoreError) → OnOk result Kept → ChangesKnown result → AtAnyMoment → NotBegun → IsExact result → HasRoomIfTaken state (length body) result old.kept →
+    abbrev Behind : Type 0
+    Behind = twin_extent (twin new) ≡ longer (length body) (twin_extent (twin old))
+
+    makes_by : (result : Result (Unit {0}) StoreError) → OnOk result Kept → OnOk result Behind → ChangesKnown result → AtAnyMoment → NotBegun → IsExact result → HasRoomIfTaken state (length body) result old.kept →
         (rs : List ResourceRecord) → KeepsRecords state (setting_of old) rs old → Makes state r rs result old new
-    makes_by (Ok done) keeps memory any_moment not_begun exact room rs k =
-        adds state old new r body fits is allowed any_moment rs k room (keeps k.found k.kept).pair memory
-    makes_by (Err store_error.Failed) keeps memory any_moment not_begun exact room rs k =
+    makes_by (Ok done) keeps behind memory any_moment not_begun exact room rs k =
+        adds state old new r body fits is allowed any_moment rs k room (keeps k.found k.kept).pair behind memory
+    makes_by (Err store_error.Failed) keeps behind memory any_moment not_begun exact room rs k =
         loses state old new r body fits is allowed any_moment rs k room not_begun
-    makes_by (Err (store_error.Full full)) keeps memory any_moment not_begun exact room rs k =
+    makes_by (Err (store_error.Full full)) keeps behind memory any_moment not_begun exact room rs k =
         subst (λ (bytes : List ℕ). IsFullFor state (length bytes) old.kept full) is (exact k.found full k.kept refl)
-    makes_by (Err store_error.NoMemory) keeps memory any_moment not_begun exact room rs k = tt
+    makes_by (Err store_error.NoMemory) keeps behind memory any_moment not_begun exact room rs k = tt
 
     moves_by : (result : Result (Unit {0}) StoreError) → ChangesKnown result → OnOk result (Takes state (twin old) (twin new)) → (result ≡ Err store_error.Failed → Falls state (twin old) (twin new)) → Moves state result old new
     moves_by (Ok done) memory took falls = took
@@ -198,12 +197,12 @@ module _ {D : Type 0} (state : D → DiskState) (old new : Store D) (r : Resourc
     lost_by (Err (store_error.Full full)) memory failed = absurd cc
     lost_by (Err store_error.NoMemory) memory failed = absurd cc
 
-    pub changes : (result : Result (Unit {0}) StoreError) → OnOk result Kept → ChangesKnown result → AtAnyMoment → NotBegun →
+    pub changes : (result : Result (Unit {0}) StoreError) → OnOk result Kept → OnOk result Behind → ChangesKnown result → AtAnyMoment → NotBegun →
         OnOk result (Takes state (twin old) (twin new)) → (result ≡ Err store_error.Failed → Falls state (twin old) (twin new)) → IsExact result → HasRoomIfTaken state (length body) result old.kept →
         IsTrue (is_down new) ↔ (result ≡ Err store_error.Failed) → machine_of new.kept ≡ machine_of old.kept → found_of new ≡ found_of old →
         Changes state r result old new
-    changes result keeps memory any_moment not_begun took falls exact room down machine found = record {
-      makes = makes_by result keeps memory any_moment not_begun exact room;
+    changes result keeps behind memory any_moment not_begun took falls exact room down machine found = record {
+      makes = makes_by result keeps behind memory any_moment not_begun exact room;
       disks = moves_by result memory took falls;
       knows = knows_by result memory;
       lost = lost_by result memory;
@@ -246,7 +245,7 @@ module _ (t : Setting) where
   knows_list rs found s l held = one_ok (held_by_found of found) s (known_of (opening_of t) rs) held (held_of_list t rs found l)
 
   -- a snapshot that can be written is read back
-  settled_list : (rs : List ResourceRecord) (found : Found) (k : Known) → IsListOf t rs found → held_by_found of found ≡ Ok k → IsWritable of k → IsListOf t rs (settled of k)
+  settled_list : (rs : List ResourceRecord) (found : Found) (k : Known) → IsListOf t rs found → held_by_found of found ≡ Ok k → IsWritable of k → IsListOf t rs (settled of found k)
   settled_list rs found k l held w =
       let knows = knows_list rs found k l held in
       let sound = w.sound l.made.opens in
@@ -268,14 +267,14 @@ module _ (t : Setting) where
         let list = subst (IsListOf t rs) (sym same) stands.list in
         record { found = is.found; kept = is.keeps; list = list; knows = knows_list rs is.found (known s) list is.keeps.held }
 
-    kept_by : (found : Found) (rs : List ResourceRecord) → IsListOf t rs found → held_by_found of found ≡ Ok (known s) → KeepsPair state found (twin s) ⊎ (IsWritable of (known s) × KeepsPair state (settled of (known s)) (twin s)) →
+    kept_by : (found : Found) (rs : List ResourceRecord) → IsListOf t rs found → held_by_found of found ≡ Ok (known s) → KeepsPair state found (twin s) ⊎ (IsWritable of (known s) × KeepsPair state (settled of found (known s)) (twin s)) →
         KeepsRecords state t rs s
     kept_by found rs list held (inl pair) = record { found = found; kept = record { pair = pair; held = held }; list = list; knows = knows_list rs found (known s) list held }
     kept_by found rs list held (inr both) =
         let knows = knows_list rs found (known s) list held in
         let more = settled_list rs found (known s) list held both.0 in record {
-          found = settled of (known s);
-          kept = record { pair = both.1; held = held_of_list t rs (settled of (known s)) more ∙ ap (λ (t : Known). Ok t) (sym knows) };
+          found = settled of found (known s);
+          kept = record { pair = both.1; held = held_of_list t rs (settled of found (known s)) more ∙ ap (λ (t : Known). Ok t) (sym knows) };
           list = more;
           knows = knows;
         }
@@ -299,7 +298,7 @@ module _ (t : Setting) where
 
   stands_by : (found : Found) (s : Known) (c d : List ℕ) (rs : List ResourceRecord) → IsListOf t rs found → held_by_found of found ≡ Ok s → StandsOrSettled of found s c d → StandsForRecords t rs c d
   stands_by found s c d rs list held (inl is) = record { found = found; pair = is; list = list }
-  stands_by found s c d rs list held (inr both) = record { found = settled of s; pair = both.1; list = settled_list rs found s list held both.0 }
+  stands_by found s c d rs list held (inr both) = record { found = settled of found s; pair = both.1; list = settled_list rs found s list held both.0 }
 
   -- what goes on stands for the same records
   pub goes_on : (a b c d : List ℕ) → GoesOn of a b c d → GoesOnAs t a b c d

@@ -2,7 +2,6 @@
 use Rattle.std.specs.Prelude.{◌≡◌, ◌⊎◌, ℕ, ◌<◌, ◌≤◌, ◌+◌, Bool, true, false, List, ◌∷◌, length, Option, Some, Result, Ok, Err, IfOk, IfErr, OnOk}
 use Rattle.std.specs.Borrow.{Lends, Fml, RattleType, MutBor}
 use Rattle.disk_model.specs.Disk.{DiskState, present}
-use Rattle.disk_journal.specs.Reading.{record_length}
 use Rattle.seata_types.specs.declared.errors.OpenError.{OpenError}
 use Rattle.seata_types.specs.declared.errors.StoreError.{StoreError}
 use Rattle.seata_types.specs.declared.errors.StoreError.TheVariants as store_error
@@ -10,7 +9,8 @@ use Rattle.seata_types.specs.declared.limits.TheConstants.{BODY_BYTES}
 use Rattle.journal_checkpoint.specs.declared.types.Found.{Found}
 use Rattle.journal_checkpoint.specs.declared.twin.Twin.{Twin}
 use Rattle.journal_checkpoint.specs.Images.{LeavesPairs}
-use Rattle.journal_checkpoint.specs.Keeping.{active_disk, first_disk, second_disk, with_active, disks, records_length}
+use Rattle.journal_checkpoint.specs.Extents.{Extent, extent_of, longer}
+use Rattle.journal_checkpoint.specs.Keeping.{active_disk, first_disk, second_disk, twin_extent, with_active, disks}
 use Rattle.durable_records.specs.declared.resources.ResourceRecord.{ResourceRecord}
 use Rattle.durable_records.specs.declared.resources.ResourceRecord.TheVariants as log
 use Rattle.durable_records.specs.UndoRecords.{boots}
@@ -66,9 +66,17 @@ pub record KeepsRecords {D : Type 0} (state : D → DiskState) (t : Setting) (rs
 abbrev pub WithOrWithout : Setting → ResourceRecord → List ResourceRecord → List ℕ → List ℕ → Type 0
 WithOrWithout t r rs a b = StandsForRecords t rs a b ⊎ StandsForRecords t (r ∷ rs) a b
 
+-- the bytes stand for these records, and their journal stands there
+abbrev pub StandsAt : Setting → List ResourceRecord → Extent → List ℕ → List ℕ → Type 0
+StandsAt t rs e a b = (h : StandsForRecords t rs a b) × (extent_of h.found ≡ e)
+
+-- the bytes stand for the records, with their journal there, or for these and the new one behind them
+abbrev pub AtOrBehind : Setting → ResourceRecord → List ResourceRecord → Extent → List ℕ → List ℕ → Type 0
+AtOrBehind t r rs e a b = StandsAt t rs e a b ⊎ StandsAt t (r ∷ rs) (longer (length (record_bytes r)) e) a b
+
 -- a crash at any moment of the call leaves the records, with the new one or without
 abbrev pub LeavesEither : {D : Type 0} → (D → DiskState) → ResourceRecord → List ResourceRecord → Store D → Store D → Type 0
-LeavesEither state r rs old new = LeavesPairs (disks state (twin old)) (disks state (twin new)) (WithOrWithout (setting_of old) r rs)
+LeavesEither state r rs old new = LeavesPairs (disks state (twin old)) (disks state (twin new)) (AtOrBehind (setting_of old) r rs (twin_extent (twin old)))
 
 -- the record ends within the active disk
 abbrev pub HasRoom : {D : Type 0} → (D → DiskState) → ResourceRecord → Store D → Type 0
@@ -77,8 +85,8 @@ HasRoom state r s = HasRoomFor state (length (record_bytes r)) s.kept
 -- The record fits, is on the disks, and known.
 pub record Adds {D : Type 0} (state : D → DiskState) (r : ResourceRecord) (rs : List ResourceRecord) (old new : Store D) : Type 0 where
   pub fits : HasRoom state r old
-  -- past the snapshot this record comes behind the others
-  pub grows : records_length (twin new) ≡ records_length (twin old) + record_length (record_bytes r)
+  -- its journal then stands behind the record
+  pub extent : twin_extent (twin new) ≡ longer (length (record_bytes r)) (twin_extent (twin old))
   pub keeps : KeepsRecords state (setting_of old) (r ∷ rs) new
   pub any_moment : LeavesEither state r rs old new
 
@@ -87,7 +95,7 @@ pub record Loses {D : Type 0} (state : D → DiskState) (r : ResourceRecord) (rs
   pub fits : HasRoom state r old
   pub any_moment : LeavesEither state r rs old new
   pub not_begun : (calls : ℕ) → (state (active_disk (twin old))).counts.left ≡ Some calls → calls < 2 →
-      LeavesPairs (disks state (twin old)) (disks state (twin new)) (StandsForRecords (setting_of old) rs)
+      LeavesPairs (disks state (twin old)) (disks state (twin new)) (StandsAt (setting_of old) rs (twin_extent (twin old)))
 
 -- What a call that makes a record leaves of these records, by its answer: the record is added, or may be; or it doesn't fit.
 abbrev pub Makes : {D : Type 0} → (D → DiskState) → ResourceRecord → List ResourceRecord → Result (Unit {0}) StoreError → Store D → Store D → Type 0

@@ -56,10 +56,13 @@ module _ {D : Type 0} where
   -- ---- nodes that weren't opened
 
   -- a call for another node didn't ask for the disks of these
+  untouched_for : (name : List ℕ) (old new : ShelfState D) (n : List ℕ) → KeepsOthers (IsDiskName name) old new → ¬ IsDiskName name n → IsUntouched old new n
+  untouched_for name old new n keeps other = record { not_made = λ has. ⊎_elim (λ had. had) (λ its. absurd (other its)) (keeps.made n has); same = keeps.others n other }
+
   pub not_asked_for : (name : List ℕ) (old new : ShelfState D) (vs : List Server) → KeepsOthers (IsDiskName name) old new → ((n : List ℕ) → IsDiskName name n → ¬ IsOfOne (map name_of vs) n) → AllByRecursion (IsNotAsked old new) vs
   not_asked_for name old new [] keeps away = tt
   not_asked_for name old new (v ∷ vs) keeps away = (
-    (λ has. ⊎_elim (λ had. had) (λ its. absurd (away (second_name v.name) its (inl (inr refl)))) (keeps.made (second_name v.name) has)),
+    (untouched_for name old new v.name keeps (λ its. away v.name its (inl (inl refl))), untouched_for name old new (second_name v.name) keeps (λ its. away (second_name v.name) its (inl (inr refl)))),
     not_asked_for name old new vs keeps (λ n named o. away n named (inr o)),
   )
 
@@ -73,7 +76,7 @@ module _ {D : Type 0} where
     where
       all : (us : List Server) → AllByRecursion (IsNotAsked shelf shelf) us
       all [] = tt
-      all (u ∷ us) = ((λ had. had), all us)
+      all (u ∷ us) = ((untouched shelf u.name, untouched shelf (second_name u.name)), all us)
 
   -- the first of them wasn't loaded
   pub first_stops : (state : D → DiskState) (bytes : ℕ) (old new : ShelfState D) (v : Server) (vs : List Server) (missed : RunFault) → AreApart (name_of v ∷ map name_of vs) → KeepsOthers (IsDiskName v.name) old new
@@ -100,10 +103,6 @@ module _ {D : Type 0} where
     not_made n o not has =
         ⊎_elim (λ had. had) (λ theirs. absurd (apart_between (map name_of first) (map name_of servers) apart n theirs o)) (takes.keeps.made n (not ((gives.places n).0 has)))
 
-    not_asked : (vs : List Server) → ((n : List ℕ) → IsOfOne (map name_of vs) n → IsOfOne (map name_of servers) n) → AllByRecursion (IsNotAsked now mid) vs → AllByRecursion (IsNotAsked old new) vs
-    not_asked [] among all = tt
-    not_asked (v ∷ vs) among all = (not_made (second_name v.name) (among (second_name v.name) (inl (inr refl))) all.0, not_asked vs (λ n o. among n (inr o)) all.1)
-
     away : (n : List ℕ) → IsOfOne (map name_of servers) n → ¬ IsOfOne (map name_of first) n
     away n o theirs = apart_between (map name_of first) (map name_of servers) apart n theirs o
 
@@ -116,6 +115,13 @@ module _ {D : Type 0} where
 
     blank_still : (n : List ℕ) → IsOfOne (map name_of servers) n → IsBackBlank state bytes mid n → IsBackBlank state bytes new n
     blank_still n o b = record { disk = b.disk; back = disk_stays mid new n b.disk gives.keeps.tells (gives.keeps.others n (away n o)) b.back; blank = b.blank }
+
+    not_asked : (vs : List Server) → ((n : List ℕ) → IsOfOne (map name_of vs) n → IsOfOne (map name_of servers) n) → AllByRecursion (IsNotAsked now mid) vs → AllByRecursion (IsNotAsked old new) vs
+    not_asked [] among all = tt
+    not_asked (v ∷ vs) among all = (
+      (untouched_still v.name (among v.name (inl (inl refl))) all.0.0, untouched_still (second_name v.name) (among (second_name v.name) (inl (inr refl))) all.0.1),
+      not_asked vs (λ n o. among n (inr o)) all.1,
+    )
 
     still_refused : (v : Server) → ((n : List ℕ) → IsDiskName v.name n → IsOfOne (map name_of servers) n) → IsNotLoaded state bytes now mid v missed → IsNotLoaded state bytes old new v missed
     still_refused v among refused =
@@ -151,6 +157,7 @@ module _ {D : Type 0} where
     }
 
     pub starting_behind : AreEach (λ (v : Server) (d : D × D). ShowNoEntry state bytes v.role d) first disks → StopsStarting state bytes servers mid missed → StopsStarting state bytes (first ++ servers) new missed
+    unfolding returned_still
     starting_behind shows s =
         let among : (n : List ℕ) → IsOfOne (map name_of (s.before ++ s.server ∷ s.behind)) n → IsOfOne (map name_of servers) n = λ n o. subst (λ (vs : List Server). IsOfOne (map name_of vs) n) (sym s.all) o in
         record {
@@ -161,5 +168,6 @@ module _ {D : Type 0} where
           started = all_append (IsBack (ShowNoEntry state bytes) new) first s.before (all_back (ShowNoEntry state bytes) first disks new first_taken gives.back shows)
               (backs_still (ShowNoEntry state bytes) s.before (IsOfOne (map name_of first)) mid new (λ n o. away n (among n (of_before s.before (s.server ∷ s.behind) n o))) gives.keeps s.started);
           refused = returned_still s.server (λ n named. among n (of_at s.before s.behind s.server n named)) s.refused;
+          unbooted = s.unbooted;
           unwritten = backs_still (ShowNoRecord state bytes) s.behind (IsOfOne (map name_of first)) mid new (λ n o. away n (among n (of_after s.before s.behind s.server n o))) gives.keeps s.unwritten;
         }

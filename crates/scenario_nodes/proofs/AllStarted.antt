@@ -1,10 +1,11 @@
 -- The resources of a scenario that were loaded, once each wrote its boot or one didn't.
-use Rattle.std.proofs.Common.{◌≡◌, ◌≤◌, ◌∙◌, ◌+◌, ◌++◌, ℕ, List, ◌∷◌, map, length, length-append, ap, sym, subst, arith}
+use Rattle.std.proofs.Common.{◌≡◌, ◌≢◌, ⊎_elim, ◌≤◌, ◌∙◌, ◌+◌, ◌++◌, ℕ, List, ◌∷◌, map, length, length-append, refl, ap, sym, subst, arith}
 use Rattle.std.specs.List.{AllByRecursion}
 use Rattle.std.proofs.lemmas.List.{length-map, map-append}
 use Rattle.disk_model.specs.Disk.{DiskState}
 use Rattle.disk_model.specs.Shelf.{ShelfState}
 use Rattle.seata_types.specs.declared.errors.OpenError.{OpenError}
+use Rattle.seata_types.specs.declared.errors.OpenError.TheVariants as why
 use Rattle.seata_types.specs.declared.ids.Place.TheVariants as place
 use Rattle.seata_types.specs.declared.limits.TheConstants.{DISK_LEAST}
 use Rattle.scenario_form.specs.declared.scenarios.ResourceDef.{ResourceDef}
@@ -15,13 +16,13 @@ use Rattle.resource_core.specs.NodeOpening.{IsUp, loaded_disks}
 use Rattle.node_seat.specs.Faults.{open_fault}
 use Rattle.node_seat.specs.declared.faults.RunFault.{RunFault}
 use Rattle.scenario_nodes.specs.Loading.{AreLoaded, WriteFirst, WritesBoot}
-use Rattle.scenario_nodes.specs.Nodes.{AreNewResources, IsNewResource, Server, name_of, resource_disks, resource_role, resource_server, resource_servers}
-use Rattle.scenario_nodes.specs.Opening.{HaveCounted, IsUnopened, ShowNoEntry, ShowNoRecord, StopsStarting}
+use Rattle.scenario_nodes.specs.Nodes.{AreNewResources, IsLoadedResource, IsNewResource, Server, name_of, resource_disks, resource_role, resource_server, resource_servers}
+use Rattle.scenario_nodes.specs.Opening.{HaveCounted, IsUnopened, ShowNoBoot, ShowNoEntry, ShowNoRecord, StopsStarting}
 use Rattle.scenario_nodes.specs.Shelves.{AreGivenBack, HasBoth, pair_of}
 use Rattle.scenario_nodes.specs.Together.{AreEach, GivesBack, HaveBoth, numbered}
 use Rattle.scenario_nodes.proofs.AllBack.{all_back}
 use Rattle.scenario_nodes.proofs.AllLoaded.{IsLoadedAt, all_show}
-use Rattle.scenario_nodes.proofs.LoadedResource.{new_shows, start_counted, start_unopened, started}
+use Rattle.scenario_nodes.proofs.LoadedResource.{loaded_shows, new_shows, start_counted, start_unopened, started}
 use Rattle.scenario_nodes.proofs.Numbered.{length_numbered, names_append, names_of, number_of}
 use Rattle.scenario_nodes.proofs.Together.{IsSplit, all_behind, all_front, each_all, each_length, each_map, each_mapped, each_parts, each_split, each_then, each_weaker}
 
@@ -81,6 +82,23 @@ module _ {D : Type 0} (state : D → DiskState) (s : Scenario) (large : DISK_LEA
         let numbers = length_numbered 1 s.resources in
         omega (arith, same, behind, all, sum, numbers)
 
+    -- the one that failed has no boot, unless its disks failed at it
+    unbooted : (n : ℕ) (def : ResourceDef) → IsLoadedResource state s n def w.next → (told : RunFault) → told ≡ open_fault (place.Res n) failed.0 → ShowNoBoot state s.disk told (resource_role s n def) (failed.1, failed.2)
+    unbooted n def here told is = subst (λ (f : RunFault). ShowNoBoot state s.disk f (resource_role s n def) (failed.1, failed.2)) (sym is) (by failed.0 refl)
+      where
+        same : failed.0 ≢ why.Failed → ShowNoRecord state s.disk (resource_role s n def) (failed.1, failed.2)
+        same other =
+            ⊎_elim (λ (f : failed.0 ≡ why.Failed). absurd (other f))
+            (λ (kept : (failed.1 ≡ (loaded_disks w.next).0) × (failed.2 ≡ (loaded_disks w.next).1)).
+            subst (λ (a : D). ShowNoRecord state s.disk (resource_role s n def) (a, failed.2)) (sym kept.0)
+            (subst (λ (b : D). ShowNoRecord state s.disk (resource_role s n def) ((loaded_disks w.next).0, b)) (sym kept.1) (loaded_shows state s large n def w.next here))) w.unwritten
+
+        by : (e : OpenError) → failed.0 ≡ e → ShowNoBoot state s.disk (open_fault (place.Res n) e) (resource_role s n def) (failed.1, failed.2)
+        by why.Failed is = tt
+        by (why.Damaged second at) is = same (λ no. absurd (let other : why.Damaged second at ≡ why.Failed = sym is ∙ no in cc))
+        by (why.Full full) is = same (λ no. absurd (let other : why.Full full ≡ why.Failed = sym is ∙ no in cc))
+        by why.NoMemory is = same (λ no. absurd (let other : why.NoMemory ≡ why.Failed = sym is ∙ no in cc))
+
     pub starting_stops : (mid new : ShelfState D) (told : RunFault) → told ≡ open_fault (place.Res (length nodes + 1)) failed.0 → HaveBoth new (names_of s (numbered 1 s.resources))
         → GivesBack (names_of s (numbered 1 s.resources)) (all_disks nodes (failed.1, failed.2) left) mid new → StopsStarting state s.disk (resource_servers s) new told
     starting_stops mid new told is taken gives =
@@ -110,5 +128,6 @@ module _ {D : Type 0} (state : D → DiskState) (s : Scenario) (large : DISK_LEA
             unopened = λ all. subst (λ (f : RunFault). IsUnopened (resource_role s parts.at.0 parts.at.1) s.disk (pair_of state (failed.1, failed.2)) f) (sym fault)
                 (start_unopened state s large parts.at.0 parts.at.1 w.next parts.here failed w.fails all);
           };
+          unbooted = unbooted parts.at.0 parts.at.1 parts.here told fault;
           unwritten = all_back (ShowNoRecord state s.disk) (map (resource_server s) parts.behind) (map loaded_disks left) new later.1 backs.1.1 (all_show state s large parts.behind left parts.rest);
         }

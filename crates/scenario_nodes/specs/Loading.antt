@@ -6,7 +6,7 @@ use Rattle.scenario_form.specs.declared.scenarios.ResourceDef.{ResourceDef}
 use Rattle.scenario_form.specs.declared.scenarios.Scenario.{Scenario}
 use Rattle.resource_core.specs.declared.nodes.Resource.{Resource}
 use Rattle.resource_core.specs.declared.opening.Loaded.{Loaded}
-use Rattle.resource_core.specs.NodeOpening.{FailsStart, Starts, loaded_at}
+use Rattle.resource_core.specs.NodeOpening.{FailsStart, Starts, StaysUnwritten, loaded_at}
 use Rattle.resource_core.specs.Shown.{stands_at}
 use Rattle.scenario_nodes.specs.Nodes.{IsLoadedResource}
 use Rattle.scenario_nodes.specs.Together.{AreEach}
@@ -27,6 +27,7 @@ pub record WriteFirst {D : Type 0} (state : D → DiskState) (loaded left : List
   pub all : loaded ≡ before ++ next ∷ left
   pub each : AreEach (WritesBoot state) before started
   pub fails : FailsStart state next failed
+  pub unwritten : StaysUnwritten next failed
 
 -- what starting resources one by one does
 abbrev pub WriteBoots : {D : Type 0} → (D → DiskState) → (loaded left : List (Loaded D)) → List (Resource D) → Result (Unit {0}) (OpenError × D × D) → Type 0

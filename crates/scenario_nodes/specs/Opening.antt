@@ -28,7 +28,7 @@ HaveNoEntry (Resource setup past) disks =
     → StandsForRecords (of_resource (opening_tables setup)) [] a b ⊎ StandsForRecords (of_resource (opening_tables setup)) (boot_over [] ∷ []) a b
 HaveNoEntry (Manager settings) disks = Unit {0}
 
--- the two disks of a node that wrote nothing: each pair of images stands for no record
+-- the two disks of a node that wrote no record: each pair of images stands for none
 abbrev pub HaveNoRecord : Role → Pair → Type 0
 HaveNoRecord (Coordinator times past) disks = (a b : List ℕ) → disks.first.may_leave a → disks.second.may_leave b → StandsForRecords of_coordinator [] a b
 HaveNoRecord (Resource setup past) disks = (a b : List ℕ) → disks.first.may_leave a → disks.second.may_leave b → StandsForRecords (of_resource (opening_tables setup)) [] a b
@@ -117,9 +117,14 @@ pub record ShowsUnread {D : Type 0} (state : D → DiskState) (bytes : ℕ) (mis
 abbrev pub IsNotLoaded : {D : Type 0} → (D → DiskState) → (bytes : ℕ) → (old new : ShelfState D) → Server → RunFault → Type 0
 IsNotLoaded state bytes old new server missed = IsNotHad state bytes (place_of server.role) old new server.name missed ⊎ IsBack (ShowsUnread state bytes missed) new server
 
--- no place was made for a node's second disk
+-- nothing was done under the names of a node's disks
 abbrev pub IsNotAsked : {D : Type 0} → (old new : ShelfState D) → Server → Type 0
-IsNotAsked old new server = new.has_place (second_name server.name) → old.has_place (second_name server.name)
+IsNotAsked old new server = IsUntouched old new server.name × IsUntouched old new (second_name server.name)
+
+-- what the disks of a node show whose boot wasn't written: no record, unless they failed at it
+abbrev pub ShowNoBoot : {D : Type 0} → (D → DiskState) → (bytes : ℕ) → RunFault → Role → D × D → Type 0
+ShowNoBoot state bytes (fault.Store at) role disks = Unit {0}
+ShowNoBoot state bytes missed role disks = ShowNoRecord state bytes role disks
 
 -- One of these nodes wasn't loaded. Those before it were, those behind it weren't asked for, and none wrote a boot.
 pub record StopsLoading {D : Type 0} (state : D → DiskState) (bytes : ℕ) (servers : List Server) (old new : ShelfState D) (missed : RunFault) : Type 0 where
@@ -139,6 +144,7 @@ pub record StopsStarting {D : Type 0} (state : D → DiskState) (bytes : ℕ) (s
   pub all : servers ≡ before ++ server ∷ behind
   pub started : AllByRecursion (IsBack (ShowNoEntry state bytes) new) before
   pub refused : IsReturned state new server.role server.name bytes missed
+  pub unbooted : ShowNoBoot state bytes missed server.role refused.disks
   pub unwritten : AllByRecursion (IsBack (ShowNoRecord state bytes) new) behind
 
 -- these nodes weren't opened on disks of so many bytes, and all disks that were taken were given back

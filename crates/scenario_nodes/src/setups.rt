@@ -15,7 +15,7 @@ ghost use Rattle.scenario_nodes.specs.Calls.{HasReadCalls, IsReadCall, IsReadLoc
 use crate::types::{tell_action, tell_rows, tell_stmts};
 use resource_core::Setup;
 use scenario_form::{ManagerDef, ResourceDef, Scenario};
-use seata_types::{Action, Duplicate, List, NoMemory, Stmt, Work};
+use seata_types::{Action, Duplicate, List, NoMemory, Shared, Stmt, Work};
 use std::alloc::Global;
 
 /// Adds one behind the others.
@@ -27,7 +27,7 @@ pub(crate) fn put<T: Drop>(made: &mut Vec<T>, item: T) -> Result<(), NoMemory>
 }
 
 /// The action of a call, where it is a TCC call of this resource.
-fn action_here(resource: u16, at: u16, work: &Work) -> Option<&Action>
+fn action_here(resource: u16, at: u16, work: &Work) -> Option<&Shared<Action>>
     ensures { option_copied result ≡ calls.action_here resource (at, work.now) }
 {
     match work {
@@ -39,7 +39,7 @@ fn action_here(resource: u16, at: u16, work: &Work) -> Option<&Action>
 /// Adds the TCC actions of a manager's calls of a resource, each behind the numbers of the manager and of the call.
 fn put_calls(
     alloc: Global,
-    made: &mut Vec<(u16, u16, Action)>,
+    made: &mut Vec<(u16, u16, Shared<Action>)>,
     resource: u16,
     manager: u16,
     calls: &[(u16, Work)],
@@ -53,7 +53,7 @@ fn put_calls(
 {
     for (k, (at, work)) in calls.iter().enumerate() {
         if let Some(action) = action_here(resource, *at, work) {
-            tell_action(alloc, action)?;
+            tell_action(alloc, action.get())?;
             let action = action.copy(alloc)?;
             put(made, (manager, k as u16 + 1, action))?;
         }
@@ -66,7 +66,7 @@ fn actions_of(
     alloc: Global,
     resource: u16,
     managers: &[ManagerDef],
-) -> Result<List<(u16, u16, Action)>, NoMemory>
+) -> Result<List<(u16, u16, Shared<Action>)>, NoMemory>
     requires few { length managers.now ≤ MANAGERS }
     requires read { All HasReadCalls managers.now }
     ensures made { IfOk result (λ made.
@@ -91,7 +91,7 @@ fn locals_of(
     alloc: Global,
     resource: u16,
     locals: &[(u16, List<Stmt>)],
-) -> Result<List<(u16, List<Stmt>)>, NoMemory>
+) -> Result<List<(u16, Shared<List<Stmt>>)>, NoMemory>
     requires few { length locals.now ≤ LOCALS }
     requires read { All IsReadLocal locals.now }
     ensures made { IfOk result (λ made. made ≡ worlds.locals_at resource 1 locals.now) }
@@ -101,7 +101,8 @@ fn locals_of(
     for (k, (at, stmts)) in locals.iter().enumerate() {
         if *at == resource {
             tell_stmts(alloc, stmts.as_slice())?;
-            let stmts = stmts.copy(alloc)?;
+            let copied = stmts.copy(alloc)?;
+            let stmts = Shared::new(alloc, copied)?;
             put(&mut made, (k as u16 + 1, stmts))?;
         }
     }

@@ -67,8 +67,8 @@ fn tell_work(alloc: Global, work: &Work) -> Result<(), NoMemory>
     ensures { OnOk result (IsFramableWork work.now) }
 {
     match work {
-        Work::At(stmts) => tell_stmts(alloc, stmts.as_slice())?,
-        Work::Tcc(action) => tell_action(alloc, action)?,
+        Work::At(stmts) => tell_stmts(alloc, stmts.get().as_slice())?,
+        Work::Tcc(action) => tell_action(alloc, action.get())?,
     }
     Ok(())
 }

@@ -12,7 +12,7 @@ use crate::statements::statements;
 use local_tables::Schema;
 use scenario_form::ResourceDef;
 use seata_types::limits::{CALLS, LOCALS};
-use seata_types::{Action, BranchKind, List, Stmt, Work};
+use seata_types::{Action, BranchKind, List, Shared, Stmt, Work};
 use serde_json::Value;
 use std::alloc::Global;
 
@@ -29,7 +29,7 @@ fn at_work(alloc: Global, schema: &Schema, value: &Value) -> Result<Work, Scenar
     ensures { Answers (form.at_work schema.now (view value.now)) result }
 {
     match statements(alloc, schema, BranchKind::At, value.get("do")) {
-        Ok(found) => Ok(Work::At(found)),
+        Ok(found) => Ok(Work::At(Shared::new(alloc, found)?)),
         Err(fault) => Err(fault.in_member(alloc, "do")),
     }
 }
@@ -51,11 +51,12 @@ fn tcc_work(alloc: Global, schema: &Schema, value: &Value) -> Result<Work, Scena
         Ok(cancels) => cancels,
         Err(fault) => return Err(fault.in_member(alloc, "cancel")),
     };
-    Ok(Work::Tcc(Action {
+    let action = Action {
         tries,
         confirms,
         cancels,
-    }))
+    };
+    Ok(Work::Tcc(Shared::new(alloc, action)?))
 }
 
 const LOCAL_MEMBERS: [&str; 2] = ["at", "do"];

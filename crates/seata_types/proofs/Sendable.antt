@@ -18,13 +18,16 @@ use Rattle.seata_types.proofs.statuses.BranchStatus.TheSendSync.{the_field_send 
 use Rattle.seata_types.proofs.statuses.GlobalStatus.TheSendSync.{the_field_send as global_status_send}
 use Rattle.seata_types.proofs.lists.List.TheSendSync.{the_send as list_send, the_sync as list_sync}
 use Rattle.seata_types.proofs.rows.Value.TheSendSync.{the_send as value_send, the_sync as value_sync}
+use Rattle.seata_types.proofs.sharing.Shared.TheSendSync.{the_send as shared_send, the_sync as shared_sync}
 use Rattle.seata_types.proofs.statements.Expr.TheSendSync.{the_send as expr_send, the_sync as expr_sync}
 use Rattle.seata_types.proofs.texts.Text.TheSendSync.{the_send as text_send, the_sync as text_sync}
 use Rattle.seata_types.proofs.messages.CallAnswer.TheSendSync.{the_field_send as call_answer_send}
 use Rattle.seata_types.proofs.messages.Registered.TheSendSync.{the_field_send as registered_send}
 use Rattle.seata_types.proofs.rows.RowKey.TheSendSync.{the_send as row_key_send}
 use Rattle.seata_types.specs.contracts.conditions.Cond as cond
+use Rattle.seata_types.specs.contracts.lists.List as list
 use Rattle.seata_types.specs.contracts.messages.Message as message
+use Rattle.seata_types.specs.contracts.sharing.Shared as shared
 use Rattle.seata_types.specs.contracts.statements.Action as action
 use Rattle.seata_types.specs.contracts.statements.Stmt as stmt
 use Rattle.seata_types.specs.contracts.statements.Work as work
@@ -89,12 +92,19 @@ action_send = search (sendable, action_field_send) depth 12
 pub action_sync : IsSync action.the_row
 action_sync = search (sendable, action_field_sync) depth 12
 
+-- an action and statements that several have
+pub shared_action_send : IsSend (shared.the_row action.the_row)
+shared_action_send = search (shared_send, action_send, action_sync)
+
+pub shared_stmts_send : IsSend (shared.the_row (list.the_row stmt.the_row))
+shared_stmts_send = search (shared_send, list_send, list_sync, stmt_send, stmt_sync)
+
 -- what a call asks of a resource
 pub work_field_send : IsSend (work.the_field).row
-work_field_send = search (sendable, list_send, stmt_send, action_field_send) depth 12
+work_field_send = search (sendable, shared_send, list_send, list_sync, stmt_send, stmt_sync, action_send, action_sync) depth 12
 
 pub work_field_sync : IsSync (work.the_field).row
-work_field_sync = search (sendable, list_sync, stmt_sync, action_field_sync) depth 12
+work_field_sync = search (sendable, shared_sync, list_send, list_sync, stmt_send, stmt_sync, action_send, action_sync) depth 12
 
 pub work_send : IsSend work.the_row
 work_send = search (sendable, work_field_send) depth 12
@@ -127,7 +137,7 @@ message_send = search (sendable, message_field_send) depth 12
 
 -- for the `search` of a type that holds some of them and may go
 pub ruleset words =
-    (list_send, cond_send, stmt_send, action_field_send, action_send, work_field_send, work_send, message_field_send, message_send)
+    (list_send, cond_send, stmt_send, action_field_send, action_send, shared_action_send, shared_stmts_send, work_field_send, work_send, message_field_send, message_send)
 
 -- for the `search` of a type that holds some of them and may be looked at
 pub ruleset shared_words =

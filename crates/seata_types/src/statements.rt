@@ -3,6 +3,7 @@ use crate::conditions::Cond;
 use crate::copies::{Duplicate, NoMemory};
 use crate::lists::List;
 use crate::rows::Value;
+use crate::sharing::Shared;
 use crate::texts::Text;
 use std::alloc::Global;
 
@@ -120,11 +121,11 @@ impl Duplicate for Action {
     }
 }
 
-/// What a call asks: statements under the AT mode, or the actions of the TCC mode.
+/// What a call asks: statements under the AT mode, or the actions of the TCC mode. All that keep a call share its statements.
 #[derive(Drop)]
 pub enum Work {
-    At(List<Stmt>),
-    Tcc(Action),
+    At(Shared<List<Stmt>>),
+    Tcc(Shared<Action>),
 }
 
 impl Duplicate for Work {

@@ -12,7 +12,9 @@ use Rattle.seata_types.specs.declared.rows.RowKey.{RowKey}
 use Rattle.journal_checkpoint.specs.declared.types.Found.{Found}
 use Rattle.journal_checkpoint.specs.Pairs.{pair_reading}
 use Rattle.journal_checkpoint.specs.Images.{PairStandsFor, LeavesPairs, Either, with_record}
-use Rattle.journal_checkpoint.specs.Keeping.{KeepsPair, active_disk, first_disk, second_disk, disks}
+use Rattle.journal_checkpoint.specs.Extents.{Extent, extent_of, longer}
+use Rattle.journal_checkpoint.specs.Keeping.{KeepsPair, active_disk, first_disk, second_disk, disks, twin_extent}
+use Rattle.journal_checkpoint.proofs.Kept.{found_behind}
 use Rattle.memory_store.specs.Meanings.{Meaning}
 use Rattle.memory_store.specs.Holdings.{held_in as held_by_found, memory_on, second_in, on_disk, of_pair}
 use Rattle.memory_store.specs.Settling.{IsWritable, settled, GoesOn, StandsOrSettled}
@@ -47,7 +49,7 @@ use Rattle.session_store.specs.declared.sessions.Sessions.{Sessions}
 use Rattle.session_store.specs.Refusals.{of_hold}
 use Rattle.session_store.specs.Meaning.{acts_of, meaning_of, lawful}
 use Rattle.session_store.specs.Standing.{IsListOf, StandsForSessions}
-use Rattle.session_store.specs.Keeping.{managers_of, resources_of, known, twin, is_down, meaning, StandsFor, SameOpening, KeepsRecords, WithOrWithout, HasRoom, Adds, Loses, Makes, register_record, AreFree, Registers, IsRefused, IsNoDamage, GoesOnAs, BringsBack}
+use Rattle.session_store.specs.Keeping.{managers_of, resources_of, known, twin, is_down, meaning, StandsFor, SameOpening, KeepsRecords, StandsAt, AtOrBehind, HasRoom, Adds, Loses, Makes, register_record, AreFree, Registers, IsRefused, IsNoDamage, GoesOnAs, BringsBack}
 use Rattle.session_store.proofs.ListLaws.{held_of_list, list_more, written_back}
 
 -- ---- small
@@ -109,20 +111,32 @@ module _ {D : Type 0} (state : D → DiskState) (old new : Sessions D) (r : Sess
         list_more (managers_of old) (resources_of old) rs k.found r body k.list (ap (λ (s : Snapshot). may_come s r) (sym k.knows) ∙ allowed) within body_is
         (counts_more state rs old k)
 
+    -- where their journal stands
+    abbrev there : Extent
+    there = twin_extent (twin old)
+
+    old_there : extent_of k.found ≡ there
+    old_there = sym k.store.pair.extent
+
+    more_there : extent_of (with_record k.found body) ≡ longer (length (record_bytes r)) there
+    more_there = found_behind k.found body ∙ ap (λ (bytes : List ℕ). longer (length bytes) (extent_of k.found)) is ∙ ap (λ (e : Extent). longer (length (record_bytes r)) e) old_there
+
     -- the same in the words of what it is now
-    now_stands : (ls : List SessionRecord) (a b : List ℕ) → StandsFor old ls a b → StandsFor new ls a b
-    now_stands ls a b = subst (λ (q : SessionMachine). StandsForSessions q.managers q.resources ls a b) (sym machine)
+    now_stands : (ls : List SessionRecord) (e : Extent) (a b : List ℕ) → StandsAt old ls e a b → StandsAt new ls e a b
+    now_stands ls e a b = subst (λ (q : SessionMachine). (h : StandsForSessions q.managers q.resources ls a b) × (extent_of h.found ≡ e)) (sym machine)
 
-    stands_either : (a b : List ℕ) → Either k.found (with_record k.found body) a b → WithOrWithout new r rs a b
-    stands_either a b (inl pair) = inl (now_stands rs a b (record { found = k.found; pair = pair; list = k.list }))
-    stands_either a b (inr pair) = inr (now_stands (r ∷ rs) a b (record { found = with_record k.found body; pair = pair; list = more }))
+    stands_old : (a b : List ℕ) → PairStandsFor k.found a b → StandsAt new rs there a b
+    stands_old a b pair = now_stands rs there a b (record { found = k.found; pair = pair; list = k.list }, old_there)
 
-    leaves_either : LeavesPairs (disks state (twin old)) (disks state (twin new)) (WithOrWithout new r rs)
+    stands_either : (a b : List ℕ) → Either k.found (with_record k.found body) a b → AtOrBehind new r rs there a b
+    stands_either a b (inl pair) = inl (stands_old a b pair)
+    stands_either a b (inr pair) = inr (now_stands (r ∷ rs) (longer (length (record_bytes r)) there) a b (record { found = with_record k.found body; pair = pair; list = more }, more_there))
+
+    leaves_either : LeavesPairs (disks state (twin old)) (disks state (twin new)) (AtOrBehind new r rs there)
     leaves_either = pairs_weaker (any_moment k.found k.store.pair) stands_either
 
-    leaves_old : (calls : ℕ) → (state (active_disk (twin old))).counts.left ≡ Some calls → calls < 2 → LeavesPairs (disks state (twin old)) (disks state (twin new)) (StandsFor new rs)
-    leaves_old calls left few =
-        pairs_weaker (not_begun k.found k.store.pair calls left few) (λ a b pair. now_stands rs a b (record { found = k.found; pair = pair; list = k.list }))
+    leaves_old : (calls : ℕ) → (state (active_disk (twin old))).counts.left ≡ Some calls → calls < 2 → LeavesPairs (disks state (twin old)) (disks state (twin new)) (StandsAt new rs there)
+    leaves_old calls left few = pairs_weaker (not_begun k.found k.store.pair calls left few) stands_old
 
     knows_more : known new ≡ after r (known old) → known new ≡ snapshot_of (r ∷ rs)
     knows_more now = now ∙ ap (after r) k.knows ∙ sym (snapshot_after rs more.made.allowed.0 r more.made.allowed.1)
@@ -138,13 +152,14 @@ module _ {D : Type 0} (state : D → DiskState) (old new : Sessions D) (r : Sess
 
   -- the disks have it, and it is known
   pub adds : HasRoomFor state (length body) old.store → ((found : Found) → Keeps state (meaning old) found old.store → KeepsPair state (with_record found body) (twin new)) → known new ≡ after r (known old) → Takes state (twin old) (twin new) →
-      is_down new ≡ false → Adds state r old new
-  adds room pair now took up = record {
+      twin_extent (twin new) ≡ longer (length body) (twin_extent (twin old)) → is_down new ≡ false → Adds state r old new
+  adds room pair now took extent up = record {
     fits = has_record_room room;
     knows = now;
     keeps = λ rs k. keeps_more rs k (pair k.found k.store) now;
     any_moment = leaves_either;
     took = took;
+    extent = extent ∙ ap (λ (bytes : List ℕ). longer (length bytes) (twin_extent (twin old))) is;
     up = up;
     opening = same_opening old new machine place;
   }
@@ -169,15 +184,15 @@ module _ {D : Type 0} (state : D → DiskState) (old new : Sessions D) (r : Sess
 
   pub makes : (result : Result (Unit {0}) StoreError) →
       OnOk result ((found : Found) → Keeps state (meaning old) found old.store → Keeps state (meaning old) (with_record found body) new.store) →
-      ChangesMemory (meaning old) r result old.store new.store → OnOk result (Takes state (twin old) (twin new)) → (result ≡ Err store_error.Failed → Falls state (twin old) (twin new)) →
+      ChangesMemory (meaning old) r result old.store new.store → OnOk result (Takes state (twin old) (twin new)) → OnOk result (twin_extent (twin new) ≡ longer (length body) (twin_extent (twin old))) → (result ≡ Err store_error.Failed → Falls state (twin old) (twin new)) →
       ((found : Found) (full : Full) → Keeps state (meaning old) found old.store → result ≡ Err (store_error.Full full) → IsFullFor state (length body) old.store full) →
       HasRoomIfTaken state (length body) result old.store → IsTrue (is_down new) ↔ (result ≡ Err store_error.Failed) → Makes state r result old new
-  makes (Ok done) keeps memory took falls exact room down =
-      adds room (λ found kept. (keeps found kept).pair) memory took (not_down (is_down new) down (λ e. cc))
-  makes (Err store_error.Failed) keeps memory took falls exact room down = loses room memory (falls refl) (down.1 refl)
-  makes (Err (store_error.Full full)) keeps memory took falls exact room down =
+  makes (Ok done) keeps memory took extent falls exact room down =
+      adds room (λ found kept. (keeps found kept).pair) memory took extent (not_down (is_down new) down (λ e. cc))
+  makes (Err store_error.Failed) keeps memory took extent falls exact room down = loses room memory (falls refl) (down.1 refl)
+  makes (Err (store_error.Full full)) keeps memory took extent falls exact room down =
       (same_sessions old new memory, λ found kept. subst (λ (bytes : List ℕ). IsFullFor state (length bytes) old.store full) is (exact found full kept refl))
-  makes (Err store_error.NoMemory) keeps memory took falls exact room down = same_sessions old new memory
+  makes (Err store_error.NoMemory) keeps memory took extent falls exact room down = same_sessions old new memory
 
 -- ---- registrations
 
@@ -224,10 +239,10 @@ module _ {D : Type 0} (state : D → DiskState) (old new : Sessions D) (x : Xid)
   may : may_come (known old) (register_record (known old) x place hold) ≡ true
   may = may_register (known old) x place hold check begin fresh grants.0
 
-  pub branch_added : ((found : Found) → KeepsPair state found (twin old) → KeepsPair state (with_record found body) (twin new)) → Takes state (twin old) (twin new) → is_down new ≡ false →
+  pub branch_added : ((found : Found) → KeepsPair state found (twin old) → KeepsPair state (with_record found body) (twin new)) → Takes state (twin old) (twin new) → twin_extent (twin new) ≡ longer (length body) (twin_extent (twin old)) → is_down new ≡ false →
       AreFree old x (hold ++ check) × Adds state (register_record (known old) x place hold) old new
-  branch_added kept took up =
-      (grants.0, adds state old new (register_record (known old) x place hold) body next_fits next_is may within machine opened any_moment not_begun room (λ found keeps. kept found keeps.pair) (now ∙ grants.1) took up)
+  branch_added kept took extent up =
+      (grants.0, adds state old new (register_record (known old) x place hold) body next_fits next_is may within machine opened any_moment not_begun room (λ found keeps. kept found keeps.pair) (now ∙ grants.1) took extent up)
 
   pub branch_lost : Falls state (twin old) (twin new) → is_down new ≡ true →
       (store_error.Failed ≢ store_error.NoMemory → AreFree old x (hold ++ check)) × Loses state (register_record (known old) x place hold) old new
@@ -278,7 +293,7 @@ module _ (managers resources : ℕ) where
   knows_list rs found s l held = one_ok (held_by_found of found) s (snapshot_of rs) held (held_of_list managers resources rs found l)
 
   -- a snapshot that can be written is read back
-  settled_list : (rs : List SessionRecord) (found : Found) (s : Snapshot) → IsListOf managers resources rs found → held_by_found of found ≡ Ok s → IsWritable of s → IsListOf managers resources rs (settled of s)
+  settled_list : (rs : List SessionRecord) (found : Found) (s : Snapshot) → IsListOf managers resources rs found → held_by_found of found ≡ Ok s → IsWritable of s → IsListOf managers resources rs (settled of found s)
   settled_list rs found s l held w =
       let knows = knows_list rs found s l held in
       let back = snapshots_are_of_layouts.back layout.WithForgotten s (snapshot_written s w.can w.few w.sound) in record {
@@ -294,15 +309,15 @@ module _ (managers resources : ℕ) where
         let list = subst (IsListOf managers resources rs) (sym same) stands.list in
         keeps_by state (record { managers = managers; resources = resources }) rs s is.found machine is.keeps.pair is.keeps.held list (knows_list rs is.found (known s) list is.keeps.held)
 
-    kept_by : (found : Found) (rs : List SessionRecord) → IsListOf managers resources rs found → held_by_found of found ≡ Ok (known s) → KeepsPair state found (twin s) ⊎ (IsWritable of (known s) × KeepsPair state (settled of (known s)) (twin s)) →
+    kept_by : (found : Found) (rs : List SessionRecord) → IsListOf managers resources rs found → held_by_found of found ≡ Ok (known s) → KeepsPair state found (twin s) ⊎ (IsWritable of (known s) × KeepsPair state (settled of found (known s)) (twin s)) →
         KeepsRecords state rs s
     kept_by found rs list held (inl pair) =
         keeps_by state (record { managers = managers; resources = resources }) rs s found machine pair held list (knows_list rs found (known s) list held)
     kept_by found rs list held (inr both) =
         let knows = knows_list rs found (known s) list held in
         let more = settled_list rs found (known s) list held both.0 in
-        keeps_by state (record { managers = managers; resources = resources }) rs s (settled of (known s)) machine both.1
-        (held_of_list managers resources rs (settled of (known s)) more ∙ ap known_ok (sym knows)) more knows
+        keeps_by state (record { managers = managers; resources = resources }) rs s (settled of found (known s)) machine both.1
+        (held_of_list managers resources rs (settled of found (known s)) more ∙ ap known_ok (sym knows)) more knows
 
     pub open_keeps : IsOf state of a b s.store → (rs : List SessionRecord) → StandsForSessions managers resources rs a b → KeepsRecords state rs s
     open_keeps is rs stands =
@@ -323,7 +338,7 @@ module _ (managers resources : ℕ) where
 
   stands_by : (found : Found) (s : Snapshot) (c d : List ℕ) (rs : List SessionRecord) → IsListOf managers resources rs found → held_by_found of found ≡ Ok s → StandsOrSettled of found s c d → StandsForSessions managers resources rs c d
   stands_by found s c d rs list held (inl is) = record { found = found; pair = is; list = list }
-  stands_by found s c d rs list held (inr both) = record { found = settled of s; pair = both.1; list = settled_list rs found s list held both.0 }
+  stands_by found s c d rs list held (inr both) = record { found = settled of found s; pair = both.1; list = settled_list rs found s list held both.0 }
 
   -- what goes on stands for the same records
   pub goes_on : (a b c d : List ℕ) → GoesOn of a b c d → GoesOnAs managers resources a b c d

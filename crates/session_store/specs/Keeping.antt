@@ -12,7 +12,8 @@ use Rattle.seata_types.specs.declared.rows.RowKey.{RowKey}
 use Rattle.journal_checkpoint.specs.declared.types.Found.{Found}
 use Rattle.journal_checkpoint.specs.declared.twin.Twin.{Twin}
 use Rattle.journal_checkpoint.specs.Images.{LeavesPairs}
-use Rattle.journal_checkpoint.specs.Keeping.{active_disk, first_disk, second_disk, with_active, disks}
+use Rattle.journal_checkpoint.specs.Extents.{Extent, extent_of, longer}
+use Rattle.journal_checkpoint.specs.Keeping.{active_disk, first_disk, second_disk, twin_extent, with_active, disks}
 use Rattle.memory_store.specs.declared.store.Store.{Store}
 use Rattle.memory_store.specs.Meanings.{Meaning}
 pub use Rattle.memory_store.specs.Settling.{IsNoDamage}
@@ -88,14 +89,18 @@ pub record KeepsRecords {D : Type 0} (state : D → DiskState) (rs : List Sessio
 
 -- ---- one record more
 
--- the bytes stand for the records, or for these and the new one
-abbrev pub WithOrWithout : {D : Type 0} → Sessions D → SessionRecord → List SessionRecord → List ℕ → List ℕ → Type 0
-WithOrWithout s r rs a b = StandsFor s rs a b ⊎ StandsFor s (r ∷ rs) a b
+-- the bytes stand for these records, and their journal stands there
+abbrev pub StandsAt : {D : Type 0} → Sessions D → List SessionRecord → Extent → List ℕ → List ℕ → Type 0
+StandsAt s rs e a b = (h : StandsFor s rs a b) × (extent_of h.found ≡ e)
+
+-- the bytes stand for the records, with their journal there, or for these and the new one behind them
+abbrev pub AtOrBehind : {D : Type 0} → Sessions D → SessionRecord → List SessionRecord → Extent → List ℕ → List ℕ → Type 0
+AtOrBehind s r rs e a b = StandsAt s rs e a b ⊎ StandsAt s (r ∷ rs) (longer (length (record_bytes r)) e) a b
 
 -- a crash at any moment of the call leaves the records, with the new one or without
 abbrev pub LeavesEither : {D : Type 0} → (D → DiskState) → SessionRecord → Sessions D → Sessions D → Type 0
 LeavesEither state r old new =
-    (rs : List SessionRecord) → KeepsRecords state rs old → LeavesPairs (disks state (twin old)) (disks state (twin new)) (WithOrWithout new r rs)
+    (rs : List SessionRecord) → KeepsRecords state rs old → LeavesPairs (disks state (twin old)) (disks state (twin new)) (AtOrBehind new r rs (twin_extent (twin old)))
 
 -- the record ends within the active disk
 abbrev pub HasRoom : {D : Type 0} → (D → DiskState) → SessionRecord → Sessions D → Type 0
@@ -108,6 +113,7 @@ pub record Adds {D : Type 0} (state : D → DiskState) (r : SessionRecord) (old 
   pub keeps : (rs : List SessionRecord) → KeepsRecords state rs old → KeepsRecords state (r ∷ rs) new
   pub any_moment : LeavesEither state r old new
   pub took : Takes state (twin old) (twin new)
+  pub extent : twin_extent (twin new) ≡ longer (length (record_bytes r)) (twin_extent (twin old))
   pub up : is_down new ≡ false
   pub opening : SameOpening old new
 
@@ -118,7 +124,7 @@ pub record Loses {D : Type 0} (state : D → DiskState) (r : SessionRecord) (old
   pub knows : known new ≡ after r (known old)
   pub any_moment : LeavesEither state r old new
   pub not_begun : (rs : List SessionRecord) → KeepsRecords state rs old → (calls : ℕ) → (state (active_disk (twin old))).counts.left ≡ Some calls → calls < 2 →
-      LeavesPairs (disks state (twin old)) (disks state (twin new)) (StandsFor new rs)
+      LeavesPairs (disks state (twin old)) (disks state (twin new)) (StandsAt new rs (twin_extent (twin old)))
   pub falls : Falls state (twin old) (twin new)
   pub down : is_down new ≡ true
   pub opening : SameOpening old new

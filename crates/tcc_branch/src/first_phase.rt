@@ -21,7 +21,7 @@ use disk_model::Disk;
 use local_tables::{Effect, EffectError};
 use local_txn::{LocalTxns, OpenTxn};
 use resource_store::Store;
-use seata_types::{Action, Leg, NoMemory, Stmt, StoreError, Ticket, Why, Work, Xid};
+use seata_types::{Action, Leg, NoMemory, Shared, Stmt, StoreError, Ticket, Why, Work, Xid};
 use std::alloc::Global;
 use tcc_fence::FenceAnswer;
 
@@ -32,7 +32,7 @@ pub fn prepare(
     xid: Xid,
     call: u16,
     manager: u16,
-    action: &Action,
+    action: &Shared<Action>,
 ) -> Result<Ticket, NoMemory>
     requires { txns.old.opened < 2 ^ 32 - 1 }
     ensures { Prepares txns.old (owner_by xid.0 manager call (work.Tcc action.now)) result txns.new }
@@ -83,7 +83,7 @@ fn grant<D: Disk>(
     ensures stays { StaysUnlessTried result store.old store.new }
 {
     match &txn.work {
-        Work::Tcc(action) => run_try(alloc, store, leg, txn.call, action.tries.as_slice()),
+        Work::Tcc(action) => run_try(alloc, store, leg, txn.call, action.get().tries.as_slice()),
         Work::At(_) => Ok(TryAnswer::NotOpen),
     }
 }

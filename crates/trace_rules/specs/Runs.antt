@@ -29,7 +29,8 @@ pub record IsBrokenRun (w : World) (past : Past) (stops : Place → List NodeSto
   pub nodes : EachRuns past stops (traces_of ms)
   pub taken : EachLink Within (traces_of ms)
 
--- traces that are legal each for itself, and whose nodes received only what the others sent them, merge to a legal history
+-- traces that are legal each for itself, and whose nodes received only what the others sent them, in that order and none twice, merge to a
+-- legal history
 abbrev pub MergesLegally : Type 0
 MergesLegally = (w : World) (past : Past) (traces : Place → List Moment) (ms : List Moment)
     → IsMergeOf traces ms → AreAlone w past traces → EachLink Within traces → Legal w past ms

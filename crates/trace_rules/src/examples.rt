@@ -12,7 +12,7 @@ pub fn a_message_is_received()
     ensures { (first second : Message) → FirstIsReceived first second }
 {}
 
-/// A node with two stops is restarted with the pick of the stop that took it down, and armed with the calls of the next;
+/// A node with two stops is restarted with the pick of the stop that was armed last, and armed with the calls of the next;
 /// from the third time on it is restarted with pick 1.
 pub fn restarts_are_by_the_stops()
     ensures { RestartsOfTwoStops }

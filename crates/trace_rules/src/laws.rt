@@ -8,8 +8,8 @@ pub fn traces_have_a_merge()
     ensures { MergesAll }
 {}
 
-/// Traces that are legal each for its node alone, and whose nodes received only what the others sent them, merge to a legal
-/// history.
+/// Traces that are legal each for its node alone, and whose nodes received only what the others sent them, in that order and
+/// none twice, merge to a legal history.
 pub fn traces_merge_to_a_legal_history()
     ensures { MergesLegally }
 {}
@@ -25,7 +25,7 @@ pub fn ended_nodes_make_a_run()
     ensures { SettlesAll }
 {}
 
-/// So they do where a fault ended the run, but that messages may be lost in any number.
+/// So they do where a fault ended the run, but that a node may not have begun, and messages may be lost in any number.
 pub fn ended_nodes_make_a_history()
     ensures { SettlesBroken }
 {}

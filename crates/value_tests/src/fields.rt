@@ -1,6 +1,6 @@
-//! Fields in the layout of earlier programs, which nothing else takes by these calls.
+//! Fields that nothing else puts or takes by these calls: some by themselves, and some in the layout of earlier programs.
 use crate::samples::{Fail, so};
-use byte_fields::Fields;
+use byte_fields::{Fields, put_option_row, put_value};
 use seata_types::Value;
 use std::alloc::Global;
 
@@ -39,4 +39,32 @@ fn holds(alloc: Global) -> Result<(), Fail> {
 #[test]
 fn fields_of_earlier_programs(rt: HostRuntime) -> Result<(), Fail> {
     holds(rt.alloc())
+}
+
+/// The value 7, no row, and no read.
+const PARTS: [u8; 12] = [0, 0, 0, 0, 0, 0, 0, 0, 7, 0, 0, 0];
+
+fn takes_parts(alloc: Global, fields: &mut Fields) -> bool {
+    matches!(fields.take_value(alloc), Ok(Value::Int(7)))
+        && matches!(fields.take_option_row(alloc), Ok(None))
+        && fields.take_reads(alloc).is_ok()
+        && fields.at() == PARTS.len()
+}
+
+fn are_taken(alloc: Global) -> Result<(), Fail> {
+    let mut fields = Fields::new(&PARTS);
+    so(takes_parts(alloc, &mut fields), "parts by themselves")
+}
+
+fn are_put(alloc: Global) -> Result<(), Fail> {
+    let mut out = Vec::new(alloc);
+    put_value(&mut out, &Value::Int(7))?;
+    put_option_row(&mut out, &None)?;
+    so(out.as_slice() == &PARTS[..10], "parts that are put")
+}
+
+#[test]
+fn parts_by_themselves(rt: HostRuntime) -> Result<(), Fail> {
+    are_taken(rt.alloc())?;
+    are_put(rt.alloc())
 }

@@ -7,7 +7,7 @@ use crate::samples::{Fail, copied, so};
 use frame_codec::{Packet, encode};
 use seata_types::{
     BranchId, BranchKind, BranchStatus, CallAnswer, GlobalStatus, List, Message, NoMemory,
-    Registered, RowKey, StmtError, Text, Ticket, Value, Why, Work, Xid,
+    Registered, RowKey, Shared, StmtError, Text, Ticket, Value, Why, Work, Xid,
 };
 use std::alloc::Global;
 
@@ -222,12 +222,13 @@ fn questions(alloc: Global) -> Result<(), Fail> {
         held: Some((key(alloc)?, xid)),
     };
     typed(alloc, held, 22)?;
+    let stmts = Shared::new(alloc, List::of(Vec::new(alloc)))?;
     let call = Message::Call {
         xid,
         manager: 1,
         resource: 2,
         call: 3,
-        work: Work::At(List::of(Vec::new(alloc))),
+        work: Work::At(stmts),
     };
     typed(alloc, call, 201)?;
     Ok(())

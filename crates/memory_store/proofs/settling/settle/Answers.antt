@@ -18,7 +18,7 @@ pub returns-in-Ok-checkpoint : goal.returns-in-Ok-checkpoint
 returns-in-Ok-checkpoint g c =
     settled_or_refused g.D.Disk.state (g.M.StateMachine.meaning c.args.machine.now) c.args.memory.now (record { can = search rules; few = search rules; sound = c.requires.sound }) c.deref.result.now
     (c.deref.ensures.value ∙ c.in-Ok.ensures) c.args.twin.now c.checkpoint.new.self (search rules) c.checkpoint.ensures.any_moment _ c.in-Ok-checkpoint.ensures.done c.in-Ok-checkpoint.ensures.exchanged
-    c.in-Ok-checkpoint.ensures.refused.0 c.in-Ok-checkpoint.ensures.unchanged c.in-Ok-checkpoint.ensures.down
+    c.in-Ok-checkpoint.ensures.refused c.in-Ok-checkpoint.ensures.unchanged c.in-Ok-checkpoint.ensures.down
 
 pub returns : goal.returns
 returns g c =

@@ -35,7 +35,7 @@ returns-in-Err g c =
     let P = WritesBoot g.D.Disk.state in
     let all = c.args.loaded.now.items in
     let f : AreFirst P all c.loop-one.started.items (c.in-Some.one ∷ c.pop_front.new.self.items) = subst (λ ls. AreFirst P all c.loop-one.started.items ls) c.in-Some.ensures.items c.loop-one.invariant.0 in
-    record { before = f.before; next = c.in-Some.one; all = f.split; each = f.each; fails = c.in-Err.ensures.refused }
+    record { before = f.before; next = c.in-Some.one; all = f.split; each = f.each; fails = c.in-Err.ensures.refused; unwritten = c.in-Err.ensures.unwritten }
 
 pub returns : goal.returns
 returns g c =

@@ -10,7 +10,7 @@ use Rattle.scenario_nodes.proofs.Framable.{have_places}
 use Rattle.scenario_nodes.proofs.Made.{local_passed, local_taken}
 use Rattle.scenario_nodes.proofs.Passes.{each_push, placed}
 use Rattle.scenario_nodes.proofs.setups.locals_of.Goals as goal
-use Rattle.scenario_nodes.proofs.setups.locals_of.Goals.{then-at-resource+in_ok-tell_stmts+in_ok-stmts+in_ok-put, else-at-resource}
+use Rattle.scenario_nodes.proofs.setups.locals_of.Goals.{then-at-resource+in_ok-tell_stmts+in_ok-copied+in_ok-stmts+in_ok-put, else-at-resource}
 
 pub tell_stmts-requires : goal.tell_stmts-requires
 tell_stmts-requires c =
@@ -32,9 +32,9 @@ loop-k-preserved c =
     let at = slice_get_read locals _ k one refl c.loop-k-test.true c.index-locals-k.is in
     let all = locals_at r 1 locals in
     elim c.if-at-resource.branch [
-      | then-at-resource+in_ok-tell_stmts+in_ok-stmts+in_ok-put w ↦
+      | then-at-resource+in_ok-tell_stmts+in_ok-copied+in_ok-stmts+in_ok-put w ↦
           let items : c.if-at-resource.made.items ≡ c.loop-k.made.items ++ (k + 1, one.1) ∷ [] =
-          ap (λ v. v.items) w.made-is ∙ w.in_ok-put.ensures ∙ ap (λ (s : List Stmt). c.loop-k.made.items ++ (k + 1, s) ∷ []) w.in_ok-stmts.ensures in
+          ap (λ v. v.items) w.made-is ∙ w.in_ok-put.ensures ∙ ap (λ (s : List Stmt). c.loop-k.made.items ++ (k + 1, s) ∷ []) (w.in_ok-stmts.ensures ∙ w.in_ok-copied.ensures) in
           record {
             made = subst (λ (l : List (ℕ × List Stmt)). l ++ locals_at r (k + 1 + 1) (drop (k + 1) locals) ≡ all) (sym items)
                 (local_taken r k locals one at c.loop-k.made.items all (same_number one.0 r w.if-at-resource.true) c.loop-k.invariant.made);

@@ -6,7 +6,7 @@ use Rattle.seata_types.specs.declared.statements.Action.{Action}
 use Rattle.history_text.specs.Worlds.{call_actions}
 use Rattle.resource_core.specs.Ready.{HasActionWithin}
 use Rattle.resource_core.specs.Setups.{actions_of}
-use Rattle.scenario_nodes.specs.Calls.{IsReadCall, action_here}
+use Rattle.scenario_nodes.specs.Calls.{IsFramableAction, IsReadAction, IsReadCall, action_here}
 use Rattle.scenario_nodes.proofs.Framable.{action_within, here_read}
 use Rattle.scenario_nodes.proofs.Made.{call_passed, call_taken}
 use Rattle.scenario_nodes.proofs.Passes.{each_push, placed}
@@ -17,7 +17,8 @@ pub tell_action-requires : goal.tell_action-requires
 tell_action-requires c =
     let at = slice_get_read c.args.calls.now _ c.loop-k.k c.index-calls-k.result refl c.loop-k-test.true c.index-calls-k.is in
     let here : action_here c.args.resource c.index-calls-k.result ≡ Some c.in-Some.action.now = sym c.action_here.ensures ∙ ap option_copied c.in-Some.is in
-    here_read c.args.resource c.index-calls-k.result c.in-Some.action.now here (placed IsReadCall c.args.calls.now c.loop-k.k c.index-calls-k.result at c.requires.read)
+    subst (λ (a : Action). IsReadAction a) (sym c.get.ensures)
+    (here_read c.args.resource c.index-calls-k.result c.in-Some.action.now here (placed IsReadCall c.args.calls.now c.loop-k.k c.index-calls-k.result at c.requires.read))
 
 pub loop-k-preserved : goal.loop-k-preserved
 loop-k-preserved c =
@@ -38,7 +39,7 @@ loop-k-preserved c =
                 (call_taken r m k calls call at c.loop-k.made.items all action here c.loop-k.invariant.made);
             within = λ before. subst (λ (l : List (ℕ × ℕ × Action)). AllByRecursion HasActionWithin l) (sym items)
                 (each_push HasActionWithin c.loop-k.made.items (m, k + 1, action) (c.loop-k.invariant.within before)
-                (subst (λ (a : Action). HasActionWithin (m, k + 1, a)) (sym w.in_ok-action.ensures) (action_within w.in-Some.action.now w.in_ok-tell_action.ensures)));
+                (subst (λ (a : Action). HasActionWithin (m, k + 1, a)) (sym w.in_ok-action.ensures) (action_within w.in-Some.action.now (subst (λ (a : Action). IsFramableAction a) w.get.ensures w.in_ok-tell_action.ensures))));
           }
       | in_default w ↦
           let items : c.match-action_here.made.items ≡ c.loop-k.made.items = ap (λ v. v.items) w.made-is in

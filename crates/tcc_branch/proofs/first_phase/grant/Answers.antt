@@ -1,3 +1,5 @@
+use Rattle.std.proofs.Common.{◌∙◌, ap}
+use Rattle.seata_types.specs.declared.statements.Action.{Action}
 use Rattle.local_tables.specs.Calls.{effect}
 use Rattle.durable_records.specs.Fences.{on_try}
 use Rattle.tcc_fence.specs.Meanings.{fence_at}
@@ -7,15 +9,15 @@ use Rattle.tcc_branch.proofs.StayLaws.{granted_stays}
 use Rattle.tcc_branch.proofs.first_phase.grant.Goals as goal
 
 pub run_try-requires-clause-statements : goal.run_try-requires-clause-statements
-run_try-requires-clause-statements g c = few_statements c.args.txn.now c.in-Tcc.action c.in-Tcc.is c.requires.may.of_kind _ c.as_slice.ensures c.requires.may.statements
+run_try-requires-clause-statements g c = few_statements c.args.txn.now c.in-Tcc.action c.in-Tcc.is c.requires.may.of_kind _ (c.as_slice.ensures ∙ ap (λ (a : Action). a.tries) c.get.ensures) c.requires.may.statements
 
 pub run_try-requires-clause-places : goal.run_try-requires-clause-places
 run_try-requires-clause-places g c =
-    tries_places c.args.txn.now c.in-Tcc.action c.in-Tcc.is c.requires.may.of_kind _ c.as_slice.ensures (known c.args.store.now).tables c.args.leg c.requires.may.places
+    tries_places c.args.txn.now c.in-Tcc.action c.in-Tcc.is c.requires.may.of_kind _ (c.as_slice.ensures ∙ ap (λ (a : Action). a.tries) c.get.ensures) (known c.args.store.now).tables c.args.leg c.requires.may.places
 
 pub returns-in-Tcc-clause-gives : goal.returns-in-Tcc-clause-gives
 returns-in-Tcc-clause-gives g c =
-    try_gives c.args.txn.now c.in-Tcc.action c.in-Tcc.is c.requires.may.of_kind _ c.as_slice.ensures g.D.Disk.state c.args.store.now c.run_try.new.store c.args.leg _ c.run_try.ensures.gives
+    try_gives c.args.txn.now c.in-Tcc.action c.in-Tcc.is c.requires.may.of_kind _ (c.as_slice.ensures ∙ ap (λ (a : Action). a.tries) c.get.ensures) g.D.Disk.state c.args.store.now c.run_try.new.store c.args.leg _ c.run_try.ensures.gives
 
 pub returns-in-At-clause-gives : goal.returns-in-At-clause-gives
 returns-in-At-clause-gives g c = of_no_call c.args.txn.now _ c.in-At.is c.requires.may.of_kind

@@ -2,9 +2,10 @@ use Rattle.std.proofs.Common.{◌≡◌, ℕ, Bool, Option, List, Some, sym, ◌
 use Rattle.disk_model.specs.Disk.{present, IsSettled}
 use Rattle.disk_journal.specs.Keeping.{OnlyReads}
 use Rattle.disk_journal.proofs.Readings.{still_present, reads_then}
-use Rattle.journal_checkpoint.specs.Pairs.{chosen}
+use Rattle.journal_checkpoint.specs.Pairs.{begins_at, chosen}
 use Rattle.journal_checkpoint.specs.Keeping.{active_disk, other_disk, first_disk, second_disk}
 use Rattle.journal_checkpoint.proofs.Loads.{tells_found, tells_damage, head_damage, found_here, damage_here, active_here, other_here, own_present, from_active, from_other, settled_other, settled_after, present_same, first_reads, second_reads}
+use Rattle.journal_checkpoint.proofs.Kept.{stands_at}
 use Rattle.journal_checkpoint.proofs.twin.Twin.reload.Goals as goal
 
 abbrev some : List ℕ → Option (List ℕ)
@@ -29,7 +30,7 @@ returns-in-Ok-load-clause-reads g c = record {
       let first : p (chosen t.second (active_disk t) (other_disk t)) ≡ Some a = ap p c.turn_to.ensures.first ∙ still_present a c.read_heads.ensures.found.first_reads one in
       let second : p (chosen t.second (other_disk t) (active_disk t)) ≡ Some b = ap p c.turn_to.ensures.second ∙ still_present b c.read_heads.ensures.found.second_reads two in
       let here : p (active_disk t) ≡ Some (chosen c.in-Ok.active.second a b) = own_present g.D.Disk.state t.second (active_disk t) (other_disk t) a b first second ∙ ap (λ (s : Bool). some (chosen s a b)) c.turn_to.ensures.side in
-      found_here a b c.in-Ok.active (c.in-Ok.ensures.found.active a b one two) c.in-Ok-load.found (c.in-Ok-load.ensures.snapshot _ here) (c.in-Ok-load.ensures.records _ here));
+      found_here a b c.in-Ok.active (c.in-Ok.ensures.found.active a b one two) c.in-Ok-load.found c.in-Ok-load.ensures.head (c.in-Ok-load.ensures.snapshot _ here) (c.in-Ok-load.ensures.records _ here));
   first_reads =
       let t = c.turn_to.new.self in
       let u = c.load.new.self in
@@ -97,4 +98,9 @@ returns-in-Ok-load-clause-keeps g c = λ alike.
           let is : k ≡ chosen act.second w.1 w.0 = w.4 ∙ ap (λ (s : Bool). chosen s w.1 w.0) c.turn_to.ensures.side in
           rw (c.in-Ok-load.ensures.generation, c.in-Ok-load.ensures.other_open, is) (other_here w.0 w.1 act (c.in-Ok.ensures.found.active w.0 w.1 (ap p c.fall.ensures.first ∙ w.2) (ap p c.fall.ensures.second ∙ w.3)));
       side = rw (c.in-Ok-load.ensures.generation, c.load.ensures.side, c.turn_to.ensures.side) c.in-Ok.ensures.found.on_side;
+      extent =
+          let u = c.load.new.self in
+          let head = c.in-Ok-load.ensures.head in
+          stands_at g.D.Disk.state c.in-Ok-load.found u.second u.generation u.journal (c.load.ensures.side ∙ c.turn_to.ensures.side ∙ sym head.second) (c.in-Ok-load.ensures.generation ∙ sym head.generation)
+          (c.in-Ok-load.ensures.begins ∙ ap begins_at (sym head.snapshot)) c.in-Ok-load.ensures.keeps;
     }

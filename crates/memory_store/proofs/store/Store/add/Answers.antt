@@ -15,4 +15,4 @@ pub returns-in-Ok : goal.returns-in-Ok
 returns-in-Ok g c =
     is_added g.D.Disk.state g.met.D.Disk.lawful (g.M.StateMachine.meaning c.args.self.now.machine) c.args.item.now c.args.body.now c.args.self.now c.requires.up c.append.new.self
     c.requires.is c.requires.allowed c.in_default.ensures.room c.in_default.ensures.ok (c.append.ensures.memory ∙ c.in_default-apply.ensures.ok) c.in-Ok.ensures.acknowledged
-    c.append.ensures.any_moment c.append.ensures.not_begun c.in-Ok.ensures.took (c.append.ensures.down ∙ ap is_err c.in-Ok.is) c.append.ensures.machine c.append.ensures.found
+    c.append.ensures.any_moment c.append.ensures.not_begun c.in-Ok.ensures.took c.in-Ok.ensures.extent (c.append.ensures.down ∙ ap is_err c.in-Ok.is) c.append.ensures.machine c.append.ensures.found

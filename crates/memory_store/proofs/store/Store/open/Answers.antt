@@ -9,6 +9,8 @@ use Rattle.disk_model.specs.Disk.{HasCause}
 use Rattle.memory_store.proofs.Damages.{no_damage, settling_not_full, same_found}
 use Rattle.memory_store.proofs.DiskFacts.{cause_after, read_again, reads_run, runs_then}
 use Rattle.journal_checkpoint.specs.Keeping.{KeepsPair, disks, first_disk, second_disk}
+use Rattle.journal_checkpoint.specs.Extents.{Extent, extent_of}
+use Rattle.memory_store.specs.Checkpoints.{AreChecked}
 use Rattle.memory_store.specs.Settling.{IsShort, CannotSettle, KeepsOrSettled, RunsOn, StandsOrSettled}
 use Rattle.memory_store.proofs.TwinFacts.{pairs_now, is_short, leaves_alone}
 use Rattle.memory_store.proofs.store.Store.open.Goals as goal
@@ -44,6 +46,8 @@ returns-in-Ok-settle-clause-opens g c = record {
             c.in-Ok.ensures.machine (c.in-Ok-settle.ensures.keeps read.found read.keeps.pair);
         short = subst (λ (k : g.row.M.Denot). IsShort g.D.Disk.state c.settle.new.twin ⊎ CannotSettle (g.M.StateMachine.meaning k) g.D.Disk.state c.in-Ok.store.memory c.settle.new.twin)
             c.in-Ok.ensures.machine (c.in-Ok-settle.ensures.short read.found read.keeps.pair);
+        extent = subst (λ (k : g.row.M.Denot). AreChecked g.D.Disk.state (g.M.StateMachine.meaning k) c.in-Ok.store.memory (extent_of read.found) c.settle.new.twin) c.in-Ok.ensures.machine
+            (subst (λ (e : Extent). AreChecked g.D.Disk.state (g.M.StateMachine.meaning c.in-Ok.store.machine) c.in-Ok.store.memory e c.settle.new.twin) read.keeps.pair.extent c.in-Ok-settle.ensures.extent);
         same = λ one two.
             let few : 2 * row_length read.found.records ≤ (g.D.Disk.state (first_disk c.in-Ok.store.twin)).size = omega (arith, one, c.settle.ensures.first.rest.kind.size) in
             let few_too : 2 * row_length read.found.records ≤ (g.D.Disk.state (second_disk c.in-Ok.store.twin)).size = omega (arith, two, c.settle.ensures.second.rest.kind.size) in

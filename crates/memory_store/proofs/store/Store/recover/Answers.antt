@@ -2,6 +2,8 @@ use Rattle.std.proofs.Common.{◌*◌, ◌≤◌, refl, sym, subst, ◌∙◌, i
 use Rattle.disk_journal.specs.Reading.{row_length}
 use Rattle.journal_checkpoint.specs.declared.twin.Twin.{Twin}
 use Rattle.journal_checkpoint.specs.Keeping.{disks, first_disk, second_disk}
+use Rattle.journal_checkpoint.specs.Extents.{Extent}
+use Rattle.memory_store.specs.Checkpoints.{AreChecked}
 use Rattle.memory_store.specs.Keeping.{LeavesAlone}
 use Rattle.memory_store.proofs.Damages.{held_damage, not_failed, reading_not_full, settling_not_full}
 use Rattle.memory_store.proofs.DiskFacts.{runs_same}
@@ -34,6 +36,7 @@ returns-in-Ok-settle-clause-ok g c = λ a b is too stands keeps. record {
   held = c.in-Ok.ensures.held (records_are_small g.D.Disk.state c.args.found.now c.args.self.now.twin keeps g.met.D.Disk.lawful a b is too);
   kept = c.in-Ok-settle.ensures.keeps c.args.found.now keeps;
   short = c.in-Ok-settle.ensures.short c.args.found.now keeps;
+  extent = subst (λ (e : Extent). AreChecked g.D.Disk.state (g.M.StateMachine.meaning c.args.self.now.machine) c.in-Ok.memory e c.settle.new.twin) keeps.extent c.in-Ok-settle.ensures.extent;
   same = λ one two.
       let few : 2 * row_length c.args.found.now.records ≤ (g.D.Disk.state (first_disk c.args.self.now.twin)).size = omega (arith, one, c.settle.ensures.first.rest.kind.size) in
       let few_too : 2 * row_length c.args.found.now.records ≤ (g.D.Disk.state (second_disk c.args.self.now.twin)).size = omega (arith, two, c.settle.ensures.second.rest.kind.size) in

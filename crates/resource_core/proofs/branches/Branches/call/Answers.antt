@@ -2,7 +2,6 @@ use Rattle.std.proofs.Common.{◌∙◌, Ok, is_some, option_map, sym, ap, subst
 use Rattle.std.specs.Prelude.{find}
 use Rattle.seata_types.specs.declared.messages.Step.{Step}
 use Rattle.seata_types.specs.declared.statements.Work.{Work}
-use Rattle.seata_types.specs.declared.statements.Work.TheVariants as work
 use Rattle.local_txn.specs.Answers.{is_for}
 use Rattle.resource_core.specs.Ready.{ServesWork}
 use Rattle.resource_core.specs.Stepping.{Answers, HearsCall, IsNew, branch_number}
@@ -30,7 +29,7 @@ returns-then-is_some g c = λ resource from.
 
 pub open_at-requires-clause-fresh : goal.open_at-requires-clause-fresh
 open_at-requires-clause-fresh g c =
-    subst (λ (w : Work). IsNew g.D.Disk.state c.args.self.now c.args.caller w) (c.in-At.is ∙ ap work.At (sym c.as_slice.ensures)) (record {
+    subst (λ (w : Work). IsNew g.D.Disk.state c.args.self.now c.args.caller w) c.in-At.is (record {
       of_one = is_one c.args.caller.xid.0 (sym c.is_nobody.ensures ∙ c.if-is_nobody.false);
       undone = λ rs k. sym (c.done_for.ensures rs k) ∙ ap (option_map branch_number) c.in_default.is;
       closed = found_none (find (is_for c.args.caller.xid.0 c.args.caller.call) c.args.self.now.txns.opens) (ap is_some (sym c.find_call.ensures) ∙ sym c.is_some.ensures ∙ c.if-is_some.false);
@@ -45,14 +44,14 @@ open_tcc-requires-clause-fresh g c =
     })
 
 pub open_at-requires-clause-statements : goal.open_at-requires-clause-statements
-open_at-requires-clause-statements g c = subst (λ (w : Work). ServesWork w) (c.in-At.is ∙ ap work.At (sym c.as_slice.ensures)) c.requires.served
+open_at-requires-clause-statements g c = subst (λ (w : Work). ServesWork w) c.in-At.is c.requires.served
 
 pub open_tcc-requires-clause-statements : goal.open_tcc-requires-clause-statements
 open_tcc-requires-clause-statements g c = subst (λ (w : Work). ServesWork w) c.in-Tcc.is c.requires.served
 
 pub returns-in-At : goal.returns-in-At
 returns-in-At g c =
-    subst (λ (w : Work). HearsCall g.D.Disk.state c.args.self.now c.open_at.new.self c.args.caller w c.open_at.result) (ap work.At c.as_slice.ensures ∙ sym c.in-At.is) c.open_at.ensures
+    subst (λ (w : Work). HearsCall g.D.Disk.state c.args.self.now c.open_at.new.self c.args.caller w c.open_at.result) (sym c.in-At.is) c.open_at.ensures
 
 pub returns-in-Tcc : goal.returns-in-Tcc
 returns-in-Tcc g c =

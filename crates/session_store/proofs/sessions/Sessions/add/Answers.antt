@@ -11,4 +11,4 @@ add-requires-clause-is g c =
 pub returns : goal.returns
 returns g c =
     makes g.D.Disk.state c.args.self.now (record { store = c.add.new.self }) c.args.item.now c.deref.result.now c.requires.fits (c.deref.ensures.value ∙ c.in-Ok.ensures) c.requires.allowed c.requires.within
-    c.add.ensures.machine c.add.ensures.found c.add.ensures.any_moment c.add.ensures.not_begun c.add.result c.add.ensures.keeps c.add.ensures.memory c.add.ensures.took c.add.ensures.failed c.add.ensures.exact c.add.ensures.room c.add.ensures.down
+    c.add.ensures.machine c.add.ensures.found c.add.ensures.any_moment c.add.ensures.not_begun c.add.result c.add.ensures.keeps c.add.ensures.memory c.add.ensures.took c.add.ensures.extent c.add.ensures.failed c.add.ensures.exact c.add.ensures.room c.add.ensures.down

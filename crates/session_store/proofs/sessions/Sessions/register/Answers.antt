@@ -17,7 +17,7 @@ returns-in-Ok-append-clause-made g c =
     branch_added g.D.Disk.state old (record { store = c.append.new.self }) c.args.xid c.args.place c.args.hold.now c.args.check.now c.next_branch-branch.result.0 c.deref.result.now c.register.new.self
     branch_is c.register_body.ensures.fits (c.deref.ensures.value ∙ c.in-Ok.ensures.bytes) c.requires.begin c.requires.new c.requires.within grants c.append.ensures.memory
     room c.append.ensures.machine c.append.ensures.found c.append.ensures.any_moment c.append.ensures.not_begun
-    c.in-Ok-append.ensures.acknowledged c.in-Ok-append.ensures.took c.in-Ok-append.ensures.down
+    c.in-Ok-append.ensures.acknowledged c.in-Ok-append.ensures.took c.in-Ok-append.ensures.extent c.in-Ok-append.ensures.down
 
 pub returns-clause-made : goal.returns-clause-made
 returns-clause-made g c =
