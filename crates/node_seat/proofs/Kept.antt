@@ -1,27 +1,31 @@
 -- An entry keeps what a seat keeps.
-use Rattle.std.proofs.Common.{◌≡◌, inl, inr, ◌<◌, ◌≤◌, ℕ, Bool, true, false, List, [], ◌∷◌, ◌++◌, All, get_or, length, Option, Some, None, is_some, zero, suc, Result, Ok, Err, refl, ap, sym, subst, ◌∙◌, arith, length-append}
+use Rattle.std.proofs.Common.{◌≡◌, inl, inr, ◌<◌, ◌≤◌, ℕ, Bool, true, false, ◌||◌, not, List, [], ◌∷◌, ◌++◌, All, get_or, length, Option, Some, None, is_some, zero, suc, Result, Ok, Err, refl, ap, sym, subst, ◌∙◌, arith, length-append, true≢false}
 use Rattle.std.proofs.lemmas.Option.{same_Some}
 use Rattle.journal_checkpoint.specs.Images.{Pair}
 use Rattle.seata_types.specs.declared.ids.Place.{Place}
 use Rattle.seata_types.specs.declared.messages.Input.{Input}
 use Rattle.seata_types.specs.declared.messages.Input.TheVariants as input
 use Rattle.seata_types.specs.declared.messages.Step.{Step}
+use Rattle.durable_records.specs.SessionOrder.{is_empty}
 use Rattle.frame_codec.specs.Packets.{Sent}
 use Rattle.history_rules.specs.Own.{Event, Given, Stopped, Crashed, Restarted}
 use Rattle.history_rules.specs.Nodes.{Role, World, Past}
 use Rattle.history_rules.specs.Histories.{Moment, Turn, Deliver, Missing, Wait, Stop, Crash, Restart, Local, Outside, ReceivesLater, own, own_if, last_now, same_place}
 use Rattle.history_rules.specs.Histories.{Cause as Reason}
+use Rattle.trace_rules.specs.Stops.{HasBegun, NodeStop}
 use Rattle.trace_rules.specs.Traces.{MayBring, IsAfter}
 use Rattle.trace_rules.proofs.Order.{same_place-refl}
 use Rattle.node_steps.specs.Nodes.{IsLawful, NodeState, has_disks, place_of}
 use Rattle.node_steps.specs.Promises.{AreTold}
 use Rattle.history_text.specs.declared.entries.Cause.{Cause}
 use Rattle.history_text.specs.declared.entries.Cause.TheVariants as cause
+use Rattle.history_text.specs.declared.entries.Entry.{Entry}
 use Rattle.history_text.specs.History.{cause_of, entries, entry_of}
 use Rattle.node_seat.specs.declared.faults.RunFault.{RunFault}
 use Rattle.node_seat.specs.Entering.{CanReact, Enters, IsEntered, IsTold, Stays, entry_at, event_by}
-use Rattle.node_seat.specs.Keeping.{Keeps, KeepsSome, IsBehind, IsInputOf, IsNext}
-use Rattle.node_seat.specs.Seating.{Seated}
+use Rattle.node_seat.specs.Keeping.{Keeps, IsBehind, IsInputOf, IsNext}
+use Rattle.node_seat.specs.Running.{KeepsSome}
+use Rattle.node_seat.specs.Seating.{Seated, Traced, traced_of}
 
 -- ---- causes
 
@@ -110,13 +114,19 @@ clock_rises stamp now p (m ∷ ms) all = by (same_place p m.place) m.event (cloc
     by true None before = before
     by false event before = before
 
+-- a node made its first entry, or has no stops
+pub has_begun : (trace : List Entry) (stops : List NodeStop) (ms : List Moment) → trace ≡ entries ms → (not (is_empty trace) || is_empty stops) ≡ true → HasBegun stops ms
+has_begun trace [] ms printed begun none = refl
+has_begun trace (stop ∷ stops) [] printed begun none = absurd (true≢false (sym begun ∙ ap (λ (l : List Entry). not (is_empty l) || false) printed))
+has_begun trace (stop ∷ stops) (m ∷ ms) printed begun none = absurd (let no : m ∷ ms ≡ [] = none in cc)
+
 -- ---- what disks tell
 
 -- what two disks tell stays
 abbrev pub SameTelling : Pair → Pair → Type 0
 SameTelling old new = (is_some new.first.content ≡ is_some old.first.content) × (is_some new.second.content ≡ is_some old.second.content)
 
-told_back : (old new : Pair) → SameTelling old new → AreTold new → AreTold old
+pub told_back : (old new : Pair) → SameTelling old new → AreTold new → AreTold old
 told_back old new same told = record { first = sym same.0 ∙ told.first; second = sym same.1 ∙ told.second }
 
 pub told_all : (disks : Pair) (event : Event) → AreTold disks → IsTold disks event
@@ -125,19 +135,19 @@ told_all disks (Stopped calls) told = tt
 told_all disks Crashed told = tt
 told_all disks (Restarted pick calls) told = told
 
-told_for : (disks : Pair) (c : Cause) (given : Option Input) (event : Event) → event_by c given ≡ Some event → (given ≡ None → AreTold disks) → IsTold disks event
+pub told_for : (disks : Pair) (c : Cause) (given : Option Input) (event : Event) → event_by c given ≡ Some event → (given ≡ None → AreTold disks) → IsTold disks event
 told_for disks c (Some given) event e told = subst (IsTold disks) (same_Some (Given given) event e) tt
 told_for disks c None event e told = told_all disks event (told refl)
 
 -- ---- one entry
 
-module _ {N : Type 0} (state : N → NodeState) (old new : Seated N) (stamp now : ℕ) (why : Cause) (given : Option Input) (event : Event)
+module _ {N : Type 0} (state : N → NodeState) (old new : Traced N) (stamp now : ℕ) (why : Cause) (given : Option Input) (event : Event)
     (is_event : event_by why given ≡ Some event) (next : IsNext old.trace stamp now why given) where
   module _ (role : Role) (at : (state old.node).place ≡ place_of role) (ms : List Moment) (k : Keeps (state old.node) old.trace role ms) (told : IsTold (state old.node).disks event) where
-    abbrev moment : Step → Moment
+    abbrev pub moment : Step → Moment
     moment step = record { stamp = stamp; place = place_of role; now = now; cause = reason_of why; event = Some event; step = step }
 
-    entered : (step : Step) (r : Result (Option Sent) RunFault) → Enters state old new stamp now why event step r → Keeps (state new.node) new.trace role (moment step ∷ ms)
+    pub entered : (step : Step) (r : Result (Option Sent) RunFault) → Enters state old new stamp now why event step r → Keeps (state new.node) new.trace role (moment step ∷ ms)
     entered step r e =
         let behind : All (IsBehind stamp now) (entries ms) = subst (All (IsBehind stamp now)) k.printed next.behind in
         let did = e.does.reacts told role (own (place_of role) ms) k.stands in
@@ -158,7 +168,7 @@ module _ {N : Type 0} (state : N → NodeState) (old new : Seated N) (stamp now 
           stands = rw (same_place-refl (place_of role)) did.1;
         }
 
-    stayed : (missed : RunFault) → Stays state old new now event missed → Keeps (state new.node) new.trace role ms
+    pub stayed : (missed : RunFault) → Stays state old new now event missed → Keeps (state new.node) new.trace role ms
     stayed missed e = record { printed = e.printed ∙ k.printed; alone = k.alone; stands = e.misses.stands told role (own (place_of role) ms) k.stands }
 
     kept : (r : Result (Option Sent) RunFault) → IsEntered state old new stamp now why event r → (ms' : List Moment) × Keeps (state new.node) new.trace role ms'
@@ -166,22 +176,23 @@ module _ {N : Type 0} (state : N → NodeState) (old new : Seated N) (stamp now 
     kept (Err missed) (inl e) = (ms, stayed missed e)
     kept (Err missed) (inr (is, step, e)) = (moment step ∷ ms, entered step (Err missed) e)
 
--- a seat keeps some moments after an entry
+-- a seat keeps some moments after an entry of a replay
 module _ {N : Type 0} (state : N → NodeState) (law : (node : N) → IsLawful (state node)) (w : World) (past : Past) where
   pub keeps_some : (old new : Seated N) (stamp now : ℕ) (why : Cause) (given : Option Input) (event : Event) → event_by why given ≡ Some event → IsNext old.trace stamp now why given
-      → (given ≡ None → (state old.node).stops ≡ true) → SameTelling (state old.node).disks (state new.node).disks
-      → (r : Result (Option Sent) RunFault) → IsEntered state old new stamp now why event r → KeepsSome state w past old → KeepsSome state w past new
-  keeps_some old new stamp now why given event is_event next has same r e (role, named, some) = (
+      → (given ≡ None → (state old.node).stops ≡ true) → SameTelling (state old.node).disks (state new.node).disks → new.runs ≡ false
+      → (r : Result (Option Sent) RunFault) → IsEntered state (traced_of old) (traced_of new) stamp now why event r → KeepsSome (state old.node) w past old → KeepsSome (state new.node) w past new
+  keeps_some old new stamp now why given event is_event next has same replays r e (role, named, some) = (
     role,
     named,
     λ told.
         let disks = (state old.node).disks in
         let was : has_disks role ≡ true → AreTold disks = λ h. told_back disks (state new.node).disks same (told h) in
-        let (ms, k) = some was in
+        let (ms, k, run) = some was in
         let tells = (law old.node).tells in
         let owns = own (place_of role) ms in
-        kept state old new stamp now why given event is_event next role (tells.places role owns k.stands) ms k
-        (told_for disks why given event is_event (λ none. was (sym (tells.with_disks role owns k.stands) ∙ has none))) r e,
+        let more = kept state (traced_of old) (traced_of new) stamp now why given event is_event next role (tells.places role owns k.stands) ms k
+        (told_for disks why given event is_event (λ none. was (sym (tells.with_disks role owns k.stands) ∙ has none))) r e in
+        (more.0, more.1, λ runs. absurd (true≢false (sym runs ∙ replays))),
   )
 
 -- with an input or an event of disks something happens

@@ -1,2 +1,8 @@
 mod Reacted
 pub mod Kept
+mod Changed
+mod Going
+mod Entries
+mod AfterTurns
+mod Beginning
+mod Arms

@@ -1,4 +1,4 @@
--- What a seat keeps: there are moments whose entries its trace is, legal for its node alone, and the node is what they replay to.
+-- A node with its trace: there are moments whose entries the trace is, legal for the node alone, and the node is what they replay to.
 use Rattle.std.specs.Prelude.{◌≡◌, ◌<◌, ◌≤◌, ℕ, true, List, [], All, Option, Some, None, IfSome}
 use Rattle.seata_types.specs.declared.limits.TheConstants.{LATEST_MOMENT}
 use Rattle.seata_types.specs.declared.messages.Input.{Input}
@@ -14,24 +14,12 @@ use Rattle.history_text.specs.declared.entries.Cause.TheVariants as cause
 use Rattle.history_text.specs.declared.entries.Entry.{Entry}
 use Rattle.history_text.specs.History.{entries}
 use Rattle.node_seat.specs.Entering.{CanReact}
-use Rattle.node_seat.specs.Seating.{Seated, seated}
-use Rattle.node_seat.specs.declared.stations.Station.{Station}
 
 -- these moments are of a node of this role, which they replay to, and the trace is what is printed of them
 pub record Keeps (node : NodeState) (trace : List Entry) (role : Role) (ms : List Moment) : Type 0 where
   pub printed : trace ≡ entries ms
   pub alone : Alone role (place_of role) ms
   pub stands : node.stands_for role (own (place_of role) ms)
-
--- a node with its trace has a role of the run, and keeps some moments; where it has disks, this is said where they tell their bytes
-abbrev pub KeepsSome : {N : Type 0} → (N → NodeState) → World → Past → Seated N → Type 0
-KeepsSome state w past s =
-    (role : Role) × (role_at w past (place_of role) ≡ Some role)
-    × ((has_disks role ≡ true → AreTold (state s.node).disks) → (ms : List Moment) × Keeps (state s.node) s.trace role ms)
-
--- a station as contracts see it
-abbrev pub seated_of : {N : Type 0} → Station N → Seated N
-seated_of s = seated s.node s.trace.items
 
 -- what a cause gives to a node: a turn, a message that was sent at a lesser stamp by the place that it names, a local
 -- transaction, or what happens to its disks

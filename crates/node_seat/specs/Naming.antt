@@ -1,6 +1,22 @@
--- The nodes of no run.
-use Rattle.std.specs.Prelude.{[]}
+-- What a run names beside its nodes and their records, and the names of no run.
+use Rattle.std.specs.Prelude.{ℕ, List, []}
+use Rattle.atomic_table.specs.Seated.{TableId}
+use Rattle.seata_types.specs.declared.ids.Place.{Place}
 use Rattle.history_rules.specs.Nodes.{World}
+use Rattle.trace_rules.specs.Stops.{NodeStop}
+
+-- the queue of the link from a place to a place, the stops of each place, whether the disks tell their bytes, and how many each has
+pub record Run : Type 1 where
+  pub queue : Place → Place → TableId
+  pub stops : Place → List NodeStop
+  pub tells : Type 0
+  pub bytes : ℕ
 
 abbrev pub no_world : World
 no_world = record { times = record { retry = 0; forget = 0 }; resources = []; managers = [] }
+
+abbrev pub no_queue : TableId
+no_queue = record { words = 0; slots = 0; views_name = 0; atom = 0; block = 0; offset = 0; slot_names = [] }
+
+abbrev pub no_run : Run
+no_run = record { queue = λ from to. no_queue; stops = λ p. []; tells = Unit {0}; bytes = 0 }

@@ -10,6 +10,7 @@ use Rattle.history_text.specs.declared.entries.Cause.{Cause}
 use Rattle.history_text.specs.declared.entries.Entry.{Entry}
 use Rattle.history_text.specs.Notes.{sent_of}
 use Rattle.node_seat.specs.Entering.{IsEntered, packet_at}
+use Rattle.node_seat.specs.Seating.{traced_of}
 use Rattle.node_seat.specs.declared.faults.RunFault.{RunFault}
 use Rattle.replay_runner.specs.declared.members.Member.{Member}
 use Rattle.replay_runner.specs.declared.messages.Letter.{Letter}
@@ -33,11 +34,11 @@ abbrev pub place_by : {N : Type 0} → (N → NodeState) → N → Place
 place_by state node = (state node).place
 
 module _ {N K : Type 0} (state : N → NodeState) (old new : Member N K) (stamp now : ℕ) (why : Cause) (event : Event) where
-  pub made_err : (missed : RunFault) → IsEntered state old.seat new.seat stamp now why event (Err missed) → IsMade state old new stamp now why event (Err missed)
+  pub made_err : (missed : RunFault) → IsEntered state (traced_of old.seat) (traced_of new.seat) stamp now why event (Err missed) → IsMade state old new stamp now why event (Err missed)
   made_err missed (inl e) = inl e
   made_err missed (inr (is, step, e)) = inr (is, step, record { does = e.does; room = e.room; printed = e.printed; turned = tt; sent = tt })
 
-  pub made_ok : (packet : Option Sent) (letter : Option Letter) → IsEntered state old.seat new.seat stamp now why event (Ok packet) → new.turned ≡ turned_by why stamp old.turned
+  pub made_ok : (packet : Option Sent) (letter : Option Letter) → IsEntered state (traced_of old.seat) (traced_of new.seat) stamp now why event (Ok packet) → new.turned ≡ turned_by why stamp old.turned
       → place_by state new.seat.node ≡ place_by state old.seat.node → letter ≡ letter_with (place_by state new.seat.node) (receiver_in new.seat.trace) packet → IsMade state old new stamp now why event (Ok letter)
   made_ok packet letter (step, e) turned same is =
       let at = place_by state old.seat.node in (

@@ -11,6 +11,7 @@ use Rattle.history_text.specs.declared.entries.Cause.{Cause}
 use Rattle.history_text.specs.declared.entries.Cause.TheVariants as cause
 use Rattle.history_text.specs.History.{entries}
 use Rattle.node_seat.specs.Entering.{Does, HadPlaceFor, Stays, entry_at}
+use Rattle.node_seat.specs.Seating.{traced_of}
 use Rattle.node_seat.specs.declared.faults.RunFault.{RunFault}
 use Rattle.node_seat.specs.declared.faults.RunFault.TheVariants as fault
 use Rattle.replay_runner.specs.declared.members.Member.{Member}
@@ -36,7 +37,7 @@ pub record Makes {N K : Type 0} (state : N → NodeState) (old new : Member N K)
 abbrev pub IsMade : {N K : Type 0} → (N → NodeState) → (old new : Member N K) → (stamp now : ℕ) → Cause → Event → Result (Option Letter) RunFault → Type 0
 IsMade state old new stamp now why event (Ok letter) = (step : Step) × Makes state old new stamp now why event step (Ok letter)
 IsMade state old new stamp now why event (Err missed) =
-    Stays state old.seat new.seat now event missed ⊎ ((missed ≡ fault.NoMemory) × (step : Step) × Makes state old new stamp now why event step (Err missed))
+    Stays state (traced_of old.seat) (traced_of new.seat) now event missed ⊎ ((missed ≡ fault.NoMemory) × (step : Step) × Makes state old new stamp now why event step (Err missed))
 
 -- the node of this role at a place, after these moments: it stands for its own entries, and its trace is what is printed of them
 pub record IsMember {N K : Type 0} (state : N → NodeState) (p : Place) (role : Role) (m : Member N K) (ms : List Moment) : Type 0 where

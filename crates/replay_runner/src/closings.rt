@@ -52,7 +52,7 @@ fn unseated<D: Disk + Drop, K: RunName>(
     let mut resources = room.resources;
     let mut traces = room.traces;
     for member in members {
-        let (resource, trace) = member.seat.finish();
+        let (resource, trace, _, _) = member.seat.finish();
         resources.push_reserved(resource);
         traces.push_reserved(trace.into_vec());
     }
@@ -68,7 +68,7 @@ fn manager_traces<K: RunName>(
 {
     let mut traces = Vec::new(alloc);
     for member in managers {
-        let (_, trace) = member.seat.finish();
+        let (_, trace, _, _) = member.seat.finish();
         put(&mut traces, trace.into_vec())?;
     }
     Ok(traces)
@@ -100,7 +100,7 @@ pub fn close<H: Shelf, K: RunName>(
         places,
         ..
     } = run;
-    let (coordinator, trace) = nodes.coordinator.seat.finish();
+    let (coordinator, trace, _, _) = nodes.coordinator.seat.finish();
     let (resources, traces) = unseated(nodes.resources, room);
     let servers = Servers {
         coordinator,

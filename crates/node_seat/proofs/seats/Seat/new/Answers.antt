@@ -1,7 +1,5 @@
-use Rattle.std.proofs.Common.{[]}
+use Rattle.node_seat.proofs.Beginning.{new_keeps}
 use Rattle.node_seat.proofs.seats.Seat.new.Goals as goal
 
 pub invariant_of-result : goal.invariant_of-result
-invariant_of-result g c =
-    let (role, named, stands) = c.requires.fresh in
-    (role, named, λ told. ([], record { printed = c.new.ensures.items; alone = tt; stands = stands told }))
+invariant_of-result g c = new_keeps g.N.Node.state g.K.RunName.world g.K.RunName.past g.K.RunName.run c.args.node _ _ _ c.requires.fresh _ c.new-4.ensures
