@@ -4,7 +4,7 @@ pub mod Listings
 pub mod Answers
 pub mod Steps
 pub mod Making
-pub mod Works
+pub mod Tasks
 pub mod Once
 pub mod MemStreams
 pub mod StdStreams

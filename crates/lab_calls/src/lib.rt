@@ -11,15 +11,15 @@ mod memory;
 mod standard;
 mod statuses;
 mod streams;
+mod tasks;
 mod tops;
 mod transfer;
 mod words;
-mod works;
 
 pub use laws::frames_have_their_lines;
 pub use memory::{MemSink, MemSource};
 pub use standard::{StdSink, StdSource};
 pub use statuses::MEMORY;
 pub use streams::{Failed, Sink, Source};
+pub use tasks::Task;
 pub use tops::{frames_once, make_once, replay_once, top};
-pub use works::Work;

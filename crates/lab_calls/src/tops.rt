@@ -6,16 +6,16 @@ ghost use Rattle.lab_calls.specs.Making.{MakesOnce};
 ghost use Rattle.lab_calls.specs.Once.{ListsOnce, ReplaysOnce};
 ghost use Rattle.lab_calls.specs.Steps.{AnswersInput, ReplaysInput, WritesAnswer, WritesText};
 ghost use Rattle.lab_calls.specs.Streams.{devices};
-ghost use Rattle.lab_calls.specs.Works.{work_of};
+ghost use Rattle.lab_calls.specs.Tasks.{task_of};
 
 use crate::answers::{Answer, answer_to};
 use crate::frames::list_frames;
 use crate::making::answer_made;
 use crate::statuses::{MEMORY, SINK, SOURCE, WORDS};
 use crate::streams::{Failed, Sink, Source};
+use crate::tasks::Task;
 use crate::transfer::{ReadFault, read_all, write_all};
-use crate::words::work_of;
-use crate::works::Work;
+use crate::words::task_of;
 use disk_model::Shelf;
 use seata_types::{NoMemory, Text};
 use std::alloc::Global;
@@ -129,7 +129,7 @@ const USAGE: &str = "usage: seata_lab replay | run | make | stress | frames | au
 
 /// Does what the words ask for: `replay` replays the scenario of the source and writes the report, `frames` writes a line for
 /// each frame of the source, and `make` writes the scenario that is made of its number, for as many managers as its size.
-/// Words outside the grammar are answered with the usage line and status 2. So are those of the grammar whose work isn't built:
+/// Words outside the grammar are answered with the usage line and status 2. So are those of the grammar whose task isn't built:
 /// `run`, `stress`, `audit`, `show`, and `replay` with `--store`. What `replay_once` says of the disks that were taken holds
 /// whatever the words and the status.
 pub fn top<S: Source, K: Sink, H: Shelf>(
@@ -139,31 +139,31 @@ pub fn top<S: Source, K: Sink, H: Shelf>(
     sink: &mut K,
     shelf: &mut H,
 ) -> u8
-    ensures words { result ≡ 2 → work_of words.now ≡ Work.Usage }
-    ensures unread { work_of words.now ≢ Work.Replay → work_of words.now ≢ Work.Frames
+    ensures words { result ≡ 2 → task_of words.now ≡ Task.Usage }
+    ensures unread { task_of words.now ≢ Task.Replay → task_of words.now ≢ Task.Frames
         → source.new ≡ source.old }
-    ensures usage { work_of words.now ≡ Work.Usage → TellsUsage result
+    ensures usage { task_of words.now ≡ Task.Usage → TellsUsage result
         (devices (S.state source.old) (K.state sink.old))
         (devices (S.state source.new) (K.state sink.new)) }
-    ensures replay { work_of words.now ≡ Work.Replay → ReplaysOnce H.D.state
+    ensures replay { task_of words.now ≡ Task.Replay → ReplaysOnce H.D.state
         (H.state shelf.old) (H.state shelf.new) (shelf.new ≡ shelf.old) result
         (devices (S.state source.old) (K.state sink.old))
         (devices (S.state source.new) (K.state sink.new)) }
     ensures returned { ReturnsAll (H.state shelf.old) (H.state shelf.new) }
-    ensures untouched { work_of words.now ≢ Work.Replay → shelf.new ≡ shelf.old }
-    ensures frames { work_of words.now ≡ Work.Frames → ListsOnce result
+    ensures untouched { task_of words.now ≢ Task.Replay → shelf.new ≡ shelf.old }
+    ensures frames { task_of words.now ≡ Task.Frames → ListsOnce result
         (devices (S.state source.old) (K.state sink.old))
         (devices (S.state source.new) (K.state sink.new)) }
-    ensures make { (number size : ℕ) → work_of words.now ≡ Work.Make number size
+    ensures make { (number size : ℕ) → task_of words.now ≡ Task.Make number size
         → MakesOnce number size result (K.state sink.old) (K.state sink.new) }
     ensures faults { TellsFaults (2 ∷ with_failures replay_statuses) result
         (devices (S.state source.old) (K.state sink.old))
         (devices (S.state source.new) (K.state sink.new)) }
 {
-    match work_of(words) {
-        Work::Replay => replay_once(alloc, source, sink, shelf),
-        Work::Frames => frames_once(alloc, source, sink),
-        Work::Make { number, size } => make_once(alloc, number, size, sink),
-        Work::Usage => finish(sink, USAGE, WORDS),
+    match task_of(words) {
+        Task::Replay => replay_once(alloc, source, sink, shelf),
+        Task::Frames => frames_once(alloc, source, sink),
+        Task::Make { number, size } => make_once(alloc, number, size, sink),
+        Task::Usage => finish(sink, USAGE, WORDS),
     }
 }

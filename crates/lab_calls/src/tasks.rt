@@ -2,11 +2,11 @@
 
 /// What is done for words.
 #[derive(Clone, Copy)]
-pub enum Work {
+pub enum Task {
     /// A replay that keeps nothing.
     Replay,
     Frames,
     Make { number: u64, size: u32 },
-    /// The usage line, for words outside the grammar, and for those whose work isn't built.
+    /// The usage line, for words outside the grammar, and for those whose task isn't built.
     Usage,
 }

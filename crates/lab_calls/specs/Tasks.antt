@@ -1,0 +1,31 @@
+-- What a call of the program does for its words.
+use Rattle.std.specs.Prelude.{ℕ, ◌≤◌, List, Option, Some, None}
+use Rattle.lab_words.specs.declared.orders.Order.{Order}
+use Rattle.lab_words.specs.declared.orders.Order.TheVariants as order
+use Rattle.lab_words.specs.Grammar.{folder_of, order_of}
+use Rattle.lab_calls.specs.declared.tasks.Task.{Task}
+use Rattle.lab_calls.specs.declared.tasks.Task.TheVariants as task
+
+-- the task that is built, by what the words ask for and their folder; all else is answered as words
+-- outside the grammar are
+abbrev pub task_by : Option Order → (folder : Option (List ℕ)) → Task
+task_by None folder = task.Usage
+task_by (Some order.Replay) None = task.Replay
+task_by (Some order.Replay) (Some name) = task.Usage
+task_by (Some order.Frames) folder = task.Frames
+task_by (Some (order.Run workers)) folder = task.Usage
+task_by (Some (order.Make n size)) folder = task.Make n size
+task_by (Some (order.Stress n size workers)) folder = task.Usage
+task_by (Some order.Audit) folder = task.Usage
+task_by (Some order.Show) folder = task.Usage
+
+-- the task for words
+abbrev pub task_of : List (List ℕ) → Task
+task_of words = task_by (order_of words) (folder_of words)
+
+-- the size of a made scenario is in its range
+abbrev pub IsSized : Task → Type 0
+IsSized task.Replay = Unit {0}
+IsSized task.Frames = Unit {0}
+IsSized (task.Make n size) = (1 ≤ size) × (size ≤ 256)
+IsSized task.Usage = Unit {0}
