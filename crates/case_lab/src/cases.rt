@@ -6,6 +6,8 @@ use hex::{FromHexError, decode};
 use seata_types::{NoMemory, Text};
 use std::alloc::Global;
 use std::collections::BTreeMap;
+use std::sync::Wait;
+use std::thread::Threads;
 
 /// What the lines so far said.
 #[derive(Drop)]
@@ -36,9 +38,14 @@ impl Case {
     }
 
     /// Takes a line, and gives what is printed for it: the heading of a case, or what a run came to.
-    pub fn take(&mut self, alloc: Global, line: &str) -> Result<Vec<u8>, NoMemory> {
+    pub fn take<R: Threads + Wait + Sync>(
+        &mut self,
+        rt: &R,
+        alloc: Global,
+        line: &str,
+    ) -> Result<Vec<u8>, NoMemory> {
         if line == "." {
-            return run(alloc, self);
+            return run(rt, alloc, self);
         }
         if let Some(heading) = line.strip_prefix("= ") {
             *self = Case::new(alloc);

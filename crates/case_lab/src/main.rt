@@ -4,6 +4,7 @@
 
 mod cases;
 mod devices;
+mod gates;
 mod runs;
 
 use cases::Case;
@@ -15,7 +16,7 @@ fn main(rt: HostRuntime) -> io::Result<()> {
     let mut output = BufWriter::new(rt.alloc(), io::writer(&rt))?;
     let mut case = Case::new(rt.alloc());
     for line in BufReader::new(rt.alloc(), rt.reader())?.lines(rt.alloc()) {
-        match case.take(rt.alloc(), line?.as_str()) {
+        match case.take(&rt, rt.alloc(), line?.as_str()) {
             Ok(text) => output.write_all(text.as_slice())?,
             Err(NoMemory) => return Err(io::Error::from(ErrorKind::OutOfMemory)),
         }

@@ -1,26 +1,37 @@
 //! One run of a case. Its settings: `read-most` and `write-most`, the bytes of a call at most; `read-fails` and `write-fails`,
 //! the call that fails, counted from 1; `room`, the bytes of the sink; `streams`, to stand on a reader and a writer; `disks`,
-//! those of a shelf, which then fails, or with `refuses` lacks memory; `last`, how many of the last lines are printed.
+//! those of a shelf, which then fails, or with `refuses` lacks memory; `meet`, to hold two workers until they meet; `last`, how
+//! many of the last lines are printed.
 use crate::cases::Case;
 use crate::devices::{FewDisks, Reader, Writer};
+use crate::gates::Meeting;
 use disk_model::MemShelf;
-use lab_calls::{MemSink, MemSource, StdSink, StdSource, top};
+use lab_calls::{MemSink, MemSource, OpenGate, StdSink, StdSource, top};
 use seata_types::NoMemory;
 use std::alloc::Global;
+use std::sync::Wait;
+use std::thread::Threads;
 
 /// Runs a case: what is printed of it.
-pub fn run(alloc: Global, case: &Case) -> Result<Vec<u8>, NoMemory> {
+pub fn run<R: Threads + Wait + Sync>(
+    rt: &R,
+    alloc: Global,
+    case: &Case,
+) -> Result<Vec<u8>, NoMemory> {
     let mut source = source_of(alloc, case)?;
     let mut sink = sink_of(alloc, case)?;
     if case.number("streams", 0) > 0 {
-        return over_streams(alloc, case, source, sink);
+        return over_streams(rt, alloc, case, source, sink);
     }
     let disks = case.number("disks", u32::MAX);
     if disks < u32::MAX {
         let mut shelf = FewDisks::new(alloc, disks, case.number("refuses", 0) > 0);
-        return over_disks(alloc, case, &mut source, &mut sink, &mut shelf);
+        return over_disks(rt, alloc, case, &mut source, &mut sink, &mut shelf);
     }
-    over_memory(alloc, case, &mut source, &mut sink)
+    if case.number("meet", 0) > 0 {
+        return over_meeting(rt, alloc, case, &mut source, &mut sink);
+    }
+    over_memory(rt, alloc, case, &mut source, &mut sink)
 }
 
 /// The source of a case, of at least one byte a call.
@@ -46,19 +57,43 @@ fn sink_of(alloc: Global, case: &Case) -> Result<MemSink, NoMemory> {
 }
 
 /// A run in memory.
-fn over_memory(
+fn over_memory<R: Threads + Wait + Sync>(
+    rt: &R,
     alloc: Global,
     case: &Case,
     source: &mut MemSource,
     sink: &mut MemSink,
 ) -> Result<Vec<u8>, NoMemory> {
     let mut shelf = MemShelf::new(alloc);
-    let status = top(alloc, case.words.as_slice(), source, sink, &mut shelf);
+    let words = case.words.as_slice();
+    let status = top(rt, alloc, words, source, sink, &mut shelf, &OpenGate);
     tell(alloc, case, status, sink.written())
 }
 
+/// A run in memory whose workers are held, with whether they met.
+fn over_meeting<R: Threads + Wait + Sync>(
+    rt: &R,
+    alloc: Global,
+    case: &Case,
+    source: &mut MemSource,
+    sink: &mut MemSink,
+) -> Result<Vec<u8>, NoMemory> {
+    let mut shelf = MemShelf::new(alloc);
+    let words = case.words.as_slice();
+    let gate = Meeting::new();
+    let status = top(rt, alloc, words, source, sink, &mut shelf, &gate);
+    let mut text = tell(alloc, case, status, sink.written())?;
+    text.extend_from_slice(if gate.is_met() {
+        b"they met\n"
+    } else {
+        b"they did not meet\n"
+    })?;
+    Ok(text)
+}
+
 /// A run over a reader and a writer.
-fn over_streams(
+fn over_streams<R: Threads + Wait + Sync>(
+    rt: &R,
     alloc: Global,
     case: &Case,
     source: MemSource,
@@ -69,20 +104,30 @@ fn over_streams(
     let mut sink = StdSink::new(&mut writer);
     let mut shelf = MemShelf::new(alloc);
     let words = case.words.as_slice();
-    let status = top(alloc, words, &mut source, &mut sink, &mut shelf);
+    let status = top(
+        rt,
+        alloc,
+        words,
+        &mut source,
+        &mut sink,
+        &mut shelf,
+        &OpenGate,
+    );
     drop(sink);
     tell(alloc, case, status, writer.sink.written())
 }
 
 /// A run over few disks, with how many came back.
-fn over_disks(
+fn over_disks<R: Threads + Wait + Sync>(
+    rt: &R,
     alloc: Global,
     case: &Case,
     source: &mut MemSource,
     sink: &mut MemSink,
     shelf: &mut FewDisks,
 ) -> Result<Vec<u8>, NoMemory> {
-    let status = top(alloc, case.words.as_slice(), source, sink, shelf);
+    let words = case.words.as_slice();
+    let status = top(rt, alloc, words, source, sink, shelf, &OpenGate);
     let mut text = tell(alloc, case, status, sink.written())?;
     let (back, faults) = (shelf.back, shelf.faults);
     let line = format!(in alloc; "{back} disks came back, {faults} faults\n")?;

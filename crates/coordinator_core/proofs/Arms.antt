@@ -17,10 +17,10 @@ use Rattle.session_store.specs.declared.sessions.Sessions.{Sessions}
 use Rattle.session_store.specs.Keeping.{twin, known, meaning, BringsBack, SameOpening, SameDisks, KeepsRecords}
 use Rattle.history_rules.specs.Own.{Own, Stopped, Crashed, still}
 use Rattle.history_rules.specs.Devices.{is_down as down_by}
-use Rattle.history_rules.specs.CoordinatorMemory.{Times}
+use Rattle.history_rules.specs.CoordinatorMemory.{Times, sessions_left}
 use Rattle.history_rules.specs.Nodes.{Resource, Manager, happens}
 use Rattle.history_rules.specs.Nodes.{Coordinator as CoordinatorRole}
-use Rattle.node_steps.specs.Promises.{Does, own_entry}
+use Rattle.node_steps.specs.Promises.{Does, LiesWith, own_entry}
 use Rattle.coordinator_core.specs.declared.nodes.Coordinator.{Coordinator}
 use Rattle.coordinator_core.specs.Knowledge.{knowledge, times_in}
 use Rattle.coordinator_core.specs.Moving.{ArmsPair, ArmsSessions, Arms}
@@ -28,6 +28,7 @@ use Rattle.coordinator_core.specs.Standing.{node_state, StandsOver, course, pair
 use Rattle.coordinator_core.specs.Stepping.{ArmsBy, CrashesBy}
 use Rattle.coordinator_core.specs.Tracks.{Follows}
 use Rattle.coordinator_core.proofs.Disks.{false_true, Moved, pair_on, same_kind, on_armed, on_crashed}
+use Rattle.coordinator_core.proofs.Laid.{fits_none, lies_crashed, lies_up}
 use Rattle.coordinator_core.proofs.Stays.{Remains, stays_itself, same_picks}
 
 -- ---- a stop on the active disk
@@ -138,6 +139,7 @@ module _ {D : Type 0} (state : D → DiskState) (calls : ℕ) where
     back = back_armed s;
     left = refl;
     pair = pair_armed (is_second (twin s)) (active_disk (twin s)) (other_disk (twin s));
+    extent = refl;
     known = refl;
     opening = record { managers = refl; resources = refl; found = refl };
     down = refl;
@@ -197,6 +199,15 @@ module _ {D : Type 0} (state : D → DiskState) where
       same_knowledge : knowledge c.table ≡ knowledge c'.table
       same_knowledge = λ i. record { retry = sym a.rest.retry i; forget = sym a.rest.forget i; memory = sym a.sessions.known i; moments = sym a.moments i }
 
+      arm_lies : (now : ℕ) (times : Times) (past : List SessionRecord) (owns : List Own) → StandsOver state c past owns
+          → LiesWith (node_state state c) (node_state state c') (CoordinatorRole times past) owns (own_entry (Stopped calls) now (still act.Armed))
+      arm_lies now times past owns s start size lies =
+          let upos = upon c past owns up s in (
+            fits_none past start size owns (own_entry (Stopped calls) now (still act.Armed)) refl,
+            lies_up (state_of state) law (sessions_of c') past start size (own_entry (Stopped calls) now (still act.Armed) ∷ owns) (a.sessions.keeps (sessions_left past owns).records (s.disks.keeps upos))
+                (record { first = a.sessions.pair.first_size ∙ lies.sized.first; second = a.sessions.pair.second_size ∙ lies.sized.second }) (a.sessions.extent ∙ lies.up upos),
+          )
+
       arm_does : (now : ℕ) → Does (node_state state c) (node_state state c') (Stopped calls) now (still act.Armed)
       arm_does now (CoordinatorRole times past) owns (same, s) = (
         armed_happens times past owns now calls (upon c past owns up s),
@@ -210,6 +221,7 @@ module _ {D : Type 0} (state : D → DiskState) where
             fallen = λ e. false_true (sym (upon c past owns up s) ∙ e);
           },
         ),
+        arm_lies now times past owns s,
       )
       arm_does now (Resource setup past) owns s = absurd s
       arm_does now (Manager settings) owns s = absurd s
@@ -244,6 +256,10 @@ module _ {D : Type 0} (state : D → DiskState) where
                     count = count ∙ ap (λ (k : Snapshot). k.acts) keeps.knows;
                   };
                 },
+              ),
+              λ start size lies. (
+                fits_none past start size owns (own_entry Crashed now (still (act.Down None None))) refl,
+                lies_crashed (state_of state) law (sessions_of c) (sessions_of c') past start size owns lies (upon c past owns up s) now keeps disks opening,
               ),
             )
         crash_does now (Resource setup past) owns s = absurd s

@@ -4,6 +4,7 @@ use Rattle.std.specs.Prelude.{replicate, Ok}
 use Rattle.disk_journal.specs.Reading.{found, reading, reading_from}
 use Rattle.journal_checkpoint.specs.declared.types.Found.{Found}
 use Rattle.journal_checkpoint.specs.declared.types.Head.TheVariants as head
+use Rattle.journal_checkpoint.specs.Extents.{blank, extent_of}
 use Rattle.journal_checkpoint.specs.Pairs.{active_of, held_by, head_in, head_of, is_active, pair_reading, with_records}
 use Rattle.journal_checkpoint.specs.Images.{PairStandsFor}
 use Rattle.session_store.specs.Standing.{StandsForSessions}
@@ -14,6 +15,10 @@ zeros n = replicate n 0
 
 abbrev pub nothing : Found
 nothing = record { second = false; generation = 0; snapshot = None; records = [] }
+
+-- their journal stands where one begins
+pub blank_extent : extent_of nothing ≡ blank
+blank_extent = refl
 
 blank_head : (n : ℕ) → 0 < n → head_of (zeros n) ≡ head.Shut
 unfolding head_in

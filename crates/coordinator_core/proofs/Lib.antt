@@ -12,6 +12,7 @@ pub mod TakesTurns
 pub mod Registered
 pub mod Holds
 pub mod Disks
+pub mod Laid
 pub mod Stays
 pub mod Arms
 pub mod Started

@@ -11,21 +11,25 @@ use Rattle.seata_types.specs.declared.errors.OpenError.TheVariants as open_error
 use Rattle.seata_types.specs.declared.limits.TheConstants.{MANAGERS}
 use Rattle.journal_checkpoint.specs.declared.types.Found.{Found}
 use Rattle.journal_checkpoint.specs.Images.{PairStandsFor}
-use Rattle.journal_checkpoint.specs.Keeping.{active_disk, other_disk, first_disk, second_disk, is_second}
+use Rattle.journal_checkpoint.specs.Extents.{extent_of}
+use Rattle.journal_checkpoint.specs.Keeping.{AreSized, active_disk, other_disk, first_disk, second_disk, is_second}
 use Rattle.memory_store.specs.Keeping.{FindsFirst, IsDamage, IsNotFull, IsOf}
+use Rattle.memory_store.specs.Checkpoints.{saving_by}
 use Rattle.memory_store.specs.Settling.{RunsOn}
 use Rattle.durable_records.specs.declared.coordinators.SessionRecord.{SessionRecord}
 use Rattle.history_rules.specs.CoordinatorMemory.{start}
+use Rattle.session_log.specs.declared.sessions.Snapshot.{Snapshot}
 use Rattle.session_store.specs.Keeping.{known, store_of, twin, IsNoDamage, KeepsRecords}
 use Rattle.session_store.specs.Meaning.{meaning_of}
 use Rattle.session_store.specs.Standing.{StandsForSessions}
 use Rattle.coordinator_core.specs.declared.nodes.Coordinator.{Coordinator}
 use Rattle.seata_types.specs.declared.limits.TheConstants.{NODE_STEPS}
 use Rattle.coordinator_core.specs.Opening.{AreReadWhereShort, GoOnAs, HandsBack, IsOnlyRead, IsOpened, IsOpenedDisk}
-use Rattle.coordinator_core.specs.Standing.{StandsOver, pair_of, active_of, sessions_of, start_of, is_down, managers, resources}
+use Rattle.coordinator_core.specs.Standing.{StandsOver, LiesOver, pair_of, active_of, sessions_of, start_of, is_down, managers, resources}
 use Rattle.coordinator_core.specs.Starting.{started_on, no_moments, start_in}
 use Rattle.coordinator_core.specs.Tracks.{Tracks}
 use Rattle.coordinator_core.proofs.Disks.{false_true, keeps_images}
+use Rattle.coordinator_core.proofs.Laid.{lies_opened}
 use Rattle.coordinator_core.proofs.Restarted.{unarmed_by}
 use Rattle.coordinator_core.proofs.Started.{starts, start_is}
 
@@ -131,9 +135,23 @@ module _ {D : Type 0} (state : D → DiskState) (law : (d : Stoppable D) → IsL
     stands_on rs a b stands k =
         opened state law c rs k (subst (λ n. n ≤ MANAGERS) (sym managers_are) few) up unarmed starts_at moments
 
+    sized : (size : ℕ) → (state first).size ≡ size → (state second).size ≡ size → AreSized (state_of state) (twin (sessions_of c)) size
+    sized size first_is second_is =
+        let first_still = (opened_disk state first s1 one (first_disk (twin (sessions_of c))) ran1).rest.kind.size in
+        let second_still = (opened_disk state second s2 two (second_disk (twin (sessions_of c))) ran2).rest.kind.size in
+        record { first = first_still ∙ first_is; second = second_still ∙ second_is }
+
+    lies_on : (size : ℕ) (rs : List SessionRecord) (a b : List ℕ) (found : Found) → AreSized (state_of state) (twin (sessions_of c)) size → PairStandsFor found a b → KeepsRecords (state_of state) rs (sessions_of c)
+        → IsOf (state_of state) (meaning_of manager_count resource_count) a b (store_of (sessions_of c)) → LiesOver state c rs (extent_of found) size []
+    lies_on size rs a b found sized pair k is =
+        lies_opened (state_of state) law (meaning_of manager_count resource_count) (sessions_of c) rs size a b found (ap (λ (s : Snapshot). saving_by (meaning_of manager_count resource_count) s) k.knows) k is pair sized
+
     pub is_opened : IsOpened state first second manager_count resource_count c
     is_opened = record {
       stands = λ rs a b is too stands. stands_on rs a b stands (of_told (λ a b. StandsForSessions manager_count resource_count rs a b → KeepsRecords (state_of state) rs (sessions_of c)) (keeps rs) a b is too stands);
+      lies = λ size rs a b found first_is second_is is too pair stands. lies_on size rs a b found (sized size first_is second_is) pair
+          (of_told (λ a b. StandsForSessions manager_count resource_count rs a b → KeepsRecords (state_of state) rs (sessions_of c)) (keeps rs) a b is too stands)
+          (of_told (λ a b. IsOf (state_of state) (meaning_of manager_count resource_count) a b (store_of (sessions_of c))) settles a b is too);
       place = of_told (λ a b. FindsFirst a b (store_of (sessions_of c))) place;
       settles = of_told (λ a b. IsOf (state_of state) (meaning_of manager_count resource_count) a b (store_of (sessions_of c))) settles;
       images = λ a b x y is too. images a b x y (told_below state first s1 one a is) (told_below state second s2 two b too);

@@ -7,7 +7,8 @@ use Rattle.disk_model.specs.Disk.{DiskState, Content, Counts, IsLawful, SameKind
 use Rattle.disk_model.specs.Stop.{state_of}
 use Rattle.disk_model.specs.declared.stoppable.Stoppable.{Stoppable}
 use Rattle.journal_checkpoint.specs.Images.{Pair, FailsItself}
-use Rattle.journal_checkpoint.specs.Keeping.{active_disk, other_disk, first_disk, second_disk, is_second}
+use Rattle.journal_checkpoint.specs.Extents.{Extent}
+use Rattle.journal_checkpoint.specs.Keeping.{AreSized, active_disk, other_disk, first_disk, second_disk, is_second}
 use Rattle.memory_store.specs.Keeping.{ComesUp, IsDamage, IsNotFull, IsTold, StaysWhereShort}
 use Rattle.seata_types.specs.declared.limits.TheConstants.{LATEST_MOMENT, MANAGERS}
 use Rattle.seata_types.specs.declared.acts.Act.{Act}
@@ -31,14 +32,16 @@ use Rattle.node_steps.specs.Promises.{NodeState, own_entry, AreTold, DisksFail, 
 use Rattle.session_memory.proofs.Small.{none_some}
 use Rattle.coordinator_core.specs.declared.nodes.Coordinator.{Coordinator}
 use Rattle.coordinator_core.specs.Knowledge.{knowledge, memory}
+use Rattle.coordinator_core.specs.Lying.{AtEither, extent_after}
 use Rattle.coordinator_core.specs.Moving.{ArmsPair, ArmsWith, FallsAgain, SameRest, StartsAgain, kept_of}
 use Rattle.coordinator_core.specs.Serving.{ServesInput}
-use Rattle.coordinator_core.specs.Standing.{node_state, StandsOver, OnDisks, IsFallen, StandsForEither, course, pair_of, active_of, disks_of, sessions_of, start_of, is_down, times_of}
+use Rattle.coordinator_core.specs.Standing.{node_state, StandsOver, LiesOver, OnDisks, IsFallen, StandsForEither, course, pair_of, active_of, disks_of, sessions_of, start_of, is_down, times_of}
 use Rattle.coordinator_core.specs.Stepping.{RestartsBy}
 use Rattle.coordinator_core.specs.Starting.{started_on, no_moments}
 use Rattle.coordinator_core.specs.Tracks.{Tracks, Follows}
 use Rattle.coordinator_core.proofs.Arms.{same_pair}
 use Rattle.coordinator_core.proofs.Disks.{false_true, keeps_images, pair_on, stands_in}
+use Rattle.coordinator_core.proofs.Laid.{fits_none, keeps_back, lies_alone, lies_kept}
 use Rattle.coordinator_core.proofs.Started.{starts}
 
 -- ---- an act in flight
@@ -184,22 +187,31 @@ module _ {D : Type 0} (state : D → DiskState) (law : (d : Stoppable D) → IsL
 
     -- the record in flight was kept or not, as the number of records says
     module _ (flight : c'.flight ≡ c.flight) (records : c'.records ≡ c.records) where
-      counts : nat_lt c'.records (memory c'.table).acts ≡ nat_lt (length rs) (known s1).acts
-      counts = ap (λ n. nat_lt n (memory c'.table).acts) (records ∙ is_fallen.count) ∙ ap (λ (s : Snapshot). nat_lt (length rs) s.acts) armed.known
+      count : c'.records ≡ length rs
+      count = records ∙ is_fallen.count
+
+      kept_when : (n : ℕ) → (known (sessions_of c')).acts ≡ n → kept_of c' ≡ (if nat_lt (length rs) n then c'.flight else None)
+      kept_when n acts = ap (λ (k : ℕ). if nat_lt k (memory c'.table).acts then c'.flight else None) count ∙ ap (λ (k : ℕ). if nat_lt (length rs) k then c'.flight else None) acts
+
+      kept_none : KeepsRecords (state_of state) rs (sessions_of c') → kept_of c' ≡ None
+      kept_none k = kept_when (length rs) (ap (λ (s : Snapshot). s.acts) k.knows) ∙ ap (λ b. if b then c'.flight else None) (not_less (length rs))
+
+      kept_all : (r : SessionRecord) → KeepsRecords (state_of state) (r ∷ rs) (sessions_of c') → kept_of c' ≡ in_flight os
+      kept_all r k = kept_when (suc (length rs)) (ap (λ (s : Snapshot). s.acts) k.knows) ∙ ap (λ b. if b then c'.flight else None) (less_one (length rs)) ∙ flight ∙ is_fallen.flight
 
       abbrev pub Comes : Type 0
       Comes = (keeps : Bool) × (kept_of c' ≡ kept_act keeps os (calls_left false os)) × StandsOver state c' past (entry (kept_of c') ∷ os)
 
       without : KeepsRecords (state_of state) rs s1 → Comes
       without k =
-          let none : kept_of c' ≡ None = ap (λ b. if b then c'.flight else None) (counts ∙ ap (λ (s : Snapshot). nat_lt (length rs) s.acts) k.knows ∙ not_less (length rs)) in
+          let none = kept_none (armed.keeps rs k) in
           (false, none, subst (λ q. StandsOver state c' past (entry q ∷ os)) (sym none) (stands_back None k))
 
       with_flight : (r : SessionRecord) → may_keep ≡ Some r → KeepsRecords (state_of state) (r ∷ rs) s1 → Comes
       with_flight r is k =
           let may = keepable_by (may_stand (calls_left false os)) left.flight r is in
           let done = flight_act past os r may.1 in
-          let kept : kept_of c' ≡ in_flight os = ap (λ b. if b then c'.flight else None) (counts ∙ ap (λ (s : Snapshot). nat_lt (length rs) s.acts) k.knows ∙ less_one (length rs)) ∙ flight ∙ is_fallen.flight in
+          let kept = kept_all r (armed.keeps (r ∷ rs) k) in
           let part : added (kept_part (in_flight os) left.flight) rs ≡ r ∷ rs = ap (λ d. added (kept_part d left.flight) rs) done.1 ∙ ap (λ q. added q rs) may.1 in (
             true,
             kept ∙ sym (ap (λ b. if b then in_flight os else None) may.0),
@@ -213,6 +225,27 @@ module _ {D : Type 0} (state : D → DiskState) (law : (d : Stoppable D) → IsL
           by : KeepsRecords (state_of state) rs s1 ⊎ ((r : SessionRecord) × (may_keep ≡ Some r) × KeepsRecords (state_of state) (r ∷ rs) s1) → Comes
           by (inl k) = without k
           by (inr (r, is, k)) = with_flight r is k
+
+      -- its journal stands where what was kept leaves it, with a snapshot in place of all where one is due
+      module _ (start : Extent) (size : ℕ) (lies : LiesOver state c past start size os) (sized : AreSized (state_of state) (twin (sessions_of c')) size) where
+        again : BringsBack (state_of state) pick (sessions_of c) (sessions_of c')
+        again = armed.back pick (sessions_of c) back
+
+        scenario : SameOpening (sessions_of c) (sessions_of c')
+        scenario = record { managers = armed.opening.managers ∙ opening.managers; resources = armed.opening.resources ∙ opening.resources; found = armed.opening.found ∙ opening.found }
+
+        lies_here : AtEither (sessions_of c) left (extent_after past start size os) again.a again.b → LiesOver state c' past start size (entry (kept_of c') ∷ os)
+        lies_here (inl at) =
+            subst (λ q. LiesOver state c' past start size (entry q ∷ os)) (sym (kept_none (keeps_back (state_of state) law (sessions_of c) (sessions_of c') past start size os lies pick again scenario sized now calls rs at.0)))
+            (lies_alone (state_of state) law (sessions_of c) (sessions_of c') past start size os lies pick again scenario sized now calls at)
+        lies_here (inr (r, flies, at)) =
+            let done = flight_act past os r flies in
+            let kept = kept_all r (keeps_back (state_of state) law (sessions_of c) (sessions_of c') past start size os lies pick again scenario sized now calls (r ∷ rs) at.0) in
+            subst (λ q. LiesOver state c' past start size (entry q ∷ os)) (sym (kept ∙ done.1))
+            (lies_kept (state_of state) law (sessions_of c) (sessions_of c') past start size os lies pick again scenario sized now calls r done.0 flies at)
+
+        pub lies_back : LiesOver state c' past start size (entry (kept_of c') ∷ os)
+        lies_back = lies_here (lies.images again.a again.b again.first.0 again.second.0)
 
 happens_back : (times : Times) (past : List SessionRecord) (os : List Own) (now pick : ℕ) (calls : Option ℕ) (keeps : Bool) (kept : Option Durable) → down_by os ≡ true → kept ≡ kept_act keeps os (calls_left false os)
     → still (act.Restarted kept) ≡ happens (CoordinatorRole times past) os now false keeps (Restarted pick calls)
@@ -270,27 +303,28 @@ module _ {D : Type 0} (state : D → DiskState) (law : (d : Stoppable D) → IsL
   some_list past owns a b (inl e) = ((sessions_left past owns).records, e)
   some_list past owns a b (inr (r, is, e)) = (r ∷ (sessions_left past owns).records, e)
 
-  cause_by : (role : Role) (old new : NodeState) (error : OpenError) → IsNoDamage error → (error ≡ open_error.Failed → DisksFail old.disks new.disks) → IsRestartError role old new error
-  cause_by role old new open_error.Failed none fails = fails refl
-  cause_by role old new (open_error.Damaged second at) none fails = absurd none
-  cause_by role old new (open_error.Full full) none fails = absurd none
-  cause_by role old new open_error.NoMemory none fails = tt
+  cause_by : (role : Role) (owns : List Own) (old new : NodeState) (pick : ℕ) (calls : Option ℕ) (now : ℕ) (error : OpenError) → IsNoDamage error → (error ≡ open_error.Failed → DisksFail old.disks new.disks)
+      → IsRestartError old new pick calls now role owns error
+  cause_by role owns old new pick calls now open_error.Failed none fails = fails refl
+  cause_by role owns old new pick calls now (open_error.Damaged second at) none fails = absurd none
+  cause_by role owns old new pick calls now (open_error.Full full) none fails = absurd none
+  cause_by role owns old new pick calls now open_error.NoMemory none fails = tt
 
   -- bytes that it stands for are never damaged
-  pub restart_cause : (c' : Coordinator D) (error : OpenError) → AreTold (disks_of state c)
+  pub restart_cause : (c' : Coordinator D) (pick : ℕ) (calls : Option ℕ) (now : ℕ) (error : OpenError) → AreTold (disks_of state c)
       → SameKind (disks_of state c).first (pair_of state s').first → SameKind (disks_of state c).second (pair_of state s').second
       → ((a b : List ℕ) → present (pair_of state s').first ≡ Some a → present (pair_of state s').second ≡ Some b → IsDamage (meaning_of (managers_of (sessions_of c)) (resources_of (sessions_of c))) a b error)
       → (error ≡ open_error.Failed → DisksFail (disks_of state c) (disks_of state c')) → (role : Role) (owns : List Own) → (node_state state c).stands_for role owns
-      → IsRestartError role (node_state state c) (node_state state c') error
-  restart_cause c' error told first second damaged fails (CoordinatorRole times past) owns (same, s) =
+      → IsRestartError (node_state state c) (node_state state c') pick calls now role owns error
+  restart_cause c' pick calls now error told first second damaged fails (CoordinatorRole times past) owns (same, s) =
       let one = told_bytes (pair_of state s').first.content (first.tells_images ∙ told.first) in
       let two = told_bytes (pair_of state s').second.content (second.tells_images ∙ told.second) in
       let from = go_on one.0 two.0 ((law (first_disk (twin s'))).present_may_stay one.0 one.1) ((law (second_disk (twin s'))).present_may_stay two.0 two.1) in
       let list = some_list past owns from.0 from.1 (s.disks.images from.0 from.1 from.2 from.3) in
-      cause_by (CoordinatorRole times past) (node_state state c) (node_state state c') error
+      cause_by (CoordinatorRole times past) owns (node_state state c) (node_state state c') pick calls now error
       (not_damaged (managers_of (sessions_of c)) (resources_of (sessions_of c)) one.0 two.0 error (damaged one.0 two.0 one.1 two.1) list.0 (from.4 list.0 list.1)) fails
-  restart_cause c' error told first second damaged fails (Resource setup past) owns s = absurd s
-  restart_cause c' error told first second damaged fails (Manager settings) owns s = absurd s
+  restart_cause c' pick calls now error told first second damaged fails (Resource setup past) owns s = absurd s
+  restart_cause c' pick calls now error told first second damaged fails (Manager settings) owns s = absurd s
 
 module _ {D : Type 0} (state : D → DiskState) (law : (d : Stoppable D) → IsLawful (state_of state d)) (c c' : Coordinator D) (down : is_down c ≡ true) (go_on : GoOn state (sessions_of c) (sessions_of c'))
     (grown : own_faults (disks_of state c) ≤ own_faults (disks_of state c')) (opening : SameOpening (sessions_of c) (sessions_of c')) (still_down : is_down c' ≡ true) (rest : SameRest c c') where
@@ -348,7 +382,7 @@ module _ {D : Type 0} (state : D → DiskState) (law : (d : Stoppable D) → IsL
     after = λ told role owns s. (
       after_error state law c c' down (subst (GoOn state (sessions_of c)) (sym is) go_on) (subst (λ q. own_faults (disks_of state c) ≤ own_faults (pair_of state q)) (sym is) (up_grown state false pick (sessions_of c) s1 up))
           (subst (SameOpening (sessions_of c)) (sym is) opening) (ap sessions_down is ∙ fell) rest role owns s,
-      restart_cause state law c s1 go_on c' error told up.first.kind up.second.kind damaged failing role owns s,
+      restart_cause state law c s1 go_on c' pick calls now error told up.first.kind up.second.kind damaged failing role owns s,
     );
     not_full = not_full;
     not_due = subst (λ q. StaysWhereShort (state_of state) (twin (sessions_of c)) (twin q)) (sym is) stays;
@@ -481,6 +515,11 @@ module _ {D : Type 0} (state : D → DiskState) (law : (d : Stoppable D) → IsL
                 happens_back times past owns now pick calls k.0 (kept_of c') (sym s.disks.down ∙ down) k.1,
                 (same ∙ times_rest c c' all_rest, k.2),
                 (λ e. false_true e),
+                λ start size lies. (
+                  fits_none past start size owns (own_entry (Restarted pick calls) now (still (act.Restarted (kept_of c')))) refl,
+                  lies_back state law c c' s1 past owns s down pick now calls (back told.first told.second) opening up (up_grown state true pick (sessions_of c) s1 both) armed (omega (arith, in_time)) moments all_rest.start
+                      all_rest.flight all_rest.records start size lies (record { first = kind_first.size ∙ lies.sized.first; second = kind_second.size ∙ lies.sized.second }),
+                ),
               )
           comes_back told (Resource setup past) owns s = absurd s
           comes_back told (Manager settings) owns s = absurd s

@@ -1,12 +1,11 @@
 -- A step of the coordinator is what happens by the rules, as far as its disks let it.
-use Rattle.std.proofs.Common.{◌≡◌, ◌⊎◌, inl, inr, ◌+◌, ◌≤◌, ℕ, Bool, true, false, List, ◌∷◌, length, Option, None, Some, option_map, refl, sym, ap, subst, ◌∙◌, arith}
+use Rattle.std.proofs.Common.{◌≡◌, ◌⊎◌, inl, inr, ◌+◌, ◌≤◌, ℕ, Bool, true, false, List, ◌∷◌, Option, None, Some, refl, sym, ap, subst, ◌∙◌, arith}
 use Rattle.std.specs.Prelude.{Ok, Err}
 use Rattle.std.specs.Option.{option_and_then}
 use Rattle.disk_model.specs.Disk.{DiskState, IsLawful}
 use Rattle.disk_model.specs.Stop.{state_of}
 use Rattle.disk_model.specs.declared.stoppable.Stoppable.{Stoppable}
-use Rattle.journal_checkpoint.specs.Ends.{HasNoPlace}
-use Rattle.journal_checkpoint.proofs.Ends.{no_place}
+use Rattle.journal_checkpoint.specs.Extents.{Extent}
 use Rattle.seata_types.specs.declared.acts.Act.{Act}
 use Rattle.seata_types.specs.declared.acts.Act.TheVariants as act
 use Rattle.seata_types.specs.declared.acts.Durable.{Durable}
@@ -18,26 +17,27 @@ use Rattle.seata_types.specs.declared.messages.Input.{Input}
 use Rattle.seata_types.specs.declared.messages.Step.{Step}
 use Rattle.durable_records.specs.declared.coordinators.SessionRecord.{SessionRecord}
 use Rattle.session_log.specs.declared.sessions.Snapshot.{Snapshot}
-use Rattle.session_log.specs.Records.{record_bytes}
 use Rattle.session_store.specs.declared.sessions.Sessions.{Sessions}
-use Rattle.session_store.specs.Keeping.{known, managers_of, twin, is_down as sessions_down, HasRoom as HasRecordRoom}
+use Rattle.session_store.specs.Keeping.{known, managers_of, is_down as sessions_down, HasRoom as HasRecordRoom}
 use Rattle.history_rules.specs.Own.{Own, Left, Given, Event, leaves, asked_act}
 use Rattle.history_rules.specs.Devices.{calls_left, fails, fault_of, left_after, down_after, written, is_down as down_by}
 use Rattle.history_rules.specs.CoordinatorMemory.{Times, sessions_left, session_record, session_asked}
 use Rattle.history_rules.specs.Nodes.{Role, Resource, Manager, answer, happens, left_at}
 use Rattle.history_rules.specs.Nodes.{Coordinator as CoordinatorRole}
-use Rattle.node_steps.specs.Promises.{TakesStep, FailsAt, StandsAsBefore, Overflows, Fits, own_step}
-use Rattle.node_steps.proofs.Places.{has_place}
+use Rattle.node_steps.specs.Ends.{behind, session_recording}
+use Rattle.node_steps.specs.Promises.{TakesStep, FailsAt, StandsAsBefore, LiesAsBefore, LiesWith, Overflows, cut, own_step}
 use Rattle.coordinator_core.specs.declared.nodes.Coordinator.{Coordinator}
 use Rattle.coordinator_core.specs.Knowledge.{Knowledge, SameTimes, knowledge, times_in}
 use Rattle.coordinator_core.specs.Answers.{is_answer, IsWithin, IsUnanswered, IsCut, IsOver, Puts, AnswersWhere, Answers}
+use Rattle.coordinator_core.specs.Lying.{Lies, extent_after}
 use Rattle.coordinator_core.specs.Moving.{Misses}
-use Rattle.coordinator_core.specs.Standing.{node_state, StandsOver, OnDisks, course, active_of, pair_of, sessions_of, start_of, is_down, needs, size_of, times_of}
+use Rattle.coordinator_core.specs.Standing.{node_state, StandsOver, LiesOver, OnDisks, course, sessions_of, start_of, is_down, times_of}
 use Rattle.coordinator_core.specs.Tracks.{with_own, rule_answer, Follows}
-use Rattle.coordinator_core.specs.NodeLaws.{on_same}
-use Rattle.coordinator_core.specs.Stepping.{HasRoom, StepsBy}
+use Rattle.coordinator_core.specs.NodeLaws.{lies_same, on_same}
+use Rattle.coordinator_core.specs.Stepping.{HasNoRoom, HasRoom, StepsBy}
 use Rattle.coordinator_core.proofs.Stays.{remains_put, remains_lost, remains_same, stays_itself, same_picks}
 use Rattle.coordinator_core.proofs.Disks.{false_true, on_added, on_lost, long, cause, kept_now}
+use Rattle.coordinator_core.proofs.Laid.{fits_step, lies_added, lies_lost, over_step}
 
 -- ---- acts that are no records
 
@@ -76,6 +76,13 @@ still_fault (act.Restarted kept) left e = false_true e
 still_fault act.Armed left e = false_true e
 still_fault _ left e = refl
 
+still_behind : (past : List SessionRecord) (start : Extent) (size : ℕ) (a : Act) (made : Option SessionRecord) (e : Extent) → is_still a ≡ true → behind (session_recording past) start size a made e ≡ e
+still_behind past start size (act.Durable done) made e is = false_true is
+still_behind past start size (act.Down kept at) made e is = false_true is
+still_behind past start size (act.Restarted kept) made e is = false_true is
+still_behind past start size act.Armed made e is = false_true is
+still_behind past start size _ made e is = refl
+
 still_puts : {D : Type 0} (state : D → DiskState) (event : Event) (now : ℕ) (a : Act) (old new : Sessions D) → is_still a ≡ true → Puts state event now a old new → new ≡ old
 still_puts state event now (act.Durable done) old new e p = false_true e
 still_puts state event now (act.Down kept at) old new e p = false_true e
@@ -107,15 +114,6 @@ one_record r q e = cc
 no_record : (r : SessionRecord) → None ≡ some_record r → ⊥
 no_record r e = cc
 
-abbrev some_bytes : List ℕ → Option (List ℕ)
-some_bytes bytes = Some bytes
-
-no_bytes : (bytes : List ℕ) → None ≡ some_bytes bytes → ⊥
-no_bytes bytes e = cc
-
-same_bytes : (a b : List ℕ) → some_bytes a ≡ Some b → a ≡ b
-same_bytes a b e = cc
-
 -- what happens at a node that is up: its rule's answer, written
 happens_up : (role : Role) (owns : List Own) (now : ℕ) (fault : Bool) (given : Input) (step : Step) → down_by owns ≡ false → step ≡ answer role owns now given
     → happens role owns now fault false (Given given) ≡ written (fails fault (left_at role owns)) step step.act
@@ -135,6 +133,24 @@ module _ {D : Type 0} (state : D → DiskState) (law : (d : Stoppable D) → IsL
   is_rule : (times : Times) (past : List SessionRecord) (owns : List Own) (step : Step) → times ≡ times_of c → step ≡ rule_answer (times_of c) (course past owns) now given
       → step ≡ answer (CoordinatorRole times past) owns now given
   is_rule times past owns step same is = is ∙ ap (λ t. rule_answer t (course past owns) now given) (sym same)
+
+  -- ---- a record has room
+
+  -- the record of a durable act
+  asked_by : (a : Act) (done : Durable) (r : SessionRecord) → a ≡ act.Durable done → session_record now (Given given) done ≡ Some r
+      → option_and_then (session_record now (Given given)) (asked_act a) ≡ Some r
+  asked_by a done r is asked = ap (λ k. option_and_then (session_record now (Given given)) (asked_act k)) is ∙ asked
+
+  -- the one that an answer's act asks for
+  room_by : (a : Act) → is_answer a ≡ true → Puts (state_of state) (Given given) now a (sessions_of c) (sessions_of c') → (r : SessionRecord)
+      → option_and_then (session_record now (Given given)) (asked_act a) ≡ Some r → HasRecordRoom (state_of state) r (sessions_of c)
+  room_by (act.Durable done) e (q, asked, adds) r is = subst (λ k. HasRecordRoom (state_of state) k (sessions_of c)) (one_record q r (sym asked ∙ is)) adds.fits
+  room_by (act.Down kept at) e p r is = false_true e
+  room_by _ e p r is = absurd (no_record r is)
+
+  -- the one at which the disks failed
+  room_cut_by : (done : Durable) (i : IsCut (state_of state) (IsWithin c.table) c.table c'.table given now done) (r : SessionRecord) → some_record i.r ≡ Some r → HasRecordRoom (state_of state) r (sessions_of c)
+  room_cut_by done i r is = subst (λ k. HasRecordRoom (state_of state) k (sessions_of c)) (one_record i.r r is) i.loses.fits
 
   -- ---- an answer
 
@@ -159,6 +175,26 @@ module _ {D : Type 0} (state : D → DiskState) (law : (d : Stoppable D) → IsL
         let puts = subst (λ k. Puts (state_of state) (Given given) now k (sessions_of c) (sessions_of c')) is a.1 in
         ap (λ b. written b step step.act) (long state law (sessions_of c) (sessions_of c') past owns s.disks up given now d puts.0 puts.1 puts.2) ∙ ap (written false step) is
 
+    -- its journal, without a record or with one
+    lies_by : (past : List SessionRecord) (start : Extent) (size : ℕ) (owns : List Own) (s : StandsOver state c past owns) → LiesOver state c past start size owns
+        → (is_still step.act ≡ true) ⊎ ((d : Durable) × (step.act ≡ act.Durable d)) → LiesOver state c' past start size (own_step given now step ∷ owns)
+    lies_by past start size owns s lies (inl e) =
+        let same = still_puts (state_of state) (Given given) now step.act (sessions_of c) (sessions_of c') e a.1 in
+        subst (λ (q : Sessions (Stoppable D)). Lies (state_of state) q past start size (own_step given now step ∷ owns)) (sym same)
+        (lies_same (state_of state) (sessions_of c) past start size owns (own_step given now step ∷ owns) (still_down step.act (down_by owns) e)
+        (still_leaves step.act _ (sessions_left past owns) e) (still_behind past start size step.act (session_asked (own_step given now step)) (extent_after past start size owns) e) lies)
+    lies_by past start size owns s lies (inr (d, is)) =
+        let puts = subst (λ k. Puts (state_of state) (Given given) now k (sessions_of c) (sessions_of c')) is a.1 in
+        subst (λ k. LiesOver state c' past start size (own_step given now (record { act = k; sent = step.sent }) ∷ owns)) (sym is)
+        (lies_added (state_of state) law (sessions_of c) (sessions_of c') past start size owns lies (upon past owns s) given now d puts.0 puts.1 step.sent (s.disks.keeps (upon past owns s)) puts.2)
+
+    lies_taken : (times : Times) (past : List SessionRecord) (owns : List Own) (s : StandsOver state c past owns) → is_answer step.act ≡ true
+        → LiesWith (node_state state c) (node_state state c') (CoordinatorRole times past) owns (own_step given now step)
+    lies_taken times past owns s is start size lies = (
+      fits_step (state_of state) law (sessions_of c) (sessions_of c') past start size owns lies (upon past owns s) given now step (room_by step.act is a.1),
+      lies_by past start size owns s lies (answer_kind step.act is),
+    )
+
     pub takes_step : TakesStep (node_state state c) (node_state state c') given now step
     takes_step (CoordinatorRole times past) owns (same, s) =
         let taken = a.0.takes (course past owns) (s.follows (upon past owns s)) (within past owns s) in
@@ -174,6 +210,7 @@ module _ {D : Type 0} (state : D → DiskState) (law : (d : Stoppable D) → IsL
               fallen = λ e. false_true (sym (downs_by past owns s taken.1 kind) ∙ e);
             },
           ),
+          lies_taken times past owns s taken.2,
         )
       where
         downs_by : (past : List SessionRecord) (owns : List Own) (s : StandsOver state c past owns) → Follows (knowledge c'.table) (with_own (own_step given now step) (course past owns))
@@ -184,11 +221,6 @@ module _ {D : Type 0} (state : D → DiskState) (law : (d : Stoppable D) → IsL
     takes_step (Manager settings) owns s = absurd s
 
   -- ---- the disks failed
-
-  -- the record of a durable act
-  asked_by : (a : Act) (done : Durable) (r : SessionRecord) → a ≡ act.Durable done → session_record now (Given given) done ≡ Some r
-      → option_and_then (session_record now (Given given)) (asked_act a) ≡ Some r
-  asked_by a done r is asked = ap (λ k. option_and_then (session_record now (Given given)) (asked_act k)) is ∙ asked
 
   module _ (done : Durable) (i : IsCut (state_of state) (IsWithin c.table) c.table c'.table given now done) (flight : c'.flight ≡ Some done) (count : c'.records ≡ (known (sessions_of c)).acts) where
     pub fails_at : FailsAt (node_state state c) (node_state state c') given now done
@@ -210,6 +242,10 @@ module _ {D : Type 0} (state : D → DiskState) (law : (d : Stoppable D) → IsL
             },
           ),
           cause state law (sessions_of c) (sessions_of c') past owns s.disks up given now done i.r i.due.asked i.loses,
+          λ start size lies. (
+            fits_step (state_of state) law (sessions_of c) (sessions_of c') past start size owns lies (upon past owns s) given now (cut done) (λ r is. room_cut_by done i r (sym i.due.asked ∙ is)),
+            lies_lost (state_of state) law (sessions_of c) (sessions_of c') past start size owns lies (upon past owns s) given now done i.r i.due.asked kept i.loses,
+          ),
         )
     fails_at (Resource setup past) owns s = absurd s
     fails_at (Manager settings) owns s = absurd s
@@ -231,62 +267,49 @@ module _ {D : Type 0} (state : D → DiskState) (law : (d : Stoppable D) → IsL
     stands_before (Resource setup past) owns s = absurd s
     stands_before (Manager settings) owns s = absurd s
 
-  pub overflows : (full : Full) → IsOver (state_of state) (IsWithin c.table) c.table c'.table given now full → Overflows (node_state state c) (node_state state c') given now full
-  overflows full i (CoordinatorRole times past) owns (same, s) =
+    pub lies_before : LiesAsBefore (node_state state c) (node_state state c')
+    lies_before (CoordinatorRole times past) start size owns lies = subst (λ (q : Sessions (Stoppable D)). Lies (state_of state) q past start size owns) (sym same_sessions) lies
+    lies_before (Resource setup past) start size owns lies = absurd lies
+    lies_before (Manager settings) start size owns lies = absurd lies
+
+  pub no_room : (full : Full) → IsOver (state_of state) (IsWithin c.table) c.table c'.table given now full → HasNoRoom state c given now full
+  no_room full i (CoordinatorRole times past) owns (same, s) =
       let taken = i.due.answered.takes (course past owns) (s.follows (upon past owns s)) (within past owns s) in
-      let kept = s.disks.keeps (upon past owns s) in
-      let asked = asked_by i.due.step.act i.done i.r i.due.durable i.due.asked in (
-        record_bytes i.r,
-        ap (λ (k : Step). option_map record_bytes (session_asked (own_step given now k))) (sym (is_rule times past owns i.due.step same taken.0)) ∙ ap (option_map record_bytes) asked,
-        subst (λ s. HasNoPlace (pair_of state s) (active_of state s).size (length (record_bytes i.r)) full) (sym i.sessions)
-            (no_place (state_of state) law kept.found (twin (sessions_of c)) kept.store.pair (size_of state c) (length (record_bytes i.r)) full (i.no_room kept.found kept.store)),
+      let kept = s.disks.keeps (upon past owns s) in (
+        i.r,
+        ap (λ (k : Step). session_asked (own_step given now k)) (sym (is_rule times past owns i.due.step same taken.0)) ∙ asked_by i.due.step.act i.done i.r i.due.durable i.due.asked,
+        i.no_room kept.found kept.store,
       )
-  overflows full i (Resource setup past) owns s = absurd s
-  overflows full i (Manager settings) owns s = absurd s
+  no_room full i (Resource setup past) owns s = absurd s
+  no_room full i (Manager settings) owns s = absurd s
+
+  -- by its entries
+  pub overflows : (full : Full) → HasNoRoom state c given now full → Overflows (node_state state c) given now full
+  overflows full none (CoordinatorRole times past) start size owns s lies =
+      let over = none (CoordinatorRole times past) owns s in (
+        over.0,
+        over.1,
+        over_step (state_of state) law (sessions_of c) (sessions_of c') past start size owns lies (upon past owns s.1) given now over.0 full over.2,
+      )
+  overflows full none (Resource setup past) start size owns s lies = absurd s
+  overflows full none (Manager settings) start size owns s lies = absurd s
 
   -- ---- a record that was taken
 
-  -- the record that an answer's act asks for fits
-  room_by : (a : Act) → is_answer a ≡ true → Puts (state_of state) (Given given) now a (sessions_of c) (sessions_of c') → (r : SessionRecord)
-      → option_and_then (session_record now (Given given)) (asked_act a) ≡ Some r → HasRecordRoom (state_of state) r (sessions_of c)
-  room_by (act.Durable done) e (q, asked, adds) r is = subst (λ k. HasRecordRoom (state_of state) k (sessions_of c)) (one_record q r (sym asked ∙ is)) adds.fits
-  room_by (act.Down kept at) e p r is = false_true e
-  room_by _ e p r is = absurd (no_record r is)
-
-  room_of : (asked : Option SessionRecord) (bytes : List ℕ) → ((r : SessionRecord) → asked ≡ Some r → HasRecordRoom (state_of state) r (sessions_of c))
-      → option_map record_bytes asked ≡ Some bytes → needs c (length bytes) ≤ size_of state c
-  room_of None bytes room e = absurd (no_bytes bytes e)
-  room_of (Some r) bytes room e = subst (λ (b : List ℕ). needs c (length b) ≤ size_of state c) (same_bytes (record_bytes r) bytes e) (room r refl)
-
-  -- the bytes that the rule's answer asks for are those of this step
-  bytes_of : (times : Times) (past : List SessionRecord) (owns : List Own) (step : Step) (bytes : List ℕ) → step ≡ answer (CoordinatorRole times past) owns now given
-      → option_map record_bytes (session_asked (own_step given now (answer (CoordinatorRole times past) owns now given))) ≡ Some bytes
-      → option_map record_bytes (session_asked (own_step given now step)) ≡ Some bytes
-  bytes_of times past owns step bytes is e = ap (λ (k : Step). option_map record_bytes (session_asked (own_step given now k))) is ∙ e
-
   pub room_taken : (step : Step) → AnswersWhere (state_of state) (IsWithin c.table) c.table c'.table given now (Ok step) → HasRoom state c given now
-  room_taken step a (CoordinatorRole times past) owns (same, s) bytes e =
+  room_taken step a (CoordinatorRole times past) owns (same, s) r is =
       let taken = a.0.takes (course past owns) (s.follows (upon past owns s)) (within past owns s) in
-      room_of (session_asked (own_step given now step)) bytes (room_by step.act taken.2 a.1) (bytes_of times past owns step bytes (is_rule times past owns step same taken.0) e)
-  room_taken step a (Resource setup past) owns s bytes e = absurd s
-  room_taken step a (Manager settings) owns s bytes e = absurd s
+      room_by step.act taken.2 a.1 r (ap (λ (k : Step). session_asked (own_step given now k)) (is_rule times past owns step same taken.0) ∙ is)
+  room_taken step a (Resource setup past) owns s r is = absurd s
+  room_taken step a (Manager settings) owns s r is = absurd s
 
   pub room_cut : (done : Durable) → IsCut (state_of state) (IsWithin c.table) c.table c'.table given now done → HasRoom state c given now
-  room_cut done i (CoordinatorRole times past) owns (same, s) bytes e =
+  room_cut done i (CoordinatorRole times past) owns (same, s) r is =
       let taken = i.due.answered.takes (course past owns) (s.follows (upon past owns s)) (within past owns s) in
-      let asked = asked_by i.due.step.act done i.r i.due.durable i.due.asked in
-      room_of (session_asked (own_step given now i.due.step)) bytes (λ r is. subst (λ k. HasRecordRoom (state_of state) k (sessions_of c)) (one_record i.r r (sym asked ∙ is)) i.loses.fits)
-      (bytes_of times past owns i.due.step bytes (is_rule times past owns i.due.step same taken.0) e)
-  room_cut done i (Resource setup past) owns s bytes e = absurd s
-  room_cut done i (Manager settings) owns s bytes e = absurd s
-
-  -- what fits has a place behind the records that the disks hold
-  pub placed : HasRoom state c given now → Fits (node_state state c) given now
-  placed room (CoordinatorRole times past) owns (same, s) bytes e =
-      let kept = s.disks.keeps (upon past owns s) in
-      has_place (state_of state) law kept.found (twin (sessions_of c)) kept.store.pair (size_of state c) (length bytes) (room (CoordinatorRole times past) owns (same, s) bytes e)
-  placed room (Resource setup past) owns s bytes e = absurd s
-  placed room (Manager settings) owns s bytes e = absurd s
+      let rule = ap (λ (k : Step). session_asked (own_step given now k)) (is_rule times past owns i.due.step same taken.0) in
+      room_cut_by done i r (sym (asked_by i.due.step.act done i.r i.due.durable i.due.asked) ∙ rule ∙ is)
+  room_cut done i (Resource setup past) owns s r is = absurd s
+  room_cut done i (Manager settings) owns s r is = absurd s
 
 -- ---- all that is promised of a step
 
@@ -310,7 +333,6 @@ module _ {D : Type 0} (state : D → DiskState) (law : (d : Stoppable D) → IsL
         named = a.named;
         after = tt;
         room = room_taken state law c c' given now up clock step a.answers;
-        placed = placed state law c c' given now up clock (room_taken state law c c' given now up clock step a.answers);
         same = stays_itself state c c' remains;
         picks = same_picks state c c' remains;
         counted = counted;
@@ -328,7 +350,6 @@ module _ {D : Type 0} (state : D → DiskState) (law : (d : Stoppable D) → IsL
         named = λ n. tt;
         after = fails_at state law c c' given now up clock done i m.0 m.1;
         room = room_cut state law c c' given now up clock done i;
-        placed = placed state law c c' given now up clock (room_cut state law c c' given now up clock done i);
         same = stays_itself state c c' remains;
         picks = same_picks state c c' remains;
         counted = m.2;
@@ -342,10 +363,10 @@ module _ {D : Type 0} (state : D → DiskState) (law : (d : Stoppable D) → IsL
         named = λ n. tt;
         after = (
           stands_before state law c c' given now up clock i.unanswered i.sessions,
-          overflows state law c c' given now up clock full i,
+          lies_before state law c c' given now up clock i.unanswered i.sessions,
+          overflows state law c c' given now up clock full (no_room state law c c' given now up clock full i),
         );
-        room = tt;
-        placed = tt;
+        room = no_room state law c c' given now up clock full i;
         same = stays_itself state c c' remains;
         picks = same_picks state c c' remains;
         counted = omega (arith, m);
@@ -357,9 +378,8 @@ module _ {D : Type 0} (state : D → DiskState) (law : (d : Stoppable D) → IsL
         answers = tt;
         framable = λ f. tt;
         named = λ n. tt;
-        after = stands_before state law c c' given now up clock i.0 i.1;
+        after = (stands_before state law c c' given now up clock i.0 i.1, lies_before state law c c' given now up clock i.0 i.1);
         room = tt;
-        placed = tt;
         same = stays_itself state c c' remains;
         picks = same_picks state c c' remains;
         counted = omega (arith, m);

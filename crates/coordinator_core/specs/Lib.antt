@@ -10,6 +10,7 @@ pub mod Serving
 pub mod Naming
 pub mod Answers
 pub mod Starting
+pub mod Lying
 pub mod Standing
 pub mod Stepping
 pub mod Moving

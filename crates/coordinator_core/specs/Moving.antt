@@ -4,6 +4,7 @@ use Rattle.std.specs.Borrow.{Lends, Fml, RattleType, MutBor}
 use Rattle.disk_model.specs.Disk.{DiskState}
 use Rattle.disk_model.specs.Stop.{state_of}
 use Rattle.journal_checkpoint.specs.Images.{Pair}
+use Rattle.journal_checkpoint.specs.Keeping.{twin_extent}
 use Rattle.seata_types.specs.declared.acts.Durable.{Durable}
 use Rattle.seata_types.specs.declared.copies.NoMemory.{NoMemory}
 use Rattle.seata_types.specs.declared.errors.NodeError.{NodeError}
@@ -12,7 +13,7 @@ use Rattle.durable_records.specs.declared.coordinators.SessionRecord.{SessionRec
 use Rattle.session_store.specs.declared.sessions.Sessions.{Sessions}
 use Rattle.disk_model.specs.declared.stoppable.Stoppable.{Stoppable}
 use Rattle.disk_model.specs.contracts.stoppable.Stoppable.{the_row as stoppable_row}
-use Rattle.session_store.specs.Keeping.{BringsBack, KeepsRecords, SameOpening, SameDisks, known, is_down as sessions_down, with_disk as sessions_with}
+use Rattle.session_store.specs.Keeping.{BringsBack, KeepsRecords, SameOpening, SameDisks, known, twin, is_down as sessions_down, with_disk as sessions_with}
 use Rattle.node_steps.specs.Durable.{own_faults}
 use Rattle.coordinator_core.specs.declared.nodes.Coordinator.{Coordinator}
 use Rattle.coordinator_core.specs.contracts.nodes.Coordinator.{the_row}
@@ -52,6 +53,8 @@ pub record ArmsSessions {D : Type 0} (state : D → DiskState) (calls : ℕ) (ol
   pub back : (pick : ℕ) (before : Sessions (Stoppable D)) → BringsBack (state_of state) pick before old → BringsBack (state_of state) pick before new
   pub left : (active_of state new).counts.left ≡ Some calls
   pub pair : ArmsPair (pair_of state old) (pair_of state new)
+  -- its journal stands where it stood
+  pub extent : twin_extent (twin new) ≡ twin_extent (twin old)
   pub known : known new ≡ known old
   pub opening : SameOpening old new
   pub down : sessions_down new ≡ sessions_down old

@@ -6,6 +6,7 @@ use Rattle.seata_types.specs.declared.errors.OpenError.{OpenError}
 use Rattle.seata_types.specs.declared.errors.OpenError.TheVariants as open_error
 use Rattle.disk_journal.specs.Reading.{row_length}
 use Rattle.journal_checkpoint.specs.declared.types.Found.{Found}
+use Rattle.journal_checkpoint.specs.Extents.{extent_of}
 use Rattle.journal_checkpoint.specs.Images.{PairStandsFor}
 use Rattle.journal_checkpoint.specs.Keeping.{first_disk, second_disk}
 use Rattle.memory_store.specs.Keeping.{IsDamage, IsNotFull, IsOf, FindsFirst}
@@ -15,7 +16,7 @@ use Rattle.session_store.specs.Standing.{StandsForSessions}
 use Rattle.session_store.specs.Keeping.{GoesOnAs, IsNoDamage, store_of, twin}
 use Rattle.coordinator_core.specs.declared.nodes.Coordinator.{Coordinator}
 use Rattle.seata_types.specs.declared.limits.TheConstants.{NODE_STEPS}
-use Rattle.coordinator_core.specs.Standing.{StandsOver, is_down, managers, resources, sessions_of, steps_left}
+use Rattle.coordinator_core.specs.Standing.{StandsOver, LiesOver, is_down, managers, resources, sessions_of, steps_left}
 
 -- what an opening leaves of a disk: its size, what it tells and its last pick; its faults don't become fewer
 pub record IsOpenedDisk (old new : DiskState) : Type 0 where
@@ -43,6 +44,9 @@ pub record IsOpened {D : Type 0} (state : D → DiskState) (first second : D) (m
   -- it stands for no own entry, over each list of records that the bytes stand for
   pub stands : (rs : List SessionRecord) (a b : List ℕ) → present (state first) ≡ Some a → present (state second) ≡ Some b → StandsForSessions manager_count resource_count rs a b
       → StandsOver state c rs []
+  -- and on disks of one size its journal lies where these bytes have it, with a snapshot in place of the records where one was due
+  pub lies : (size : ℕ) (rs : List SessionRecord) (a b : List ℕ) (found : Found) → (state first).size ≡ size → (state second).size ≡ size → present (state first) ≡ Some a → present (state second) ≡ Some b
+      → PairStandsFor found a b → StandsForSessions manager_count resource_count rs a b → LiesOver state c rs (extent_of found) size []
   -- the first record that it found is the first one there
   pub place : (a b : List ℕ) → present (state first) ≡ Some a → present (state second) ≡ Some b → FindsFirst a b (store_of (sessions_of c))
   -- it knows what the bytes hold, with a snapshot in place of the records where one was due

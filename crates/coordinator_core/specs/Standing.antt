@@ -3,6 +3,7 @@ use Rattle.std.specs.Prelude.{◌≡◌, ◌⊎◌, ◌||◌, ◌-◌, ◌≤◌
 use Rattle.disk_model.specs.Disk.{DiskState}
 use Rattle.disk_model.specs.Stop.{state_of}
 use Rattle.disk_model.specs.declared.stoppable.Stoppable.{Stoppable}
+use Rattle.journal_checkpoint.specs.Extents.{Extent}
 use Rattle.journal_checkpoint.specs.Images.{Pair}
 use Rattle.journal_checkpoint.specs.Keeping.{active_disk, first_disk, second_disk, needed_for}
 use Rattle.seata_types.specs.declared.ids.Place.TheVariants as place
@@ -22,6 +23,7 @@ use Rattle.node_steps.specs.Durable.{keepable, own_faults}
 use Rattle.node_steps.specs.Nodes.{NodeState}
 use Rattle.coordinator_core.specs.declared.nodes.Coordinator.{Coordinator}
 use Rattle.coordinator_core.specs.Knowledge.{knowledge, times_of as times_kept}
+use Rattle.coordinator_core.specs.Lying.{Lies}
 use Rattle.coordinator_core.specs.Serving.{ServesInput}
 use Rattle.coordinator_core.specs.Tracks.{Course, Follows}
 
@@ -112,17 +114,27 @@ StandsAs state c (CoordinatorRole times past) os = (times ≡ times_of c) × Sta
 StandsAs state c (Resource setup past) os = ⊥
 StandsAs state c (Manager settings) os = ⊥
 
+-- its journal, which stood there at the first opening, stands where these own entries leave it
+abbrev pub LiesOver : {D : Type 0} → (D → DiskState) → Coordinator D → List SessionRecord → (start : Extent) → (size : ℕ) → List Own → Type 0
+LiesOver state c past start size os = Lies (state_of state) (sessions_of c) past start size os
+
+-- the same by its role
+abbrev pub LiesAs : {D : Type 0} → (D → DiskState) → Coordinator D → Role → (start : Extent) → (size : ℕ) → List Own → Type 0
+LiesAs state c (CoordinatorRole times past) start size os = LiesOver state c past start size os
+LiesAs state c (Resource setup past) start size os = ⊥
+LiesAs state c (Manager settings) start size os = ⊥
+
 -- as a node: it stands where the coordinator does, and has disks
 abbrev pub node_state : {D : Type 0} → (D → DiskState) → Coordinator D → NodeState
 node_state state c = record {
   stands_for = StandsAs state c;
+  lies = LiesAs state c;
   place = place.Tc;
   serves = serves c;
   left = steps_left c;
   stops = true;
   down = is_down c;
   disks = disks_of state c;
-  size = size_of state c;
 }
 
 -- ---- how many transactions are under way

@@ -47,6 +47,7 @@ pub mod ValueHistory
 pub mod WorkOnce
 pub mod OnceHistory
 pub mod SafetyHistory
+pub mod LongerChains
 pub mod Finishes
 pub mod ResourceSends
 pub mod MessageHistory

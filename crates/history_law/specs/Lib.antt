@@ -19,4 +19,5 @@ pub mod MessageSafety
 pub mod ValueSafety
 pub mod OnceSafety
 pub mod Safety
+pub mod ChainSafety
 pub mod PlaySafety

@@ -15,6 +15,7 @@ ghost use Rattle.history_law.specs.BranchSafety.{BranchesLaw, BranchesOfChains};
 ghost use Rattle.history_law.specs.MessageSafety.{MessagesLaw, MessagesOverAnyRecords, RecordsNameResources};
 ghost use Rattle.history_law.specs.OnceSafety.{OnceLaw, OnceOfChains};
 ghost use Rattle.history_law.specs.Safety.{SafetyLaw, SafetyOfChains};
+ghost use Rattle.history_law.specs.ChainSafety.{SafetyAfterChains};
 ghost use Rattle.history_law.specs.ValueSafety.{ValuesLaw, ValuesOfChains, DirtyLaw, DirtyOfChains};
 ghost use Rattle.history_law.specs.CallSafety.{CallsLaw, CallsOfChains, UnfencedLaw, UnfencedOfChains};
 
@@ -271,4 +272,10 @@ pub fn legal_histories_are_safe()
 /// of in the history in which they were asked for.
 pub fn chains_are_safe()
     ensures { SafetyOfChains }
+{}
+
+/// Each legal history over any records, where AT calls name AT tables and TCC actions TCC tables, is safe after each chain that may
+/// have left these records, and so is each history of that chain. Disks without records are what the empty chain leaves.
+pub fn histories_are_safe_after_chains()
+    ensures { SafetyAfterChains }
 {}

@@ -1,4 +1,4 @@
--- The status of a replay where no device fails.
+-- The status of a replay or a run where no device fails.
 use Rattle.std.proofs.Common.{◌≡◌, ◌⊎◌, inl, inr, ◌||◌, ℕ, nat_eq, Bool, true, false, List, [], Some, Result, Ok, Err, refl, ap, sym, subst, ◌∙◌, arith}
 use Rattle.std.proofs.lemmas.Bool.Decides.{nat_tests}
 use Rattle.std.proofs.lemmas.Option.{same_Some}
@@ -13,10 +13,9 @@ use Rattle.node_seat.specs.declared.faults.RunFault.{RunFault}
 use Rattle.node_seat.specs.declared.faults.RunFault.TheVariants as run_fault
 use Rattle.scenario_nodes.specs.Nodes.{server_names}
 use Rattle.scenario_nodes.specs.Together.{IsOfOne}
-use Rattle.replay_runner.specs.Leaving.{IsCalmEnd, IsCalmShelf}
-use Rattle.replay_runner.specs.Leaving.{Replays as Replayed}
-use Rattle.replay_runner.proofs.Calm.{ends_calmly}
-use Rattle.lab_calls.specs.Answers.{IsEndText, Replays, TellsReplay, is_calm_end, is_end}
+use Rattle.replay_runner.specs.Leaving.{IsCalmEnd, IsCalmShelf, Showing, UsesShelf}
+use Rattle.replay_runner.proofs.Calm.{NeverDamaged, ends_calmly}
+use Rattle.lab_calls.specs.Answers.{IsEndText, Plays, TellsPlay, is_calm_end, is_end}
 use Rattle.lab_calls.specs.Streams.{Devices, IsCalm}
 
 -- ---- an input is no other scenario, but for the text under which it is kept
@@ -48,10 +47,17 @@ calm_text s (Err (run_fault.Store at)) text n calm t = absurd calm
 calm_text s (Err (run_fault.Damaged at second offset)) text n calm t = absurd calm
 calm_text s (Err run_fault.Other) text n calm t = absurd calm
 
-module _ {D : Type 0} (state : D → DiskState) (before after : ShelfState D) (same_tells : after.tells ≡ before.tells) (result : ℕ) (old new : Devices) (input : List ℕ) (told : old.source.left ≡ Some input) (s : Scenario) (is : IsScenario input s)
-    {IsDone : Scenario → List ℕ → Type 0} (said : TellsReplay (Replayed state before after) IsDone result old new) where
-  of_replay : (n : ℕ) → Replays (Replayed state before after) n input old new → IsCalmShelf state s before after → is_calm_end n ≡ true
-  of_replay n r calm = calm_text r.scenario r.is_replay.ended r.text n (ends_calmly state r.scenario before after r.is_replay.ended same_tells r.is_replay.has_ended (calm_of state before after r.scenario s (same_servers input r.scenario s r.is_scenario is) calm)) r.is_replay.is_text
+module _ {D : Type 0} (Shows : Scenario → Showing) (never : (s : Scenario) → NeverDamaged (Shows s)) (state : D → DiskState) (before after : ShelfState D) (same_tells : after.tells ≡ before.tells)
+    (result : ℕ) (old new : Devices) (input : List ℕ) (told : old.source.left ≡ Some input) (s : Scenario) (is : IsScenario input s)
+    {IsDone : Scenario → List ℕ → Type 0} (said : TellsPlay (λ v r. UsesShelf (Shows v) state before after v r) IsDone result old new) where
+  abbrev Played : ℕ → Type 0
+  Played n = Plays (λ v r. UsesShelf (Shows v) state before after v r) n input old new
+
+  of_play : (n : ℕ) → Played n → IsCalmShelf state s before after → is_calm_end n ≡ true
+  of_play n r calm =
+      let v = r.scenario in
+      calm_text v r.is_play.ended r.text n
+      (ends_calmly (Shows v) (never v) state v before after r.is_play.ended same_tells r.is_play.has_ended (calm_of state before after v s (same_servers input v s r.is_scenario is) calm)) r.is_play.is_text
 
   pub calm_status : IsCalm old new → IsCalmShelf state s before after → is_calm_end result ≡ true
   calm_status still calm = by (said.complete input s told is still)
@@ -65,15 +71,15 @@ module _ {D : Type 0} (state : D → DiskState) (before after : ShelfState D) (s
       at false true seven eight nine a b c d e known = refl
       at false false true eight nine a b c d e known =
           let seven : result ≡ 7 = grind (arith, nat_tests) in
-          absurd (let no : is_calm_end 7 ≡ true = of_replay 7 (subst (λ n. Replays (Replayed state before after) n input old new) seven (said.replayed (rw seven refl) input told)) calm in
+          absurd (let no : is_calm_end 7 ≡ true = of_play 7 (subst (λ n. Played n) seven (said.replayed (rw seven refl) input told)) calm in
           let never : false ≡ true = no in cc)
       at false false false true nine a b c d e known = refl
       at false false false false true a b c d e known =
           let nine : result ≡ 9 = grind (arith, nat_tests) in
-          absurd (let no : is_calm_end 9 ≡ true = of_replay 9 (subst (λ n. Replays (Replayed state before after) n input old new) nine (said.replayed (rw nine refl) input told)) calm in
+          absurd (let no : is_calm_end 9 ≡ true = of_play 9 (subst (λ n. Played n) nine (said.replayed (rw nine refl) input told)) calm in
           let never : false ≡ true = no in cc)
       at false false false false false a b c d e known = absurd (let no : false ≡ true = known in cc)
 
-      by : (is_end result ≡ true) ⊎ Replays (Replayed state before after) 3 input old new → is_calm_end result ≡ true
+      by : (is_end result ≡ true) ⊎ Played 3 → is_calm_end result ≡ true
       by (inl known) = at (nat_eq result 0) (nat_eq result 6) (nat_eq result 7) (nat_eq result 8) (nat_eq result 9) refl refl refl refl refl known
-      by (inr r) = three_never (of_replay 3 r calm)
+      by (inr r) = three_never (of_play 3 r calm)

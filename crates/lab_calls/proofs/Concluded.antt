@@ -56,17 +56,6 @@ all_read {input} {bytes} t short = by (nat_le (length input) (INPUT_BYTES + 1)) 
 pub longer : {input bytes : List ℕ} {left : Option (List ℕ)} → HasRead input bytes left → length bytes ≤ length input
 longer {input} {bytes} t = let size = ap length t.bytes_are in grind (arith, nat_tests, size, length-take (INPUT_BYTES + 1) input)
 
--- the answer to the bytes that were read is that to the input
-pub answers_of : (IsAnswer : List ℕ → List ℕ → ℕ → Type 0) (texts : List ℕ) → ((bytes text : List ℕ) (n : ℕ) → IsAnswer bytes text n → is_among texts n ≡ true)
-    → ((input bytes text : List ℕ) (left : Option (List ℕ)) (n : ℕ) → HasRead input bytes left → IsAnswer bytes text n → IsAnswer input text n)
-    → (bytes text : List ℕ) (status : ℕ) (old left : Option (List ℕ)) → Consumes old left bytes → length bytes ≤ INPUT_BYTES + 1
-    → (length bytes ≤ INPUT_BYTES → IsAtEnd left) → IsAnswer bytes text status → Answers IsAnswer texts old left text status
-answers_of IsAnswer texts known whole bytes text status old left taken most ends is = record {
-  is_known = known bytes text status is;
-  is_answer = λ input told. whole input bytes text left status (input_of input bytes old left taken most ends told) is;
-  read = λ input told. (input_of input bytes old left taken most ends told).left_are;
-}
-
 -- nothing is left of an input that isn't too long
 pub none_unread : (input : List ℕ) {left : Option (List ℕ)} → left ≡ Some (unread input) → length input ≤ INPUT_BYTES → left ≡ Some []
 none_unread input is short = is ∙ ap (λ r. Some r) (drop_all (INPUT_BYTES + 1) input (omega (arith, short)))
@@ -102,7 +91,7 @@ pub record AreTexts (texts : List ℕ) : Type 0 where
 
 -- ---- lists of statuses
 
-false_true : {P : Type 0} → false ≡ true → P
+pub false_true : {P : Type 0} → false ≡ true → P
 false_true e = absurd (let no : false ≡ true = e in cc)
 
 or_left : (a b : Bool) → a ≡ true → (a || b) ≡ true

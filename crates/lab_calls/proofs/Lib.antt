@@ -1,11 +1,13 @@
 mod Answered
 mod CalmStatus
 mod Concluded
+mod Counted
 mod Fed
 mod Flow
 mod FrameLaws
 mod FramesListed
 mod Headline
 mod Made
+mod Played
 mod Replayed
 mod Shelved

@@ -12,8 +12,8 @@ use Rattle.seata_types.specs.declared.ids.Place.{Place}
 use Rattle.node_seat.specs.declared.faults.RunFault.{RunFault}
 use Rattle.node_seat.specs.declared.faults.RunFault.TheVariants as run_fault
 use Rattle.scenario_nodes.specs.Shelves.{AllTell, pair_of}
-use Rattle.replay_runner.specs.Leaving.{AreAllBack, AreLeft, HaveSizes, disks_in}
-use Rattle.report_text.specs.Following.{Reports}
+use Rattle.replay_runner.specs.Leaving.{AreAllBack, AreAllLaid, AreLeft, HavePlaces, HaveSizes, disks_in}
+use Rattle.report_text.specs.Following.{AreCounted, Reports}
 use Rattle.history_rules.specs.Nodes.{Role, no_past, role_at}
 use Rattle.history_rules.specs.Histories.{Moment, own}
 use Rattle.history_law.specs.Safety.{IsSafeHistory}
@@ -53,7 +53,7 @@ pub record Answers (IsAnswer : List ℕ → List ℕ → ℕ → Type 0) (status
   pub is_answer : (input : List ℕ) → old ≡ Some input → IsAnswer input text status
   pub read : (input : List ℕ) → old ≡ Some input → new ≡ Some (unread input)
 
--- ---- replays
+-- ---- replays and runs
 
 -- the line of a fault of the input
 abbrev pub fault_text : ScenarioError → List ℕ
@@ -86,7 +86,7 @@ abbrev pub damaged_text : Names → Place → (second : Bool) → ℕ → List �
 damaged_text names at second offset =
     codes "damaged: " ++ (disk_text names at second ++ (codes " at " ++ decimal offset))
 
--- the line of why a replay ended early, and the status; want of memory has no line
+-- the line of why a replay or a run ended early, and the status; want of memory has no line
 abbrev pub end_text : Names → RunFault → List ℕ
 end_text names (run_fault.Store at) = store_text names at
 end_text names (run_fault.Full at full) = full_text names at full
@@ -101,20 +101,20 @@ status_of (run_fault.Damaged at second offset) = 9
 status_of run_fault.Other = 3
 status_of run_fault.NoMemory = 6
 
--- the text and the status of a replay that ended so: the report of its entries, or the line of its
--- fault
+-- the text and the status of a replay or a run that ended so: the report of its entries, which are
+-- few enough for one, or the line of its fault
 abbrev pub IsEndText : Scenario → Result (List Entry) RunFault → List ℕ → ℕ → Type 0
-IsEndText s (Ok es) text status = (status ≡ 0) × Reports s es text
+IsEndText s (Ok es) text status = (status ≡ 0) × AreCounted es × Reports s es text
 IsEndText s (Err missed) text status =
     (missed ≢ run_fault.NoMemory) × (status ≡ status_of missed)
     × (text ≡ line (end_text (names_of s) missed))
 
--- how the replay of a scenario may end
+-- how the replay, or the run, of a scenario may end
 abbrev pub Ending : Type 1
 Ending = Scenario → Result (List Entry) RunFault → Type 0
 
--- the text and the status of how the replay of a scenario ended
-pub record IsReplayOf (ends : Ending) (s : Scenario) (text : List ℕ) (status : ℕ) : Type 0 where
+-- the text and the status of how the replay or run of a scenario ended
+pub record IsPlayOf (ends : Ending) (s : Scenario) (text : List ℕ) (status : ℕ) : Type 0 where
   pub ended : Result (List Entry) RunFault
   pub has_ended : ends s ended
   pub is_text : IsEndText s ended text status
@@ -123,36 +123,39 @@ pub record IsReplayOf (ends : Ending) (s : Scenario) (text : List ℕ) (status :
 unfoldable pub IsFaultOf : List ℕ → List ℕ → Type 0
 IsFaultOf bytes text = (e : ScenarioError) × IsFault bytes e × (text ≡ line (fault_text e))
 
--- the text of an input with its status: it is refused, or replayed
+-- the text of an input with its status: it is refused, or replayed or run
 unfoldable pub IsAnswerTo : Ending → List ℕ → List ℕ → ℕ → Type 0
 IsAnswerTo ends bytes text status =
     ((status ≡ 3) × IsFaultOf bytes text)
-    ⊎ ((s : Scenario) × IsScenario bytes s × IsReplayOf ends s text status)
+    ⊎ ((s : Scenario) × IsScenario bytes s × IsPlayOf ends s text status)
 
--- the statuses of a replay that come with a text
+-- the statuses of a replay and of a run that come with a text
 abbrev pub replay_statuses : List ℕ
 replay_statuses = 0 ∷ 3 ∷ 7 ∷ 8 ∷ 9 ∷ []
 
--- where the shelf's disks tell their bytes: a safe history, which `IsHistory` says is the scenario's,
--- has this report, and the disks of each node that were given back, of the scenario's size, show it
+-- Where the shelf's disks tell their bytes: a safe history, which `IsHistory` says is the scenario's,
+-- has this report, and the disks of each node that were given back, of the scenario's size, show it.
+-- Each record of it had a place, and the journals end where its entries leave them.
 pub record Reported {D : Type 0} (IsHistory : Scenario → List Moment → Type 0)
     (state : D → DiskState) (s : Scenario) (disks : List (D × D)) (text : List ℕ) : Type 0 where
   pub history : List Moment
   pub is_run : IsHistory s history
   pub is_safe : IsSafeHistory (world_of s) no_past history
   pub is_report : text ≡ report s history
+  pub fits : HavePlaces s history
   pub device : (p : Place) (role : Role) → role_at (world_of s) no_past p ≡ Some role
       → AreLeft role (own p history) (disks_in (map (pair_of state) disks) p)
+  pub laid : AreAllLaid s history (map (pair_of state) disks)
   pub sized : HaveSizes s (map (pair_of state) disks)
 
--- what a replay tells: its input was read to its end and is a scenario; its disks were given back,
--- and the sink got the text of how it ended
-pub record Replays (ends : Ending) (status : ℕ) (input : List ℕ) (old new : Devices) : Type 0 where
+-- what a replay or a run tells: its input was read to its end and is a scenario; its disks were
+-- given back, and the sink got the text of how it ended
+pub record Plays (ends : Ending) (status : ℕ) (input : List ℕ) (old new : Devices) : Type 0 where
   pub read_to_end : new.source.left ≡ Some []
   pub scenario : Scenario
   pub is_scenario : IsScenario input scenario
   pub text : List ℕ
-  pub is_replay : IsReplayOf ends scenario text status
+  pub is_play : IsPlayOf ends scenario text status
   pub printed : Appends old.sink.written new.sink.written text
 
 -- at status 0 besides: the disks of all nodes were given back, and where they tell their bytes the
@@ -182,52 +185,52 @@ pub record CutsShort (ends : Ending) (IsDone : Scenario → List ℕ → Type 0)
   pub done : status ≡ 0 → (scenario : Scenario) × IsScenario input scenario × IsDone scenario text
   pub printed : GainsFront old.sink.written new.sink.written text
 
--- the statuses of a scenario: it was replayed, or memory was refused
+-- the statuses of a scenario: it was replayed or run, or memory was refused
 abbrev pub is_end : ℕ → Bool
 is_end status = is_among (0 ∷ 6 ∷ 7 ∷ 8 ∷ 9 ∷ []) status
 
--- those where nothing failed: a replay that is done, a record that doesn't fit, or want of memory
+-- those where nothing failed: it is done, a record doesn't fit, or memory was refused
 abbrev pub is_calm_end : ℕ → Bool
 is_calm_end status = is_among (0 ∷ 6 ∷ 8 ∷ []) status
 
--- what the status of a replay says of the input, where that is told
-pub record TellsReplay (ends : Ending) (IsDone : Scenario → List ℕ → Type 0) (status : ℕ)
+-- what the status of a replay or a run says of the input, where that is told
+pub record TellsPlay (ends : Ending) (IsDone : Scenario → List ℕ → Type 0) (status : ℕ)
     (old new : Devices) : Type 0 where
   pub replayed : is_among (0 ∷ 7 ∷ 8 ∷ 9 ∷ []) status ≡ true → (input : List ℕ)
-      → old.source.left ≡ Some input → Replays ends status input old new
+      → old.source.left ≡ Some input → Plays ends status input old new
   pub refused : status ≡ 3 → (input : List ℕ) → old.source.left ≡ Some input
-      → Refuses input old new ⊎ Replays ends 3 input old new
+      → Refuses input old new ⊎ Plays ends 3 input old new
   pub cut_short : status ≡ 5 → (input : List ℕ) → old.source.left ≡ Some input
       → CutsShort ends IsDone input old new
   pub complete : (input : List ℕ) (scenario : Scenario) → old.source.left ≡ Some input
       → IsScenario input scenario → IsCalm old new
-      → (is_end status ≡ true) ⊎ Replays ends 3 input old new
+      → (is_end status ≡ true) ⊎ Plays ends 3 input old new
 
--- ---- the shelf of a replay
+-- ---- the shelf of a replay or a run
 
--- the status of a replay that ended so
+-- the status of a replay or a run that ended so
 abbrev pub ended_status : Result (List Entry) RunFault → ℕ
 ended_status (Ok es) = 0
 ended_status (Err missed) = status_of missed
 
--- The status of a call whose replay ended so: that of the ending; 6, where memory was refused for
--- its text; or 5, where the sink failed at the text, which want of memory doesn't have.
+-- The status of a call whose replay or run ended so: that of the ending; 6, where memory was refused
+-- for its text; or 5, where the sink failed at the text, which want of memory doesn't have.
 abbrev pub IsStatusAfter : Result (List Entry) RunFault → ℕ → Type 0
 IsStatusAfter ended status =
     (status ≡ ended_status ended)
     ⊎ ((status ≡ 6) ⊎ ((status ≡ 5) × (ended ≢ Err run_fault.NoMemory)))
 
--- No replay ran, and the shelf is as it was: the source failed, memory was refused, or the input is
--- no scenario, whose line was written at 3 and cut short at 5.
+-- Nothing was replayed or run, and the shelf is as it was: the source failed, memory was refused, or
+-- the input is no scenario, whose line was written at 3 and cut short at 5.
 pub record IsUntouched (same : Type 0) (status : ℕ) (old : Option (List ℕ)) : Type 0 where
   pub is_same : same
   pub statuses : is_among (3 ∷ 4 ∷ 5 ∷ 6 ∷ []) status ≡ true
   pub no_scenario : is_among (3 ∷ 5 ∷ []) status ≡ true → (input : List ℕ) (s : Scenario)
       → old ≡ Some input → IsScenario input s → ⊥
 
--- The input was read to its end and is a scenario, where that is told. The replay of this scenario
--- left the shelf, and its ending fits the status.
-pub record IsLeftByReplay (ends : Ending) (status : ℕ) (old new : Option (List ℕ)) : Type 0 where
+-- The input was read to its end and is a scenario, where that is told. The replay or run of this
+-- scenario left the shelf, and its ending fits the status.
+pub record IsLeftByPlay (ends : Ending) (status : ℕ) (old new : Option (List ℕ)) : Type 0 where
   pub scenario : Scenario
   pub is_scenario : (input : List ℕ) → old ≡ Some input → IsScenario input scenario
   pub read_to_end : (input : List ℕ) → old ≡ Some input → new ≡ Some []
@@ -235,11 +238,11 @@ pub record IsLeftByReplay (ends : Ending) (status : ℕ) (old new : Option (List
   pub has_ended : ends scenario ended
   pub is_status : IsStatusAfter ended status
 
--- what the status of a replay says of the shelf
+-- what the status of a replay or a run says of the shelf
 abbrev pub TellsShelf : Ending → (same : Type 0) → (status : ℕ) → (old new : Option (List ℕ))
     → Type 0
 TellsShelf ends same status old new =
-    IsUntouched same status old ⊎ IsLeftByReplay ends status old new
+    IsUntouched same status old ⊎ IsLeftByPlay ends status old new
 
 -- ---- frames
 

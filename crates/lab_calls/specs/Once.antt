@@ -8,10 +8,11 @@ use Rattle.history_text.specs.History.{IsRun}
 use Rattle.scenario_nodes.specs.Shelves.{ReturnsAll}
 use Rattle.replay_runner.specs.Leaving.{IsCalmShelf}
 use Rattle.replay_runner.specs.Leaving.{Replays as Replayed}
-use Rattle.lab_calls.specs.Answers.{Done, Ending, Replays, TellsFaults, TellsFrames, TellsReplay, TellsShelf, frames_statuses, is_calm_end, replay_statuses, with_failures}
+use Rattle.thread_runner.specs.Running.{IsRunOf, Runs}
+use Rattle.lab_calls.specs.Answers.{Done, Ending, Plays, TellsFaults, TellsFrames, TellsPlay, TellsShelf, frames_statuses, is_calm_end, replay_statuses, with_failures}
 use Rattle.lab_calls.specs.Streams.{Devices, IsCalm}
 
--- A call played the scenario of a source once, by what its shelf, and its source and sink, showed
+-- A call replayed or ran the scenario of a source once, by what its shelf, and its source and sink, showed
 -- before and show now; `ends` says how that may end, and `same` that the shelf is as it was.
 -- `tells` is what the status says of the input and of what was written; at 0 besides, all that
 -- `IsDone` says. `shelf` is what the status says of the shelf. Where nothing fails, `calm`, a
@@ -20,9 +21,9 @@ use Rattle.lab_calls.specs.Streams.{Devices, IsCalm}
 pub record PlaysOnce {D : Type 0} (ends : Ending) (IsDone : Scenario → List ℕ → Type 0)
     (state : D → DiskState) (had has : ShelfState D) (same : Type 0) (status : ℕ)
     (old new : Devices) : Type 0 where
-  pub tells : TellsReplay ends IsDone status old new
+  pub tells : TellsPlay ends IsDone status old new
   pub done : status ≡ 0 → (input : List ℕ) → old.source.left ≡ Some input
-      → (r : Replays ends 0 input old new) × IsDone r.scenario r.text
+      → (r : Plays ends 0 input old new) × IsDone r.scenario r.text
   pub shelf : TellsShelf ends same status old.source.left new.source.left
   pub calm : IsCalm old new → (input : List ℕ) (s : Scenario) → old.source.left ≡ Some input
       → IsScenario input s → IsCalmShelf state s had has → is_calm_end status ≡ true
@@ -36,6 +37,13 @@ abbrev pub ReplaysOnce : {D : Type 0} → (D → DiskState) → (had has : Shelf
     → (status : ℕ) → (old new : Devices) → Type 0
 ReplaysOnce state had has same status old new =
     PlaysOnce (Replayed state had has) (Done IsRun state has) state had has same status old new
+
+-- it was run; at 0 the disks of all nodes were given back, and the text is the report of a safe
+-- history that the nodes made by themselves, to its end
+abbrev pub RunsOnce : {D : Type 0} → (D → DiskState) → (had has : ShelfState D) → (same : Type 0)
+    → (status : ℕ) → (old new : Devices) → Type 0
+RunsOnce state had has same status old new =
+    PlaysOnce (Runs state had has) (Done IsRunOf state has) state had has same status old new
 
 -- a call listed the frames of a source once
 pub record ListsOnce (status : ℕ) (old new : Devices) : Type 0 where

@@ -1,18 +1,17 @@
 //! What the program writes for an input.
-ghost use Rattle.std.specs.Prelude.{◌≡◌, ◌≢◌, ◌++◌, ℕ, List as Items, Err, true, false, codes, IfOk, OnOk, string_bytes};
+ghost use Rattle.std.specs.Prelude.{◌≡◌, ◌≢◌, ◌++◌, Ok, Err, true, false, codes, IfOk, IfErr, OnOk, string_bytes};
 ghost use Rattle.std.specs.Fmt.{decimal};
 ghost use Rattle.history_text.specs.Report.{line};
-ghost use Rattle.scenario_reader.specs.Reading.{IsScenario};
 ghost use Rattle.scenario_form.specs.Runnable.{IsRunnable};
 ghost use Rattle.lab_calls.specs.Answers.{IsEndText, damaged_text, disk_text, end_text, fault_text, full_text, status_of, store_text};
-ghost use Rattle.lab_calls.specs.Steps.{ReplaysBytes};
+ghost use Rattle.lab_calls.specs.Steps.{TellsEnd};
+ghost use Rattle.report_text.specs.Following.{AreCounted};
 
 use crate::statuses::{DAMAGED, DONE, FULL, INPUT, MEMORY, STORE};
-use disk_model::Shelf;
 use history_text::{Entry, Names, put_place};
-use replay_runner::{RunFault, replay};
+use node_seat::RunFault;
 use report_text::{node_names, write_report};
-use scenario_reader::{Scenario, ScenarioError, read};
+use scenario_reader::{Scenario, ScenarioError};
 use seata_types::{Full, List, NoMemory, Place, Text};
 use std::alloc::{AllocError, Global};
 
@@ -65,28 +64,23 @@ fn fault_line(alloc: Global, error: &ScenarioError) -> Result<String, AllocError
     Ok(out)
 }
 
-/// The answer to an input that isn't replayed.
-fn refusal(text: String) -> Answer
-    ensures text { result.text ≡ text }
-    ensures status { result.status ≡ 3 }
-{
-    Answer {
-        text,
-        status: INPUT,
-    }
-}
-
-/// The answer to an input that is no scenario.
-fn refused(alloc: Global, error: &ScenarioError) -> Result<Answer, NoMemory>
+/// The answer to an input that is no scenario, or the status of want of memory.
+pub fn refused(alloc: Global, error: &ScenarioError) -> Result<Answer, u8>
     ensures fault { IfOk result (λ answer. error.now ≢ ScenarioError.NoMemory) }
     ensures text { IfOk result (λ answer. string_bytes answer.text ≡ line (fault_text error.now)) }
     ensures status { IfOk result (λ answer. answer.status ≡ 3) }
+    ensures memory { IfErr result (λ status. status ≡ 6) }
 {
     if is_memory(error) {
-        return Err(NoMemory);
+        return Err(MEMORY);
     }
-    let text = fault_line(alloc, error)?;
-    Ok(refusal(text))
+    match fault_line(alloc, error) {
+        Ok(text) => Ok(Answer {
+            text,
+            status: INPUT,
+        }),
+        Err(AllocError) => Err(MEMORY),
+    }
 }
 
 /// Whether memory was refused.
@@ -145,7 +139,7 @@ fn put_damaged(
     write!(out, " at {at}")
 }
 
-/// The line of why a replay ended early; none for want of memory.
+/// The line of why a replay or a run ended early; none for want of memory.
 fn put_end(out: &mut String, fault: RunFault, names: &Names) -> Result<(), AllocError>
     ensures { OnOk result
         (string_bytes out.new ≡ string_bytes out.old ++ end_text names.now fault) }
@@ -169,7 +163,7 @@ fn end_line(alloc: Global, fault: RunFault, names: &Names) -> Result<String, All
     Ok(out)
 }
 
-/// The status of why a replay ended early.
+/// The status of why a replay or a run ended early.
 fn end_status(fault: RunFault) -> u8
     ensures { result ≡ status_of fault }
 {
@@ -182,8 +176,8 @@ fn end_status(fault: RunFault) -> u8
     }
 }
 
-/// The answer to a replay that ended early.
-pub fn ended(alloc: Global, scenario: &Scenario, fault: RunFault) -> Result<Answer, NoMemory>
+/// The answer to a replay or a run that ended early.
+fn ended(alloc: Global, scenario: &Scenario, fault: RunFault) -> Result<Answer, NoMemory>
     requires { fault ≢ RunFault.NoMemory }
     ensures { IfOk result (λ answer.
         IsEndText scenario.now (Err fault) (string_bytes answer.text) answer.status) }
@@ -204,21 +198,38 @@ fn is_out_of_memory(fault: RunFault) -> bool
     matches!(fault, RunFault::NoMemory)
 }
 
-/// The answer to a scenario that was replayed.
-fn told(
+/// Whether the entries are so few that a report counts them, which does so in 32 bits for each node.
+fn are_counted(history: &[Entry]) -> bool
+    ensures { result ≡ true → AreCounted history.now }
+{
+    history.len() < u32::MAX as usize
+}
+
+/// The report of a history. A run may make more entries than a report counts; there, memory is refused.
+fn report_of(alloc: Global, scenario: &Scenario, history: &[Entry]) -> Result<Answer, NoMemory>
+    requires { IsRunnable scenario.now }
+    ensures { IfOk result (λ answer.
+        IsEndText scenario.now (Ok history.now) (string_bytes answer.text) answer.status) }
+{
+    if !are_counted(history) {
+        return Err(NoMemory);
+    }
+    let text = write_report(alloc, scenario, history)?;
+    Ok(Answer { text, status: DONE })
+}
+
+/// The answer to a scenario that was replayed or run, once that ended so.
+fn end_answer(
     alloc: Global,
     scenario: &Scenario,
-    replayed: Result<List<Entry>, RunFault>,
+    end: Result<List<Entry>, RunFault>,
 ) -> Result<Answer, NoMemory>
-    requires runnable { IsRunnable scenario.now }
+    requires { IsRunnable scenario.now }
     ensures { IfOk result (λ answer.
-        IsEndText scenario.now replayed (string_bytes answer.text) answer.status) }
+        IsEndText scenario.now end (string_bytes answer.text) answer.status) }
 {
-    match replayed {
-        Ok(history) => {
-            let text = write_report(alloc, scenario, history.as_slice())?;
-            Ok(Answer { text, status: DONE })
-        }
+    match end {
+        Ok(history) => report_of(alloc, scenario, history.as_slice()),
         Err(fault) => {
             if is_out_of_memory(fault) {
                 return Err(NoMemory);
@@ -228,27 +239,17 @@ fn told(
     }
 }
 
-/// The answer to an input that is a scenario.
-fn answer_of<H: Shelf>(
+/// The same, or the status of want of memory.
+pub fn told(
     alloc: Global,
     scenario: &Scenario,
-    shelf: &mut H,
-) -> Result<Answer, NoMemory>
+    end: Result<List<Entry>, RunFault>,
+) -> Result<Answer, u8>
     requires { IsRunnable scenario.now }
-    ensures { (bytes : Items ℕ) → IsScenario bytes scenario.now → ReplaysBytes H.D.state
-        (H.state shelf.old) (H.state shelf.new) (shelf.new ≡ shelf.old) bytes result }
+    ensures { TellsEnd scenario.now end result }
 {
-    let replayed = replay(alloc, scenario, shelf);
-    told(alloc, scenario, replayed)
-}
-
-/// The text of an input, with its status.
-pub fn answer_to<H: Shelf>(alloc: Global, bytes: &[u8], shelf: &mut H) -> Result<Answer, NoMemory>
-    ensures { ReplaysBytes H.D.state
-        (H.state shelf.old) (H.state shelf.new) (shelf.new ≡ shelf.old) bytes.now result }
-{
-    match read(alloc, bytes) {
-        Ok(scenario) => answer_of(alloc, &scenario, shelf),
-        Err(error) => refused(alloc, &error),
+    match end_answer(alloc, scenario, end) {
+        Ok(answer) => Ok(answer),
+        Err(NoMemory) => Err(MEMORY),
     }
 }

@@ -1,5 +1,5 @@
-//! The calls of the program `seata_lab`, over any source, sink and shelf: one replay, one listing of frames, one made scenario,
-//! and what its words ask for.
+//! The calls of the program `seata_lab`, over any source, sink and shelf: one replay, one run on threads, one listing of frames,
+//! one made scenario, and what its words ask for.
 #![tactic(auto)]
 
 mod answers;
@@ -22,4 +22,5 @@ pub use standard::{StdSink, StdSource};
 pub use statuses::MEMORY;
 pub use streams::{Failed, Sink, Source};
 pub use tasks::Task;
-pub use tops::{frames_once, make_once, replay_once, top};
+pub use thread_runner::{Gate, OpenGate};
+pub use tops::{frames_once, make_once, replay_once, run_once, top};

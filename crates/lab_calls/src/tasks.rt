@@ -5,6 +5,8 @@
 pub enum Task {
     /// A replay that keeps nothing.
     Replay,
+    /// A run on so many threads that keeps nothing.
+    Run { workers: u32 },
     Frames,
     Make { number: u64, size: u32 },
     /// The usage line, for words outside the grammar, and for those whose task isn't built.

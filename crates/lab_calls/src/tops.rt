@@ -1,14 +1,16 @@
-//! The calls at the top: one replay, one listing, one made scenario, and the program's words.
-ghost use Rattle.std.specs.Prelude.{◌≡◌, ◌≢◌, ◌≤◌, ◌⊎◌, ℕ, ◌∷◌};
+//! The calls at the top: one replay, one run, one listing, one made scenario, and the program's words.
+ghost use Rattle.std.specs.Prelude.{◌≡◌, ◌≤◌, ◌⊎◌, ℕ, ◌∷◌, false};
 ghost use Rattle.scenario_nodes.specs.Shelves.{ReturnsAll};
+ghost use Rattle.replay_runner.specs.Leaving.{Replays};
+ghost use Rattle.thread_runner.specs.Running.{Runs};
 ghost use Rattle.lab_calls.specs.Answers.{IsFramesAnswer, TellsFaults, TellsUsage, frames_statuses, replay_statuses, with_failures};
 ghost use Rattle.lab_calls.specs.Making.{MakesOnce};
-ghost use Rattle.lab_calls.specs.Once.{ListsOnce, ReplaysOnce};
-ghost use Rattle.lab_calls.specs.Steps.{AnswersInput, ReplaysInput, WritesAnswer, WritesText};
+ghost use Rattle.lab_calls.specs.Once.{ListsOnce, ReplaysOnce, RunsOnce};
+ghost use Rattle.lab_calls.specs.Steps.{AnswersInput, PlaysInput, ReadsScenario, WritesAnswer, WritesText};
 ghost use Rattle.lab_calls.specs.Streams.{devices};
-ghost use Rattle.lab_calls.specs.Tasks.{task_of};
+ghost use Rattle.lab_calls.specs.Tasks.{reads_source, task_of, uses_shelf};
 
-use crate::answers::{Answer, answer_to};
+use crate::answers::{Answer, refused, told};
 use crate::frames::list_frames;
 use crate::making::answer_made;
 use crate::statuses::{MEMORY, SINK, SOURCE, WORDS};
@@ -17,8 +19,13 @@ use crate::tasks::Task;
 use crate::transfer::{ReadFault, read_all, write_all};
 use crate::words::task_of;
 use disk_model::Shelf;
-use seata_types::{NoMemory, Text};
+use replay_runner::replay;
+use scenario_reader::{Scenario, read};
+use seata_types::Text;
 use std::alloc::Global;
+use std::sync::Wait;
+use std::thread::Threads;
+use thread_runner::{Gate, run};
 
 /// Writes a text, and gives the status once it was written.
 fn finish<K: Sink>(sink: &mut K, text: &str, status: u8) -> u8
@@ -41,22 +48,57 @@ fn fault_status(fault: ReadFault) -> u8
     }
 }
 
-/// Reads an input and replays it: the text with its status, or the status of what kept it from being answered.
+/// Reads the scenario of a source. Where there is none: the text that says so with its status, or the status of what kept the
+/// input from being read.
+fn read_scenario<S: Source>(alloc: Global, source: &mut S) -> Result<Scenario, Result<Answer, u8>>
+    ensures { ReadsScenario (S.state source.old) (S.state source.new) result }
+{
+    let bytes = match read_all(alloc, source) {
+        Ok(bytes) => bytes,
+        Err(fault) => return Err(Err(fault_status(fault))),
+    };
+    match read(alloc, bytes.as_slice()) {
+        Ok(scenario) => Ok(scenario),
+        Err(error) => Err(refused(alloc, &error)),
+    }
+}
+
+/// Reads a scenario and replays it: the text with its status, or the status of what kept it from being told.
 fn replay_input<S: Source, H: Shelf>(
     alloc: Global,
     source: &mut S,
     shelf: &mut H,
 ) -> Result<Answer, u8>
-    ensures { ReplaysInput H.D.state (H.state shelf.old) (H.state shelf.new)
-        (shelf.new ≡ shelf.old) (S.state source.old) (S.state source.new) result }
+    ensures { PlaysInput (Replays H.D.state (H.state shelf.old) (H.state shelf.new))
+        (H.state shelf.old) (H.state shelf.new) (shelf.new ≡ shelf.old)
+        (S.state source.old) (S.state source.new) result }
 {
-    let bytes = match read_all(alloc, source) {
-        Ok(bytes) => bytes,
-        Err(fault) => return Err(fault_status(fault)),
-    };
-    match answer_to(alloc, bytes.as_slice(), shelf) {
-        Ok(answer) => Ok(answer),
-        Err(NoMemory) => Err(MEMORY),
+    match read_scenario(alloc, source) {
+        Ok(scenario) => told(alloc, &scenario, replay(alloc, &scenario, shelf)),
+        Err(answer) => answer,
+    }
+}
+
+/// Reads a scenario and runs it, likewise.
+fn run_input<S: Source, H: Shelf, G: Gate, R: Threads + Wait + Sync>(
+    rt: &R,
+    alloc: Global,
+    workers: u32,
+    source: &mut S,
+    shelf: &mut H,
+    gate: &G,
+) -> Result<Answer, u8>
+    requires workers { (1 ≤ workers) × (workers ≤ 16) }
+    ensures { PlaysInput (Runs H.D.state (H.state shelf.old) (H.state shelf.new))
+        (H.state shelf.old) (H.state shelf.new) (shelf.new ≡ shelf.old)
+        (S.state source.old) (S.state source.new) result }
+{
+    match read_scenario(alloc, source) {
+        Ok(scenario) => {
+            let end = run(rt, alloc, &scenario, workers, shelf, gate);
+            told(alloc, &scenario, end)
+        }
+        Err(answer) => answer,
     }
 }
 
@@ -103,6 +145,28 @@ pub fn replay_once<S: Source, K: Sink, H: Shelf>(
     write_answer(sink, replay_input(alloc, source, shelf))
 }
 
+/// Runs the scenario of a source once, by its nodes alone on so many worker threads, and writes the report of its history. It
+/// ignores the schedule and the local transactions of the scenario. Its statuses are those of `replay_once`, and so is what
+/// they say of the input, of what was written and of the disks; at 6 the history may also have had more entries than a report
+/// counts. It may wait, and where messages are lost for good it may never return.
+pub fn run_once<S: Source, K: Sink, H: Shelf, G: Gate, R: Threads + Wait + Sync>(
+    rt: &R,
+    alloc: Global,
+    workers: u32,
+    source: &mut S,
+    sink: &mut K,
+    shelf: &mut H,
+    gate: &G,
+) -> u8
+    requires workers { (1 ≤ workers) × (workers ≤ 16) }
+    ensures { RunsOnce H.D.state (H.state shelf.old) (H.state shelf.new)
+        (shelf.new ≡ shelf.old) result
+        (devices (S.state source.old) (K.state sink.old))
+        (devices (S.state source.new) (K.state sink.new)) }
+{
+    write_answer(sink, run_input(rt, alloc, workers, source, shelf, gate))
+}
+
 /// Reads frames, one behind the other, and writes a line for each, up to the first bad one, whose line is the last. The
 /// status is 0 where that is done, a bad frame or not, 3 where the input has more bytes than `INPUT_BYTES`, 4 where the
 /// source failed, 5 where the sink did, and 6 where memory was refused.
@@ -127,21 +191,23 @@ pub fn make_once<K: Sink>(alloc: Global, number: u64, size: u32, sink: &mut K) -
 /// The usage line.
 const USAGE: &str = "usage: seata_lab replay | run | make | stress | frames | audit | show\n";
 
-/// Does what the words ask for: `replay` replays the scenario of the source and writes the report, `frames` writes a line for
-/// each frame of the source, and `make` writes the scenario that is made of its number, for as many managers as its size.
-/// Words outside the grammar are answered with the usage line and status 2. So are those of the grammar whose task isn't built:
-/// `run`, `stress`, `audit`, `show`, and `replay` with `--store`. What `replay_once` says of the disks that were taken holds
-/// whatever the words and the status.
-pub fn top<S: Source, K: Sink, H: Shelf>(
+/// Does what the words ask for: `replay` replays the scenario of the source and writes the report, `run` runs it on as many
+/// worker threads as its option says and writes the report, `frames` writes a line for each frame of the source, and `make`
+/// writes the scenario that is made of its number, for as many managers as its size. Words outside the grammar are answered
+/// with the usage line and status 2. So are those of the grammar whose task isn't built: `stress`, `audit`, `show`, and
+/// `replay` and `run` with `--store`. What `replay_once` says of the disks that were taken holds whatever the words and the
+/// status. Only a run may wait.
+pub fn top<S: Source, K: Sink, H: Shelf, G: Gate, R: Threads + Wait + Sync>(
+    rt: &R,
     alloc: Global,
     words: &[Text],
     source: &mut S,
     sink: &mut K,
     shelf: &mut H,
+    gate: &G,
 ) -> u8
     ensures words { result ≡ 2 → task_of words.now ≡ Task.Usage }
-    ensures unread { task_of words.now ≢ Task.Replay → task_of words.now ≢ Task.Frames
-        → source.new ≡ source.old }
+    ensures unread { reads_source (task_of words.now) ≡ false → source.new ≡ source.old }
     ensures usage { task_of words.now ≡ Task.Usage → TellsUsage result
         (devices (S.state source.old) (K.state sink.old))
         (devices (S.state source.new) (K.state sink.new)) }
@@ -149,8 +215,12 @@ pub fn top<S: Source, K: Sink, H: Shelf>(
         (H.state shelf.old) (H.state shelf.new) (shelf.new ≡ shelf.old) result
         (devices (S.state source.old) (K.state sink.old))
         (devices (S.state source.new) (K.state sink.new)) }
+    ensures run { (workers : ℕ) → task_of words.now ≡ Task.Run workers → RunsOnce H.D.state
+        (H.state shelf.old) (H.state shelf.new) (shelf.new ≡ shelf.old) result
+        (devices (S.state source.old) (K.state sink.old))
+        (devices (S.state source.new) (K.state sink.new)) }
     ensures returned { ReturnsAll (H.state shelf.old) (H.state shelf.new) }
-    ensures untouched { task_of words.now ≢ Task.Replay → shelf.new ≡ shelf.old }
+    ensures untouched { uses_shelf (task_of words.now) ≡ false → shelf.new ≡ shelf.old }
     ensures frames { task_of words.now ≡ Task.Frames → ListsOnce result
         (devices (S.state source.old) (K.state sink.old))
         (devices (S.state source.new) (K.state sink.new)) }
@@ -162,6 +232,7 @@ pub fn top<S: Source, K: Sink, H: Shelf>(
 {
     match task_of(words) {
         Task::Replay => replay_once(alloc, source, sink, shelf),
+        Task::Run { workers } => run_once(rt, alloc, workers, source, sink, shelf, gate),
         Task::Frames => frames_once(alloc, source, sink),
         Task::Make { number, size } => make_once(alloc, number, size, sink),
         Task::Usage => finish(sink, USAGE, WORDS),

@@ -88,7 +88,7 @@ impl LocalTxns {
         let Ok(txn) = opening::at_call(alloc, ticket, xid, call, manager, stmts, effect) else {
             return Err(ExecError::NoMemory);
         };
-        match self.admit(alloc, txn) {
+        match self.open(alloc, txn) {
             Ok(ticket) => Ok(ticket),
             Err(NoMemory) => Err(ExecError::NoMemory),
         }
@@ -108,7 +108,7 @@ impl LocalTxns {
     {
         let ticket = self.next();
         let txn = opening::tcc_call(alloc, ticket, xid, call, manager, action)?;
-        self.admit(alloc, txn)
+        self.open(alloc, txn)
     }
 
     /// The open ticket of a call of a transaction, or of a guarded local transaction, with transaction 0 and its number;
@@ -193,8 +193,8 @@ impl LocalTxns {
         order::count_conflict(&mut self.txns, ticket)
     }
 
-    // Opens a ticket whose rows are free, and makes it the one that was sent last. Without memory all is as before.
-    fn admit(&mut self, alloc: Global, txn: OpenTxn) -> Result<Ticket, NoMemory>
+    /// Opens a ticket whose rows are free, and makes it the one that was sent last. Without memory all is as before.
+    pub fn open(&mut self, alloc: Global, txn: OpenTxn) -> Result<Ticket, NoMemory>
         requires ticket { txn.ticket ≡ new_ticket self.old }
         requires tickets { self.old.opened < 2 ^ 32 - 1 }
         requires free { (q : Key) → has_row q (open_of txn) ≡ true → ticket_with self.old.opens q ≡ None }
@@ -211,8 +211,8 @@ impl LocalTxns {
         Ok(ticket)
     }
 
-    // The ticket that is opened next.
-    fn next(&self) -> Ticket
+    /// The ticket that is opened next; takes no memory.
+    pub fn next(&self) -> Ticket
         requires { self.now.opened < 2 ^ 32 - 1 }
         ensures { result ≡ new_ticket self.now }
     {

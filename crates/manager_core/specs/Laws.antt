@@ -2,6 +2,7 @@
 use Rattle.std.proofs.Common.{sym, ap, subst}
 use Rattle.std.proofs.lemmas.Bool.{false≢true}
 use Rattle.node_steps.specs.Durable.{AreNodeDisks}
+use Rattle.node_steps.specs.Ends.{AreLaid}
 use Rattle.node_steps.specs.Nodes.{IsLawful, place_of, has_disks}
 use Rattle.node_steps.specs.Promises.{no_disks}
 use Rattle.manager_core.specs.declared.nodes.Manager.{Manager}
@@ -21,6 +22,13 @@ lawful m = record {
     crashed = λ down. absurd (false≢true down);
     restarted = λ stops. absurd (false≢true stops);
   };
+  lies = λ start size. record {
+    given = λ down input now role owns lies. tt;
+    stopped = λ down calls now role owns lies. tt;
+    crashed = λ down now role owns lies. tt;
+    restarted = λ stops up pick calls now role owns lies. tt;
+  };
   falls = λ down. down;
   device = λ role owns s. subst (λ r. AreNodeDisks r owns no_disks) (sym s.0) tt;
+  laid = λ role start size owns s lies. subst (λ r. AreLaid r start size owns no_disks) (sym s.0) tt;
 }

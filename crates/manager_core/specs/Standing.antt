@@ -36,13 +36,13 @@ StandsAs m role owns = (role ≡ ManagerRole (settings m)) × StandsFor m owns
 abbrev pub node_state : Manager → NodeState
 node_state m = record {
   stands_for = StandsAs m;
+  lies = λ role start size owns. Unit {0};
   place = place.Man (settings m).number;
   serves = λ given. Unit {0};
   left = steps_of m;
   stops = false;
   down = false;
   disks = no_disks;
-  size = 0;
 }
 
 -- the end of its transaction was answered, or it sent all that it may

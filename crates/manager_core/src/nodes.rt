@@ -68,7 +68,7 @@ impl Node for Manager {
     ghost use Rattle.std.specs.Prelude.{◌≡◌, ◌+◌, ◌<◌, ◌^◌, false, IfOk, IfErr};
     ghost use Rattle.node_steps.specs.Durable.{SamePicks};
     ghost use Rattle.node_steps.specs.Framing.{ComesFramable, SendsFramable};
-    ghost use Rattle.node_steps.specs.Promises.{no_disks, TakesStep, AfterError, HadPlace, StaysItself, goes_down};
+    ghost use Rattle.node_steps.specs.Promises.{no_disks, TakesStep, AfterError, StaysItself, goes_down};
     ghost use Rattle.node_steps.specs.Promises.{steps_of as steps_taken};
     ghost use Rattle.manager_core.specs.Standing.{Takes, node_state, settings, steps_of};
     ghost use Rattle.manager_core.specs.Laws as laws;
@@ -87,7 +87,6 @@ impl Node for Manager {
         ensures framable { ComesFramable input → IfOk result SendsFramable }
         ensures after { IfErr result
             (AfterError (node_state self.old) (node_state self.new) input _now) }
-        ensures room { HadPlace (node_state self.old) input _now result }
         ensures same { StaysItself (node_state self.old) (node_state self.new) }
         ensures picks { SamePicks no_disks no_disks }
         ensures counted { steps_of self.new + steps_taken result ≡ steps_of self.old }

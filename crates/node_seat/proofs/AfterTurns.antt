@@ -18,14 +18,14 @@ use Rattle.trace_rules.specs.Links.{Went, heard_from, received, sent_to}
 use Rattle.trace_rules.specs.Stops.{HasBegun, IsByStops, calls_of, is_restart, is_stop, pick_of, restart_of, restarts, turns}
 use Rattle.trace_rules.proofs.LinkOrder.{went-within}
 use Rattle.trace_rules.proofs.Order.{same_place-false, same_place-refl}
-use Rattle.node_steps.specs.Nodes.{IsLawful, NodeState, has_disks, place_of}
+use Rattle.node_steps.specs.Nodes.{IsLawful, NodeState, place_of}
 use Rattle.node_steps.specs.Promises.{AreTold}
 use Rattle.history_text.specs.declared.entries.Cause.{Cause}
 use Rattle.history_text.specs.declared.entries.Cause.TheVariants as cause
 use Rattle.history_text.specs.History.{cause_of}
 use Rattle.node_seat.specs.Ends.{ComeApart, EachBecomes, NoneFrom, NoneTook, TookAt, TookIf}
 use Rattle.node_seat.specs.Entering.{event_by}
-use Rattle.node_seat.specs.Keeping.{Keeps}
+use Rattle.node_seat.specs.Keeping.{Keeps, have_disks}
 use Rattle.node_seat.specs.Naming.{Run}
 use Rattle.node_seat.specs.Running.{CanGoOn, Came, HasCounted, may_hear, HeardAll, IsCauseOf, IsRunning, IsSeat, KeepsRun, KeepsSome, LAST, MayLose, PushedAll, TookLast}
 use Rattle.node_seat.specs.Seating.{Seated}
@@ -37,7 +37,7 @@ use Rattle.node_seat.specs.declared.turned.Turned.TheVariants as turned
 use Rattle.node_seat.proofs.Changed.{below_length, none_yet, stands_below}
 use Rattle.node_seat.proofs.Entries.{Comes, IsStop, keeps_after}
 use Rattle.node_seat.proofs.Going.{can_deliver, can_rest, can_restart, counting, error_of, running_entry, stamp_after-ends, stamp_after-le, with_entry, with_fault}
-use Rattle.node_seat.proofs.Kept.{has_begun, reason_of, told_back, told_for}
+use Rattle.node_seat.proofs.Kept.{has_begun, reason_of, stops_there, told_back, told_for}
 
 -- ---- ends that were asked
 
@@ -103,6 +103,8 @@ asked_running node past run old takers next is lines within = record {
     from_here = is.of_run.from_here;
     told = is.of_run.told;
     sized = is.of_run.sized;
+    managers = is.of_run.managers;
+    resources = is.of_run.resources;
   };
   counted = is.counted;
 }
@@ -113,7 +115,7 @@ asked_running node past run old takers next is lines within = record {
 abbrev pub Brought : Reason → Event → ℕ → Taking → Taking → Type 0
 Brought why event j t u = u.taken ≡ t.taken ++ heard_from u.line.from why (Some event)
 
-module _ {N : Type 0} (node : NodeState) (begin : ℕ) (role : Role) (old : Seated N) (ms : List Moment) (keeps : KeepsRun node begin role old ms) (calm : old.fault ≡ None)
+module _ {N : Type 0} (node : NodeState) (begin : ℕ) (run : Run) (role : Role) (old : Seated N) (ms : List Moment) (keeps : KeepsRun node begin run role old ms) (calm : old.fault ≡ None)
     (early : old.stamp < LAST) where
   -- all that was taken was received
   whole : (k : ℕ) (t : Taking) → slice_get old.takers k ≡ Some t → t.taken ≡ received t.line.from ms
@@ -133,7 +135,7 @@ module _ {N : Type 0} (node : NodeState) (begin : ℕ) (role : Role) (old : Seat
       (brings : EachBecomes (Brought why event) old.takers takers) (quiet : (from : Place) → NoneFrom from takers → heard_from from why (Some event) ≡ []) where
     pub comes : IsByStops old.plan.stops ms why → is_restart why ≡ is_down (own (place_of role) ms) → again ≡ (if is_restart why then restarts ms + 1 else restarts ms)
         → turned ≡ (if is_stop why then turns ms else turns ms + 1) → IsStop event ⊎ Came takers old.plan.stops event
-        → Comes node begin role (counting (asking old takers next) stamp turned again) ms why event
+        → Comes node begin run role (counting (asking old takers next) stamp turned again) ms why event
     comes by_stops down restarted turns_are came = record {
       heard = λ j u there.
           let l = lines.each j u there in
@@ -147,6 +149,8 @@ module _ {N : Type 0} (node : NodeState) (begin : ℕ) (role : Role) (old : Seat
       down = down;
       restarted = restarted;
       turned = turns_are;
+      fits = keeps.fits;
+      lies = (keeps.calm calm).lies;
       picked = (keeps.calm calm).picked;
       came = came;
     }
@@ -216,26 +220,26 @@ module _ {N : Type 0} (state : N → NodeState) (law : (node : N) → IsLawful (
   module _ (a : Seated N) (is : IsRunning (state a.node) past run a) (calm : a.fault ≡ None) (stamp turned again : ℕ) (later : a.stamp < stamp) (small : stamp ≤ LAST) (more : a.turns ≤ turned)
       (few : turned ≤ stamp) (rare : again ≤ turned) (why : Cause) (given : Option Input) (event : Event) (is_event : event_by why given ≡ Some event)
       (can : CanMake state (counting a stamp turned again) why given) (has : given ≡ None → (state a.node).stops ≡ true) (role : Role) (named : role_at w past (place_of role) ≡ Some role)
-      (known : (has_disks role ≡ true → AreTold (state a.node).disks) → (ms : List Moment) × Keeps (state a.node) a.trace role ms
-      × Comes (state a.node) (start past.sessions) role (counting a stamp turned again) ms (reason_of why) event)
+      (known : (have_disks (state a.node).place ≡ true → AreTold (state a.node).disks) → (ms : List Moment) × Keeps (state a.node) a.trace role ms
+      × Comes (state a.node) (start past.sessions) run role (counting a stamp turned again) ms (reason_of why) event)
       (new : Seated N) (result : Result (Unit {0}) RunFault) (m : MakesEntry state (counting a stamp turned again) new why given result) where
     abbrev s : Seated N
     s = counting a stamp turned again
 
-    keeps : KeepsSome (state new.node) w past (with_fault (with_entry s new.node new.trace new.senders) (error_of m.packet))
+    keeps : KeepsSome (state new.node) w past run (with_fault (with_entry s new.node new.trace new.senders) (error_of m.packet))
     keeps = (
       role,
       named,
       λ told.
-          let was : has_disks role ≡ true → AreTold (state a.node).disks =
-          λ h. told_back (state a.node).disks (state new.node).disks (m.entered.same.first.tells_images, m.entered.same.second.tells_images) (told h) in
+          let was : have_disks (state a.node).place ≡ true → AreTold (state a.node).disks =
+          λ h. told_back (state a.node).disks (state new.node).disks (m.entered.same.first.tells_images, m.entered.same.second.tells_images) (told (ap have_disks m.entered.same.same_place ∙ h)) in
           let (ms, k, c) = known was in
           let tells = (law a.node).tells in
           let owns = own (place_of role) ms in
           let at = tells.places role owns k.stands in
           let after = keeps_after state s new.node new.trace new.senders why given event is_event can.may.next role at ms k
-          (told_for (state a.node).disks why given event is_event (λ none. was (sym (tells.with_disks role owns k.stands) ∙ has none))) (start past.sessions)
-          (λ tc. is.of_run.starts (at ∙ tc)) c m.packet (m.entered.entered event is_event) m.out m.entered.same.same_place in
+          (told_for (state a.node).disks why given event is_event (λ none. was (stops_there (state a.node) (law a.node) role owns k.stands (has none)))) (start past.sessions)
+          (λ tc. is.of_run.starts (at ∙ tc)) run c m.packet (m.entered.entered event is_event) m.out m.entered.same.same_place in
           (after.0, after.1, λ runs. after.2),
     )
 
@@ -262,9 +266,9 @@ module _ {N : Type 0} (state : N → NodeState) (law : (node : N) → IsLawful (
 
     -- the moments of the node, with its links
     abbrev Kept : Type 0
-    Kept = (ms : List Moment) × Keeps (state old.node) old.trace role ms × KeepsRun (state old.node) (start past.sessions) role old ms
+    Kept = (ms : List Moment) × Keeps (state old.node) old.trace role ms × KeepsRun (state old.node) (start past.sessions) run role old ms
 
-    kept : (has_disks role ≡ true → AreTold (state old.node).disks) → Kept
+    kept : (have_disks (state old.node).place ≡ true → AreTold (state old.node).disks) → Kept
     kept told = let (ms, k, r) = is.keeps.2 told in (ms, k, r may.runs)
 
     begun : (ms : List Moment) → Keeps (state old.node) old.trace role ms → HasBegun old.plan.stops ms
@@ -288,7 +292,7 @@ module _ {N : Type 0} (state : N → NodeState) (law : (node : N) → IsLawful (
         let counts = l.calm calm in (
           ms,
           k,
-          comes (state old.node) (start past.sessions) role old ms l calm below old.takers old.next (old.stamp + 1) (old.turns + 1) (old.restarts + 1) (reason_of why) event same
+          comes (state old.node) (start past.sessions) run role old ms l calm below old.takers old.next (old.stamp + 1) (old.turns + 1) (old.restarts + 1) (reason_of why) event same
               (silent (reason_of why) event old.takers old.takers (none_yet old.takers) (λ p. refl)) (λ from none. refl)
               (begun ms k, ap (restart_of old.plan.stops) counts.restarted) (sym r.down ∙ downs ms k) (ap (λ n. n + 1) counts.restarted) (ap (λ n. n + 1) counts.turned) (inr (old.restarts, refl)),
         ))
@@ -311,7 +315,7 @@ module _ {N : Type 0} (state : N → NodeState) (law : (node : N) → IsLawful (
         let counts = l.calm calm in (
           ms,
           k,
-          comes (state old.node) (start past.sessions) role old ms l calm below r.takers old.next (old.stamp + 1) (old.turns + 1) old.restarts Turn (Given input.Turn) lines
+          comes (state old.node) (start past.sessions) run role old ms l calm below r.takers old.next (old.stamp + 1) (old.turns + 1) old.restarts Turn (Given input.Turn) lines
               (silent Turn (Given input.Turn) old.takers r.takers r.none (λ p. refl)) (λ from none. refl) (begun ms k) (sym r.up ∙ downs ms k) counts.restarted (ap (λ n. n + 1) counts.turned) (inr tt),
         ))
         new result r.made
@@ -348,24 +352,24 @@ module _ {N : Type 0} (state : N → NodeState) (law : (node : N) → IsLawful (
           let counts = l.calm calm in (
             ms,
             k',
-            comes (state old.node) (start past.sessions) role old ms l calm below takers (k + 1) (stamp_after old.stamp packet.stamp) (old.turns + 1) old.restarts (Deliver packet.stamp took.end.line.from) heard
+            comes (state old.node) (start past.sessions) run role old ms l calm below takers (k + 1) (stamp_after old.stamp packet.stamp) (old.turns + 1) old.restarts (Deliver packet.stamp took.end.line.from) heard
                 (took_lines old.takers takers k packet took) (bringing old.takers takers k packet took goes.apart.come) (quiet_else old.takers takers k packet took) (begun ms k') (sym up ∙ downs ms k') counts.restarted
                 (ap (λ n. n + 1) counts.turned) (inr (packet.stamp, took_last old.takers takers k packet took)),
           ))
           new result d.made
 
       -- what was taken but isn't received
-      unheard : (missed : Option RunFault) (stamp : ℕ) → MayLose missed stamp packet → (ms : List Moment) → KeepsRun (state old.node) (start past.sessions) role old ms
+      unheard : (missed : Option RunFault) (stamp : ℕ) → MayLose missed stamp packet → (ms : List Moment) → KeepsRun (state old.node) (start past.sessions) run role old ms
           → (j : ℕ) (u : Taking) → slice_get takers j ≡ Some u → HeardAll missed stamp (received u.line.from ms) u.taken
       unheard missed stamp lost ms l j u there = let m = took.each.each j u there in by (j == k) m.0 m.1 m.2
         where
           by : (b : Bool) (t : Taking) → slice_get old.takers j ≡ Some t → TookIf b packet t u → HeardAll missed stamp (received u.line.from ms) u.taken
           by true t first this =
               subst (λ q. HeardAll missed stamp (received q.from ms) u.taken) (sym this.line)
-              (inr (packet, this.taken ∙ ap (λ (x : List Sent). x ++ packet ∷ []) (whole (state old.node) (start past.sessions) role old ms l calm able.stamps j t first), lost))
+              (inr (packet, this.taken ∙ ap (λ (x : List Sent). x ++ packet ∷ []) (whole (state old.node) (start past.sessions) run role old ms l calm able.stamps j t first), lost))
           by false t first none =
               subst (λ q. HeardAll missed stamp (received q.from ms) u.taken) (sym none.line)
-              (inl (none.taken ∙ whole (state old.node) (start past.sessions) role old ms l calm able.stamps j t first))
+              (inl (none.taken ∙ whole (state old.node) (start past.sessions) run role old ms l calm able.stamps j t first))
 
       -- a packet of the last stamp is lost
       late : (new : Seated N) → packet.stamp ≡ LAST → new ≡ record asked { stamp = LAST } → IsSeat (state new.node) w past run new
@@ -399,8 +403,9 @@ module _ {N : Type 0} (state : N → NodeState) (law : (node : N) → IsLawful (
                   only = λ from none. l.only from (none_from old.takers takers (took_lines old.takers takers k packet took) from none);
                   pushed = l.pushed;
                   runs = l.runs;
-                  calm = λ none. let counts = l.calm none in record { restarted = counts.restarted; turned = counts.turned; picked = counts.picked };
-                  cause = subst (λ f. IfSome f (IsCauseOf (state old.node) role (record asked { stamp = LAST }) ms)) (sym calm) tt;
+                  fits = l.fits;
+                  calm = λ none. let counts = l.calm none in record { restarted = counts.restarted; turned = counts.turned; lies = counts.lies; picked = counts.picked };
+                  cause = subst (λ f. IfSome f (IsCauseOf (state old.node) run role (record asked { stamp = LAST }) ms)) (sym calm) tt;
                 },
               ),
         );
@@ -413,7 +418,7 @@ module _ {N : Type 0} (state : N → NodeState) (law : (node : N) → IsLawful (
       lost_counts (fault.Full p full) why = absurd why
       lost_counts (fault.Damaged p second at) why = absurd why
 
-      lost_cause : (missed : RunFault) → LosesBy state asked packet missed → (ms : List Moment) → IsCauseOf (state old.node) role (with_fault asked (Some missed)) ms missed
+      lost_cause : (missed : RunFault) → LosesBy state asked packet missed → (ms : List Moment) → IsCauseOf (state old.node) run role (with_fault asked (Some missed)) ms missed
       lost_cause fault.NoMemory why ms = tt
       lost_cause fault.Other why ms = record { from = took.end.line.from; packet = packet; took = took_last old.takers takers k packet took; unheard = why }
       lost_cause (fault.Store p) why ms = absurd why
@@ -447,8 +452,9 @@ module _ {N : Type 0} (state : N → NodeState) (law : (node : N) → IsLawful (
                 λ runs. record {
                   heard = unheard (Some missed) old.stamp tt ms l;
                   only = λ from none. l.only from (none_from old.takers takers (took_lines old.takers takers k packet took) from none);
-                  pushed = λ j end there. went-within end.pushed _ (went (state old.node) (start past.sessions) role old ms l calm able.stamps j end there);
+                  pushed = λ j end there. went-within end.pushed _ (went (state old.node) (start past.sessions) run role old ms l calm able.stamps j end there);
                   runs = l.runs;
+                  fits = l.fits;
                   calm = λ none. absurd (let no : Some missed ≡ None = none in cc);
                   cause = lost_cause missed why ms;
                 },

@@ -18,7 +18,7 @@ use Rattle.history_text.specs.History.{entries, entry_of}
 use Rattle.node_seat.specs.Entering.{IsEntered, entry_at, event_by}
 use Rattle.node_seat.specs.Keeping.{IsFresh}
 use Rattle.node_seat.specs.Naming.{Run}
-use Rattle.node_seat.specs.Running.{AreApart, AreUnused, CanServe, IsOfRun, IsSeat}
+use Rattle.node_seat.specs.Running.{AreApart, AreUnused, CanServe, IsFreshIn, IsOfRun, IsSeat}
 use Rattle.node_seat.specs.Seating.{Seated, new_seat, traced_of}
 use Rattle.node_seat.specs.Turns.{AnswersBegin, AnswersTurn, HasDisksToStop, IsBegun, IsHeard, IsTurned, IsUnmoved, MakesEntry, MayTurn, Takes, is_done, moment_of, noted}
 use Rattle.node_seat.specs.declared.faults.RunFault.{RunFault}
@@ -29,10 +29,10 @@ use Rattle.node_seat.proofs.AfterTurns.{comes, entry_seat, none_lines, noted-nod
 use Rattle.node_seat.proofs.Changed.{none_yet}
 use Rattle.node_seat.proofs.Going.{can_stop, trace_more}
 
-module _ {N : Type 0} (state : N → NodeState) (w : World) (past : Past) (run : Run) (node : N) (plan : Plan) (takers : List Taking) (senders : List Sending) (fresh : IsFresh w past (state node)) where
+module _ {N : Type 0} (state : N → NodeState) (w : World) (past : Past) (run : Run) (node : N) (plan : Plan) (takers : List Taking) (senders : List Sending) where
   -- a seat of a replay
-  pub new_keeps : (s : Seated N) → s ≡ new_seat false node plan takers senders → IsSeat (state s.node) w past run s
-  new_keeps s is =
+  pub new_keeps : IsFresh w past (state node) → (s : Seated N) → s ≡ new_seat false node plan takers senders → IsSeat (state s.node) w past run s
+  new_keeps fresh s is =
       let (role, named, stands) = fresh in
       subst (λ (x : Seated N). IsSeat (state x.node) w past run x) (sym is) (record {
         runs = λ runs. absurd (true≢false (sym runs));
@@ -40,10 +40,10 @@ module _ {N : Type 0} (state : N → NodeState) (w : World) (past : Past) (run :
       })
 
   -- a seat of a run
-  pub linked_keeps : CanServe plan (state node) → IsOfRun past run (state node) plan takers senders → AreApart takers senders → AreUnused takers senders
+  pub linked_keeps : IsFreshIn w past run (state node) → CanServe plan (state node) → IsOfRun past run (state node) plan takers senders → AreApart takers senders → AreUnused takers senders
       → (s : Seated N) → s ≡ new_seat true node plan takers senders → IsSeat (state s.node) w past run s
-  linked_keeps serves of_run apart unused s is =
-      let (role, named, stands) = fresh in
+  linked_keeps fresh serves of_run apart unused s is =
+      let (role, named, new) = fresh in
       subst (λ (x : Seated N). IsSeat (state x.node) w past run x) (sym is) (record {
         runs = λ runs. record {
           goes = record {
@@ -64,13 +64,14 @@ module _ {N : Type 0} (state : N → NodeState) (w : World) (past : Past) (run :
           named,
           λ told. (
             [],
-            record { printed = refl; alone = tt; stands = stands told },
+            record { printed = refl; alone = tt; stands = (new told).0 },
             λ runs. record {
               heard = λ k t there. inl (unused.taken k t there);
               only = λ from none. refl;
               pushed = λ k end there. (unused.pushed k end there).0;
               runs = tt;
-              calm = λ none. record { restarted = refl; turned = refl; picked = λ pick e. absurd (let no : None ≡ Some pick = e in cc) };
+              fits = tt;
+              calm = λ none. record { restarted = refl; turned = refl; lies = (new told).1; picked = λ pick e. absurd (let no : None ≡ Some pick = e in cc) };
               cause = tt;
             },
           ),
@@ -113,7 +114,7 @@ module _ {N : Type 0} (state : N → NodeState) (law : (node : N) → IsLawful (
       let nothing : ms ≡ [] = no_moments ms (sym k.printed ∙ ap (λ (s : Seated N). s.trace) unmoved) in (
         ms,
         k,
-        comes (state old.node) (start past.sessions) role old ms keeps calm (omega (arith, none)) old.takers old.next 1 old.turns old.restarts (Stop (calls_of stop)) (Stopped (calls_of stop))
+        comes (state old.node) (start past.sessions) run role old ms keeps calm (omega (arith, none)) old.takers old.next 1 old.turns old.restarts (Stop (calls_of stop)) (Stopped (calls_of stop))
             (none_lines old.takers old.takers (none_yet old.takers)) (silent (Stop (calls_of stop)) (Stopped (calls_of stop)) old.takers old.takers (none_yet old.takers) (λ p. refl)) (λ from n. refl)
             (nothing, ap (λ l. option_map calls_of (slice_get l 0)) are) (sym (ap (λ l. is_down (own (place_of role) l)) nothing)) counts.restarted counts.turned (inl tt),
       ))

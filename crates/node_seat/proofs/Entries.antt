@@ -1,6 +1,7 @@
 -- What an entry of a run keeps: its moments, its links and its counts.
 use Rattle.std.proofs.Common.{◌≡◌, ◌⊎◌, inl, inr, ◌+◌, ◌-◌, ◌≤◌, ℕ, Bool, true, false, if◌then◌else◌, List, [], ◌∷◌, ◌++◌, length, slice_get, option_map, Option, Some, None, IfSome, Result, Ok, Err, refl, ap, sym, subst, ◌∙◌, arith, append-nil, length-append}
 use Rattle.std.specs.Option.{option_and_then}
+use Rattle.journal_checkpoint.specs.Extents.{Extent}
 use Rattle.seata_types.specs.declared.ids.Place.{Place}
 use Rattle.seata_types.specs.declared.ids.Place.TheVariants as place
 use Rattle.seata_types.specs.declared.messages.Input.{Input}
@@ -8,7 +9,7 @@ use Rattle.seata_types.specs.declared.messages.Input.TheVariants as input
 use Rattle.seata_types.specs.declared.messages.Outgoing.{Outgoing}
 use Rattle.seata_types.specs.declared.messages.Step.{Step}
 use Rattle.frame_codec.specs.Packets.{Sent}
-use Rattle.history_rules.specs.Own.{Event, Given, Stopped, Crashed, Restarted}
+use Rattle.history_rules.specs.Own.{Event, Given, Stopped, Crashed, Restarted, Own}
 use Rattle.history_rules.specs.Devices.{is_down, last_pick}
 use Rattle.history_rules.specs.Nodes.{Role}
 use Rattle.history_rules.specs.Histories.{Moment, Deliver, own, same_place}
@@ -26,13 +27,14 @@ use Rattle.node_seat.specs.Ends.{EachBecomes, HaveSent, NoneFrom, OfferedIf}
 use Rattle.node_seat.specs.Entering.{Enters, HaveLast, IsEntered, IsTold, Stays, entry_at, event_by, packet_at}
 use Rattle.node_seat.specs.Faults.{Blames}
 use Rattle.node_seat.specs.Keeping.{IsNext, Keeps}
-use Rattle.node_seat.specs.Running.{Came, HeardAll, IsCauseOf, KeepsRun, PushedAll}
+use Rattle.node_seat.specs.Naming.{Run}
+use Rattle.node_seat.specs.Running.{Came, HadPlaces, HeardAll, IsCauseOf, KeepsRun, PushedAll}
 use Rattle.node_seat.specs.Seating.{Seated, traced, traced_of}
 use Rattle.node_seat.specs.Turns.{SentBy, entry_receiver, moment_of, place_sent, receiver_in}
 use Rattle.node_seat.specs.declared.faults.RunFault.{RunFault}
 use Rattle.node_seat.specs.declared.faults.RunFault.TheVariants as fault
 use Rattle.node_seat.proofs.Going.{error_of, run_clock-from, with_entry, with_fault}
-use Rattle.node_seat.proofs.Kept.{entered, moment, reason_of, stayed}
+use Rattle.node_seat.proofs.Kept.{entered, lies_for, moment, reason_of, stayed}
 
 -- ---- the message of an entry
 
@@ -88,7 +90,7 @@ IsStop (Stopped calls) = Unit {0}
 IsStop event = ⊥
 
 -- What is known of a seat and its moments when its ends were asked and its turn is counted, before the entry of an event.
-pub record Comes {N : Type 0} (node : NodeState) (begin : ℕ) (role : Role) (s : Seated N) (ms : List Moment) (why : Reason) (event : Event) : Type 0 where
+pub record Comes {N : Type 0} (node : NodeState) (begin : ℕ) (run : Run) (role : Role) (s : Seated N) (ms : List Moment) (why : Reason) (event : Event) : Type 0 where
   pub heard : (k : ℕ) (t : Taking) → slice_get s.takers k ≡ Some t → t.taken ≡ received t.line.from ms ++ heard_from t.line.from why (Some event)
   pub only : (from : Place) → NoneFrom from s.takers → received from ms ++ heard_from from why (Some event) ≡ []
   pub pushed : (k : ℕ) (end : Sending) → slice_get s.senders k ≡ Some end → Went end.pushed (sent_to end.line.to ms)
@@ -97,6 +99,8 @@ pub record Comes {N : Type 0} (node : NodeState) (begin : ℕ) (role : Role) (s 
   pub down : is_restart why ≡ is_down (own (place_of role) ms)
   pub restarted : s.restarts ≡ (if is_restart why then restarts ms + 1 else restarts ms)
   pub turned : s.turns ≡ (if is_stop why then turns ms else turns ms + 1)
+  pub fits : HadPlaces role (run.starts (place_of role)) run.bytes (own (place_of role) ms)
+  pub lies : node.lies role (run.starts (place_of role)) run.bytes (own (place_of role) ms)
   pub picked : HaveLast (last_pick (own (place_of role) ms)) node.disks
   pub came : IsStop event ⊎ Came s.takers s.plan.stops event
 
@@ -115,27 +119,35 @@ at_most_one p (Deliver stamp from) event = by (same_place p from) event
 at_most_one p why event = inl refl
 
 -- why no entry was made, said of the seat
-cause_by : {N : Type 0} (old new : NodeState) → new.place ≡ old.place → (role : Role) (s : Seated N) (ms : List Moment) (now : ℕ) (event : Event) (missed : RunFault)
-    → IsStop event ⊎ Came s.takers s.plan.stops event → Blames old.place role (own (place_of role) ms) now event new.disks new.size missed → IsCauseOf new role s ms missed
-cause_by old new same role s ms now event fault.NoMemory came blames = tt
-cause_by old new same role s ms now event fault.Other came blames = absurd blames
-cause_by old new same role s ms now event (fault.Damaged p second at) came blames = absurd blames
-cause_by old new same role s ms now event (fault.Store p) (inr came) blames =
-    record { now = now; event = event; came = came; blames = subst (λ q. Blames q role (own (place_of role) ms) now event new.disks new.size (fault.Store p)) (sym same) blames }
-cause_by old new same role s ms now event (fault.Full p full) (inr came) blames =
-    record { now = now; event = event; came = came; blames = subst (λ q. Blames q role (own (place_of role) ms) now event new.disks new.size (fault.Full p full)) (sym same) blames }
-cause_by old new same role s ms now (Stopped calls) (fault.Store p) (inl stop) blames = absurd blames.2
-cause_by old new same role s ms now (Stopped calls) (fault.Full p full) (inl stop) blames = absurd blames.1
-cause_by old new same role s ms now (Given given) missed (inl stop) blames = absurd stop
-cause_by old new same role s ms now Crashed missed (inl stop) blames = absurd stop
-cause_by old new same role s ms now (Restarted pick calls) missed (inl stop) blames = absurd stop
+module _ {N : Type 0} (old new : NodeState) (same : new.place ≡ old.place) (run : Run) (role : Role) (s : Seated N) (ms : List Moment) (now : ℕ) where
+  abbrev Blamed : Event → RunFault → Place → Type 0
+  Blamed event missed at = Blames at role (run.starts (place_of role)) run.bytes (own (place_of role) ms) now event new.disks missed
+
+  cause_by : (event : Event) (missed : RunFault) → IsStop event ⊎ Came s.takers s.plan.stops event → Blamed event missed old.place → IsCauseOf new run role s ms missed
+  cause_by event fault.NoMemory came blames = tt
+  cause_by event fault.Other came blames = absurd blames
+  cause_by event (fault.Damaged p second at) came blames = absurd blames
+  cause_by event (fault.Store p) (inr came) blames = record { now = now; event = event; came = came; blames = subst (Blamed event (fault.Store p)) (sym same) blames }
+  cause_by event (fault.Full p full) (inr came) blames = record { now = now; event = event; came = came; blames = subst (Blamed event (fault.Full p full)) (sym same) blames }
+  cause_by (Stopped calls) (fault.Store p) (inl stop) blames = absurd blames.2
+  cause_by (Stopped calls) (fault.Full p full) (inl stop) blames = absurd blames.1
+  cause_by (Given given) missed (inl stop) blames = absurd stop
+  cause_by Crashed missed (inl stop) blames = absurd stop
+  cause_by (Restarted pick calls) missed (inl stop) blames = absurd stop
 
 module _ {N : Type 0} (state : N → NodeState) (s : Seated N) (x : N) (trace : List Entry) (senders : List Sending) (why : Cause) (given : Option Input) (event : Event)
     (is_event : event_by why given ≡ Some event) (next : IsNext s.trace s.stamp (moment_of (state s.node) s) why given) (role : Role) (at : (state s.node).place ≡ place_of role) (ms : List Moment)
     (k : Keeps (state s.node) s.trace role ms) (told : IsTold (state s.node).disks event) (begin : ℕ) (starts : place_of role ≡ place.Tc → s.plan.from ≡ begin)
-    (c : Comes (state s.node) begin role s ms (reason_of why) event) where
+    (run : Run) (c : Comes (state s.node) begin run role s ms (reason_of why) event) where
   abbrev now : ℕ
   now = moment_of (state s.node) s
+
+  -- where its journal stood at first, and its own entries
+  abbrev first : Extent
+  first = run.starts (place_of role)
+
+  abbrev owns : List Own
+  owns = own (place_of role) ms
 
   abbrev new : Option RunFault → Seated N
   new missed = with_fault (with_entry s x trace senders) missed
@@ -149,30 +161,36 @@ module _ {N : Type 0} (state : N → NodeState) (s : Seated N) (x : N) (trace : 
   -- an entry was made, whatever came of its message
   keeps_entry : (missed : Option RunFault) (r : Result (Option Sent) RunFault) (step : Step) → Enters state (traced_of s) (traced x trace) s.stamp now why event step r
       → ((j : ℕ) (end : Sending) → slice_get senders j ≡ Some end → PushedAll missed end.pushed (sent_to end.line.to (made step ∷ ms)))
-      → IfSome missed (IsCauseOf (state x) role (new missed) (made step ∷ ms)) → KeepsRun (state x) begin role (new missed) (made step ∷ ms)
-  keeps_entry missed r step e pushed cause = record {
-    heard = λ j t there. inl (c.heard j t there);
-    only = c.only;
-    pushed = pushed;
-    runs = (c.runs, record { by_stops = c.by_stops; restarted = c.down; clock = clock step });
-    calm = λ none. record {
-      restarted = c.restarted;
-      turned = c.turned;
-      picked = rw (same_place-refl (place_of role)) (e.does.picked told role (own (place_of role) ms) k.stands c.picked);
-    };
-    cause = cause;
-  }
+      → IfSome missed (IsCauseOf (state x) run role (new missed) (made step ∷ ms)) → KeepsRun (state x) begin run role (new missed) (made step ∷ ms)
+  keeps_entry missed r step e pushed cause =
+      let lies = e.does.lies told role owns k.stands first run.bytes c.lies in
+      record {
+        heard = λ j t there. inl (c.heard j t there);
+        only = c.only;
+        pushed = pushed;
+        runs = (c.runs, record { by_stops = c.by_stops; restarted = c.down; clock = clock step });
+        fits = rw (same_place-refl (place_of role)) (c.fits, lies.0);
+        calm = λ none. record {
+          restarted = c.restarted;
+          turned = c.turned;
+          lies = rw (same_place-refl (place_of role)) lies.1;
+          picked = rw (same_place-refl (place_of role)) (e.does.picked told role owns k.stands c.picked);
+        };
+        cause = cause;
+      }
 
   -- no entry was made
   keeps_none : (missed : RunFault) → Stays state (traced_of s) (traced x trace) now event missed → (state x).place ≡ (state s.node).place → senders ≡ s.senders
-      → KeepsRun (state x) begin role (new (Some missed)) ms
+      → KeepsRun (state x) begin run role (new (Some missed)) ms
   keeps_none missed e same out = record {
     heard = λ j t there. by (received t.line.from ms) t.taken (heard_from t.line.from (reason_of why) (Some event)) (c.heard j t there) (at_most_one t.line.from (reason_of why) (Some event));
     only = λ from none. nothing_before (received from ms) _ (c.only from none);
     pushed = λ j end there. went-within end.pushed _ (c.pushed j end (ap (λ l. slice_get l j) (sym out) ∙ there));
     runs = c.runs;
+    fits = c.fits;
     calm = λ none. absurd (let no : Some missed ≡ None = none in cc);
-    cause = cause_by (state s.node) (state x) same role (new (Some missed)) ms now event missed c.came (e.misses.blames told role (own (place_of role) ms) k.stands);
+    cause = cause_by (state s.node) (state x) same run role (new (Some missed)) ms now event missed c.came
+        (e.misses.blames told role first run.bytes owns k.stands (lies_for missed (state s.node) role first run.bytes owns c.lies));
   }
     where
       by : (front taken one : List Sent) → taken ≡ front ++ one → (one ≡ []) ⊎ ((y : Sent) × (one ≡ y ∷ [])) → HeardAll (Some missed) s.stamp front taken
@@ -191,7 +209,7 @@ module _ {N : Type 0} (state : N → NodeState) (s : Seated N) (x : N) (trace : 
 
   -- after an entry or a fault the seat keeps some moments
   pub keeps_after : (r : Result (Option Sent) RunFault) → IsEntered state (traced_of s) (traced x trace) s.stamp now why event r → SentBy (receiver_in trace) r s.senders senders
-      → (state x).place ≡ (state s.node).place → (after : List Moment) × Keeps (state x) trace role after × KeepsRun (state x) begin role (new (error_of r)) after
+      → (state x).place ≡ (state s.node).place → (after : List Moment) × Keeps (state x) trace role after × KeepsRun (state x) begin run role (new (error_of r)) after
   keeps_after (Ok packet) (step, e) out same = (
     made step ∷ ms,
     entered state (traced_of s) (traced x trace) s.stamp now why given event is_event next role at ms k told step (Ok packet) e,
@@ -204,5 +222,5 @@ module _ {N : Type 0} (state : N → NodeState) (s : Seated N) (x : N) (trace : 
     entered state (traced_of s) (traced x trace) s.stamp now why given event is_event next role at ms k told step (Err missed) e,
     keeps_entry (Some missed) (Err missed) step e
         (λ j end there. within_append end.pushed _ _ (went-within end.pushed _ (c.pushed j end (ap (λ l. slice_get l j) (sym out) ∙ there))))
-        (subst (λ f. IsCauseOf (state x) role (new (Some missed)) (made step ∷ ms) f) (sym is) tt),
+        (subst (λ f. IsCauseOf (state x) run role (new (Some missed)) (made step ∷ ms) f) (sym is) tt),
   )

@@ -25,9 +25,9 @@ use Rattle.history_text.specs.declared.entries.Entry.{Entry}
 use Rattle.node_seat.specs.Ends.{EachBecomes, GoApart, HaveSent, OfferedIf}
 use Rattle.node_seat.specs.Entering.{CanReact, HasEntered, IsEntered, entry_at, event_by}
 use Rattle.node_seat.specs.Faults.{CountsFault}
-use Rattle.node_seat.specs.Keeping.{IsBehind, IsInputOf}
+use Rattle.node_seat.specs.Keeping.{IsBehind, IsInputOf, have_disks}
 use Rattle.node_seat.specs.Naming.{Run}
-use Rattle.node_seat.specs.Running.{CanGoOn, CanServe, HasCounted, HasPick, IsNotAfter, IsOfRun, IsRunning, LAST, MayBeGiven, have_disks, may_hear}
+use Rattle.node_seat.specs.Running.{CanGoOn, CanServe, HasCounted, HasPick, IsNotAfter, IsOfRun, IsRunning, LAST, MayBeGiven, may_hear}
 use Rattle.node_seat.specs.Seating.{Seated, traced, traced_of}
 use Rattle.node_seat.specs.Turns.{CanMake, IsAble, IsUnmoved, SentBy, at_turn, stamp_after}
 use Rattle.node_seat.specs.declared.faults.RunFault.{RunFault}
@@ -279,6 +279,8 @@ module _ {N : Type 0} (state : N → NodeState) (past : Past) (run : Run) (s : S
     told = λ tells has. let t = is.of_run.told tells (ap have_disks (sym e.same.same_place) ∙ has) in
         record { first = e.same.first.tells_images ∙ t.first; second = e.same.second.tells_images ∙ t.second };
     sized = λ has. let t = is.of_run.sized (ap have_disks (sym e.same.same_place) ∙ has) in (e.same.first.size ∙ t.0, e.same.second.size ∙ t.1);
+    managers = is.of_run.managers;
+    resources = is.of_run.resources;
   }
 
   counted : (q : Result (Option Sent) RunFault) → IfErr q (CountsFault before node) → IfSome (error_of q) (HasCounted node)

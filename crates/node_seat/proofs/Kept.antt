@@ -1,6 +1,7 @@
 -- An entry keeps what a seat keeps.
 use Rattle.std.proofs.Common.{◌≡◌, inl, inr, ◌<◌, ◌≤◌, ℕ, Bool, true, false, ◌||◌, not, List, [], ◌∷◌, ◌++◌, All, get_or, length, Option, Some, None, is_some, zero, suc, Result, Ok, Err, refl, ap, sym, subst, ◌∙◌, arith, length-append, true≢false}
 use Rattle.std.proofs.lemmas.Option.{same_Some}
+use Rattle.journal_checkpoint.specs.Extents.{Extent}
 use Rattle.journal_checkpoint.specs.Images.{Pair}
 use Rattle.seata_types.specs.declared.ids.Place.{Place}
 use Rattle.seata_types.specs.declared.messages.Input.{Input}
@@ -8,8 +9,8 @@ use Rattle.seata_types.specs.declared.messages.Input.TheVariants as input
 use Rattle.seata_types.specs.declared.messages.Step.{Step}
 use Rattle.durable_records.specs.SessionOrder.{is_empty}
 use Rattle.frame_codec.specs.Packets.{Sent}
-use Rattle.history_rules.specs.Own.{Event, Given, Stopped, Crashed, Restarted}
-use Rattle.history_rules.specs.Nodes.{Role, World, Past}
+use Rattle.history_rules.specs.Own.{Event, Given, Stopped, Crashed, Restarted, Own}
+use Rattle.history_rules.specs.Nodes.{Role, Coordinator, Resource, Manager, World, Past}
 use Rattle.history_rules.specs.Histories.{Moment, Turn, Deliver, Missing, Wait, Stop, Crash, Restart, Local, Outside, ReceivesLater, own, own_if, last_now, same_place}
 use Rattle.history_rules.specs.Histories.{Cause as Reason}
 use Rattle.trace_rules.specs.Stops.{HasBegun, NodeStop}
@@ -22,8 +23,11 @@ use Rattle.history_text.specs.declared.entries.Cause.TheVariants as cause
 use Rattle.history_text.specs.declared.entries.Entry.{Entry}
 use Rattle.history_text.specs.History.{cause_of, entries, entry_of}
 use Rattle.node_seat.specs.declared.faults.RunFault.{RunFault}
+use Rattle.node_seat.specs.declared.faults.RunFault.TheVariants as fault
+use Rattle.node_seat.specs.Faults.{LiesFor}
 use Rattle.node_seat.specs.Entering.{CanReact, Enters, IsEntered, IsTold, Stays, entry_at, event_by}
-use Rattle.node_seat.specs.Keeping.{Keeps, IsBehind, IsInputOf, IsNext}
+use Rattle.node_seat.specs.Keeping.{Keeps, IsBehind, IsInputOf, IsNext, have_disks}
+use Rattle.node_seat.specs.Naming.{Run}
 use Rattle.node_seat.specs.Running.{KeepsSome}
 use Rattle.node_seat.specs.Seating.{Seated, Traced, traced_of}
 
@@ -139,6 +143,26 @@ pub told_for : (disks : Pair) (c : Cause) (given : Option Input) (event : Event)
 told_for disks c (Some given) event e told = subst (IsTold disks) (same_Some (Given given) event e) tt
 told_for disks c None event e told = told_all disks event (told refl)
 
+-- ---- where a journal stands
+
+-- a node that lies by its entries does so for each fault
+pub lies_for : (missed : RunFault) (node : NodeState) (role : Role) (begin : Extent) (size : ℕ) (os : List Own) → node.lies role begin size os → LiesFor missed node role begin size os
+lies_for (fault.Full p full) node role begin size os lies = lies
+lies_for (fault.Store p) node role begin size os lies = tt
+lies_for (fault.Damaged p second at) node role begin size os lies = tt
+lies_for fault.Other node role begin size os lies = tt
+lies_for fault.NoMemory node role begin size os lies = tt
+
+-- a node with disks stands at a place with disks
+disks_there : (role : Role) → have_disks (place_of role) ≡ has_disks role
+disks_there (Coordinator times past) = refl
+disks_there (Resource setup past) = refl
+disks_there (Manager settings) = refl
+
+pub stops_there : (node : NodeState) → IsLawful node → (role : Role) (owns : List Own) → node.stands_for role owns → node.stops ≡ true → have_disks node.place ≡ true
+stops_there node law role owns stands has =
+    ap have_disks (law.tells.places role owns stands) ∙ disks_there role ∙ sym (law.tells.with_disks role owns stands) ∙ has
+
 -- ---- one entry
 
 module _ {N : Type 0} (state : N → NodeState) (old new : Traced N) (stamp now : ℕ) (why : Cause) (given : Option Input) (event : Event)
@@ -177,21 +201,21 @@ module _ {N : Type 0} (state : N → NodeState) (old new : Traced N) (stamp now 
     kept (Err missed) (inr (is, step, e)) = (moment step ∷ ms, entered step (Err missed) e)
 
 -- a seat keeps some moments after an entry of a replay
-module _ {N : Type 0} (state : N → NodeState) (law : (node : N) → IsLawful (state node)) (w : World) (past : Past) where
+module _ {N : Type 0} (state : N → NodeState) (law : (node : N) → IsLawful (state node)) (w : World) (past : Past) (run : Run) where
   pub keeps_some : (old new : Seated N) (stamp now : ℕ) (why : Cause) (given : Option Input) (event : Event) → event_by why given ≡ Some event → IsNext old.trace stamp now why given
-      → (given ≡ None → (state old.node).stops ≡ true) → SameTelling (state old.node).disks (state new.node).disks → new.runs ≡ false
-      → (r : Result (Option Sent) RunFault) → IsEntered state (traced_of old) (traced_of new) stamp now why event r → KeepsSome (state old.node) w past old → KeepsSome (state new.node) w past new
-  keeps_some old new stamp now why given event is_event next has same replays r e (role, named, some) = (
+      → (given ≡ None → (state old.node).stops ≡ true) → (state new.node).place ≡ (state old.node).place → SameTelling (state old.node).disks (state new.node).disks → new.runs ≡ false
+      → (r : Result (Option Sent) RunFault) → IsEntered state (traced_of old) (traced_of new) stamp now why event r → KeepsSome (state old.node) w past run old → KeepsSome (state new.node) w past run new
+  keeps_some old new stamp now why given event is_event next has there same replays r e (role, named, some) = (
     role,
     named,
     λ told.
         let disks = (state old.node).disks in
-        let was : has_disks role ≡ true → AreTold disks = λ h. told_back disks (state new.node).disks same (told h) in
-        let (ms, k, run) = some was in
+        let was : have_disks (state old.node).place ≡ true → AreTold disks = λ h. told_back disks (state new.node).disks same (told (ap have_disks there ∙ h)) in
+        let (ms, k, links) = some was in
         let tells = (law old.node).tells in
         let owns = own (place_of role) ms in
         let more = kept state (traced_of old) (traced_of new) stamp now why given event is_event next role (tells.places role owns k.stands) ms k
-        (told_for disks why given event is_event (λ none. was (sym (tells.with_disks role owns k.stands) ∙ has none))) r e in
+        (told_for disks why given event is_event (λ none. was (stops_there (state old.node) (law old.node) role owns k.stands (has none)))) r e in
         (more.0, more.1, λ runs. absurd (true≢false (sym runs ∙ replays))),
   )
 

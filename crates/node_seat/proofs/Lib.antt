@@ -1,3 +1,4 @@
+mod PastEnd
 mod Reacted
 pub mod Kept
 mod Changed

@@ -4,13 +4,18 @@ use Rattle.atomic_table.specs.Seated.{TableId}
 use Rattle.seata_types.specs.declared.ids.Place.{Place}
 use Rattle.history_rules.specs.Nodes.{World}
 use Rattle.trace_rules.specs.Stops.{NodeStop}
+use Rattle.node_steps.specs.Ends.{Starts, no_starts}
 
--- the queue of the link from a place to a place, the stops of each place, whether the disks tell their bytes, and how many each has
+-- the queue of the link from a place to a place, the stops of each place, whether the disks tell their bytes, how many each has, and where
+-- the journals stood at first; and how many managers and resources there are
 pub record Run : Type 1 where
   pub queue : Place → Place → TableId
   pub stops : Place → List NodeStop
   pub tells : Type 0
   pub bytes : ℕ
+  pub starts : Starts
+  pub managers : ℕ
+  pub resources : ℕ
 
 abbrev pub no_world : World
 no_world = record { times = record { retry = 0; forget = 0 }; resources = []; managers = [] }
@@ -19,4 +24,4 @@ abbrev pub no_queue : TableId
 no_queue = record { words = 0; slots = 0; views_name = 0; atom = 0; block = 0; offset = 0; slot_names = [] }
 
 abbrev pub no_run : Run
-no_run = record { queue = λ from to. no_queue; stops = λ p. []; tells = Unit {0}; bytes = 0 }
+no_run = record { queue = λ from to. no_queue; stops = λ p. []; tells = Unit {0}; bytes = 0; starts = no_starts; managers = 0; resources = 0 }

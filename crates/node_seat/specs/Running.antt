@@ -2,6 +2,7 @@
 use Rattle.std.specs.Prelude.{◌≡◌, ◌⊎◌, ◌-◌, ◌^◌, ◌≤◌, ◌&&◌, ℕ, Bool, true, false, List, [], ◌∷◌, ◌++◌, All, length, slice_get, Option, Some, None, IfSome}
 use Rattle.std.specs.List.{list_all}
 use Rattle.disk_model.specs.declared.disk.TheConstants.{LAST_PICK}
+use Rattle.journal_checkpoint.specs.Extents.{Extent}
 use Rattle.journal_checkpoint.specs.Images.{Pair}
 use Rattle.seata_types.specs.declared.ids.Place.{Place}
 use Rattle.seata_types.specs.declared.ids.Place.TheVariants as place
@@ -13,14 +14,15 @@ use Rattle.seata_types.specs.declared.messages.Message.TheVariants as message
 use Rattle.seata_types.specs.declared.rows.RowKey.{RowKey}
 use Rattle.durable_records.specs.SessionOrder.{has_resource, is_counted}
 use Rattle.frame_codec.specs.Packets.{Sent}
-use Rattle.history_rules.specs.Own.{Event, Given, Restarted}
+use Rattle.history_rules.specs.Own.{Event, Given, Restarted, Own}
 use Rattle.history_rules.specs.CoordinatorMemory.{start}
 use Rattle.history_rules.specs.Devices.{last_pick}
 use Rattle.history_rules.specs.Nodes.{Role, World, Past, role_at}
 use Rattle.history_rules.specs.Histories.{Moment, Restart, own}
 use Rattle.node_steps.specs.Durable.{own_faults}
+use Rattle.node_steps.specs.Ends.{EntryFits}
 use Rattle.node_steps.specs.Framing.{ComesFramable}
-use Rattle.node_steps.specs.Nodes.{NodeState, has_disks, place_of}
+use Rattle.node_steps.specs.Nodes.{NodeState, place_of}
 use Rattle.node_steps.specs.Promises.{AreTold}
 use Rattle.history_text.specs.declared.entries.Entry.{Entry}
 use Rattle.link_queue.specs.Links.{Sending, Taking}
@@ -29,7 +31,7 @@ use Rattle.trace_rules.specs.Stops.{NodeStop, RunsAlone, restart_of, restarts, r
 use Rattle.node_seat.specs.Ends.{ComeApart, GoApart, NoneFrom}
 use Rattle.node_seat.specs.Entering.{HaveLast}
 use Rattle.node_seat.specs.Faults.{Blames}
-use Rattle.node_seat.specs.Keeping.{Keeps}
+use Rattle.node_seat.specs.Keeping.{Keeps, have_disks}
 use Rattle.node_seat.specs.Naming.{Run}
 use Rattle.node_seat.specs.Seating.{Seated}
 use Rattle.node_seat.specs.declared.faults.RunFault.{RunFault}
@@ -94,12 +96,6 @@ pub record CanGoOn {N : Type 0} (node : NodeState) (s : Seated N) : Type 0 where
 
 -- ---- a node of a run
 
--- disks stand at a place
-abbrev pub have_disks : Place → Bool
-have_disks place.Tc = true
-have_disks (place.Res n) = true
-have_disks p = false
-
 -- both disks have so many bytes
 abbrev pub HaveBytes : ℕ → Pair → Type 0
 HaveBytes bytes disks = (disks.first.size ≡ bytes) × (disks.second.size ≡ bytes)
@@ -112,6 +108,14 @@ pub record IsOfRun (past : Past) (run : Run) (node : NodeState) (plan : Plan) (t
   pub from_here : (k : ℕ) (s : Sending) → slice_get senders k ≡ Some s → (s.line.from ≡ node.place) × (s.line.queue ≡ run.queue node.place s.line.to)
   pub told : run.tells → have_disks node.place ≡ true → AreTold node.disks
   pub sized : have_disks node.place ≡ true → HaveBytes run.bytes node.disks
+  pub managers : plan.managers ≡ run.managers
+  pub resources : plan.resources ≡ run.resources
+
+-- a node that did nothing yet, whose journal stands where the run says; where it has disks, this is said where they tell their bytes
+abbrev pub IsFreshIn : World → Past → Run → NodeState → Type 0
+IsFreshIn w past run node =
+    (role : Role) × (role_at w past (place_of role) ≡ Some role)
+    × ((have_disks node.place ≡ true → AreTold node.disks) → node.stands_for role [] × node.lies role (run.starts (place_of role)) run.bytes [])
 
 -- nothing went over these ends
 pub record AreUnused (takers : List Taking) (senders : List Sending) : Type 0 where
@@ -159,11 +163,11 @@ Came takers stops (Restarted pick calls) = (k : ℕ) × (Restart pick calls ≡ 
 Came takers stops event = ⊥
 
 -- such an event made no entry, for this cause
-pub record IsBlamed {N : Type 0} (node : NodeState) (role : Role) (s : Seated N) (ms : List Moment) (missed : RunFault) : Type 0 where
+pub record IsBlamed {N : Type 0} (node : NodeState) (run : Run) (role : Role) (s : Seated N) (ms : List Moment) (missed : RunFault) : Type 0 where
   pub now : ℕ
   pub event : Event
   pub came : Came s.takers s.plan.stops event
-  pub blames : Blames node.place role (own (place_of role) ms) now event node.disks node.size missed
+  pub blames : Blames node.place role (run.starts (place_of role)) run.bytes (own (place_of role) ms) now event node.disks missed
 
 -- the message of the last packet that an end took is none that the node answers by the rules
 pub record IsUnheard {N : Type 0} (node : NodeState) (s : Seated N) : Type 0 where
@@ -173,27 +177,35 @@ pub record IsUnheard {N : Type 0} (node : NodeState) (s : Seated N) : Type 0 whe
   pub unheard : may_hear s.plan node.place packet.message ≡ false
 
 -- why a fault was answered; want of memory is free
-abbrev pub IsCauseOf : {N : Type 0} → NodeState → Role → Seated N → List Moment → RunFault → Type 0
-IsCauseOf node role s ms fault.NoMemory = Unit {0}
-IsCauseOf node role s ms fault.Other = IsUnheard node s
-IsCauseOf node role s ms missed = IsBlamed node role s ms missed
+abbrev pub IsCauseOf : {N : Type 0} → NodeState → Run → Role → Seated N → List Moment → RunFault → Type 0
+IsCauseOf node run role s ms fault.NoMemory = Unit {0}
+IsCauseOf node run role s ms fault.Other = IsUnheard node s
+IsCauseOf node run role s ms missed = IsBlamed node run role s ms missed
 
 -- ---- the seat
 
--- while no call answered a fault: the counts are those of the moments, and the disks have the pick of the last restart
-pub record IsCalm {N : Type 0} (node : NodeState) (role : Role) (s : Seated N) (ms : List Moment) : Type 0 where
+-- each record of these own entries had a place
+abbrev pub HadPlaces : Role → (start : Extent) → (size : ℕ) → List Own → Type 0
+HadPlaces role start size [] = Unit {0}
+HadPlaces role start size (o ∷ os) = HadPlaces role start size os × EntryFits role start size os o
+
+-- While no call answered a fault: the counts are those of the moments, the journal stands where these leave it, and the disks have the pick
+-- of the last restart.
+pub record IsCalm {N : Type 0} (node : NodeState) (run : Run) (role : Role) (s : Seated N) (ms : List Moment) : Type 0 where
   pub restarted : s.restarts ≡ restarts ms
   pub turned : s.turns ≡ turns ms
+  pub lies : node.lies role (run.starts (place_of role)) run.bytes (own (place_of role) ms)
   pub picked : HaveLast (last_pick (own (place_of role) ms)) node.disks
 
 -- a node of a run, by its moments
-pub record KeepsRun {N : Type 0} (node : NodeState) (begin : ℕ) (role : Role) (s : Seated N) (ms : List Moment) : Type 0 where
+pub record KeepsRun {N : Type 0} (node : NodeState) (begin : ℕ) (run : Run) (role : Role) (s : Seated N) (ms : List Moment) : Type 0 where
   pub heard : (k : ℕ) (t : Taking) → slice_get s.takers k ≡ Some t → HeardAll s.fault s.stamp (received t.line.from ms) t.taken
   pub only : (from : Place) → NoneFrom from s.takers → received from ms ≡ []
   pub pushed : (k : ℕ) (end : Sending) → slice_get s.senders k ≡ Some end → PushedAll s.fault end.pushed (sent_to end.line.to ms)
   pub runs : RunsAlone s.plan.stops begin (place_of role) ms
-  pub calm : s.fault ≡ None → IsCalm node role s ms
-  pub cause : IfSome s.fault (IsCauseOf node role s ms)
+  pub fits : HadPlaces role (run.starts (place_of role)) run.bytes (own (place_of role) ms)
+  pub calm : s.fault ≡ None → IsCalm node run role s ms
+  pub cause : IfSome s.fault (IsCauseOf node run role s ms)
 
 -- the seat of a node of a run, whatever its disks tell
 pub record IsRunning {N : Type 0} (node : NodeState) (past : Past) (run : Run) (s : Seated N) : Type 0 where
@@ -203,13 +215,13 @@ pub record IsRunning {N : Type 0} (node : NodeState) (past : Past) (run : Run) (
 
 -- A node with its trace has a role, and keeps some moments, in a run with its links; where it has disks, this is said where they tell
 -- their bytes.
-abbrev pub KeepsSome : {N : Type 0} → NodeState → World → Past → Seated N → Type 0
-KeepsSome node w past s =
+abbrev pub KeepsSome : {N : Type 0} → NodeState → World → Past → Run → Seated N → Type 0
+KeepsSome node w past run s =
     (role : Role) × (role_at w past (place_of role) ≡ Some role)
-    × ((has_disks role ≡ true → AreTold node.disks)
-    → (ms : List Moment) × Keeps node s.trace role ms × (s.runs ≡ true → KeepsRun node (start past.sessions) role s ms))
+    × ((have_disks node.place ≡ true → AreTold node.disks)
+    → (ms : List Moment) × Keeps node s.trace role ms × (s.runs ≡ true → KeepsRun node (start past.sessions) run role s ms))
 
 -- what the type of a seat keeps
 pub record IsSeat {N : Type 0} (node : NodeState) (w : World) (past : Past) (run : Run) (s : Seated N) : Type 0 where
   pub runs : s.runs ≡ true → IsRunning node past run s
-  pub keeps : KeepsSome node w past s
+  pub keeps : KeepsSome node w past run s

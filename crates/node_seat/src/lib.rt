@@ -7,6 +7,7 @@ pub mod faults;
 mod hearing;
 pub mod names;
 mod offering;
+pub mod places;
 pub mod plans;
 mod reacting;
 pub mod seats;
@@ -16,6 +17,7 @@ pub mod turned;
 
 pub use faults::{RunFault, open_fault};
 pub use names::RunName;
+pub use places::is_same;
 pub use plans::Plan;
 pub use seats::Seat;
 pub use turned::Turned;

@@ -1,25 +1,12 @@
 //! The ends of links that send.
 ghost use Rattle.std.specs.Prelude.{◌≡◌, ◌<◌, ◌^◌, ◌-◌};
-ghost use Rattle.history_rules.specs.Histories as rules;
 ghost use Rattle.node_seat.specs.Ends.{CanCount, GoApart, HaveOffered, HaveSent, WasOffered};
 
+use crate::places::is_same;
 use frame_codec::Packet;
 use link_queue::SendSeat;
 use seata_types::Place;
 use std::sync::Wait;
-
-/// Whether two places are one.
-fn is_same(one: Place, other: Place) -> bool
-    ensures { result ≡ rules.same_place one other }
-{
-    match (one, other) {
-        (Place::Net, Place::Net) => true,
-        (Place::Tc, Place::Tc) => true,
-        (Place::Res(m), Place::Res(n)) => m == n,
-        (Place::Man(m), Place::Man(n)) => m == n,
-        _ => false,
-    }
-}
 
 /// Pushes a packet. Where the link is full the packet is lost.
 fn hand_over<R: Wait>(rt: &R, sender: &mut SendSeat, packet: Packet)

@@ -1,5 +1,5 @@
 //! A seat: a node with its trace and the ends of its links, whose type keeps that the trace is legal for the node alone, that
-//! the node is what it replays to, and in a run, what went over the links.
+//! the node is what it replays to, and in a run, what went over the links and where the node's journal stands.
 use crate::entering::enter;
 use crate::faults::RunFault;
 use crate::names::RunName;
@@ -40,7 +40,7 @@ impl<N: Node, K: RunName> Seat<N, K> {
     ghost use Rattle.std.specs.Prelude.{◌≡◌, [], true, OnOk};
     ghost use Rattle.node_seat.specs.Entering.{HasEntered};
     ghost use Rattle.node_seat.specs.Keeping.{IsFresh, MayEnter};
-    ghost use Rattle.node_seat.specs.Running.{AreApart, AreUnused, CanServe, IsOfRun, IsSeat};
+    ghost use Rattle.node_seat.specs.Running.{AreApart, AreUnused, CanServe, IsFreshIn, IsOfRun, IsSeat};
     ghost use Rattle.node_seat.specs.Seating.{new_seat, traced_of};
     ghost use Rattle.node_seat.specs.Turns.{AnswersBegin, AnswersTurn, HasDisksToStop, IsUnmoved, MayTurn};
 
@@ -72,7 +72,7 @@ impl<N: Node, K: RunName> Seat<N, K> {
         takers: List<TakeSeat>,
         senders: List<SendSeat>,
     ) -> Seat<N, K>
-        requires fresh { IsFresh K.world K.past (N.state node) }
+        requires fresh { IsFreshIn K.world K.past K.run (N.state node) }
         requires serves { CanServe plan (N.state node) }
         requires of_run { IsOfRun K.past K.run (N.state node) plan takers senders }
         requires apart { AreApart takers senders }

@@ -1,4 +1,5 @@
 mod DurableExamples
 pub mod DurableImages
-pub mod Places
+pub mod EndLaws
+mod EndExamples
 pub mod Served

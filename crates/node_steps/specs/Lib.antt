@@ -1,4 +1,5 @@
 pub mod Durable
+pub mod Ends
 pub mod Framing
 pub mod Nodes
 pub mod Promises

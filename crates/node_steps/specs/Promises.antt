@@ -1,12 +1,13 @@
 -- What the trait `Node` promises, in the words of the rules of all nodes.
-use Rattle.std.specs.Prelude.{◌≡◌, ◌⊎◌, ◌+◌, ◌≤◌, ℕ, Bool, true, false, IsSome, List, ◌∷◌, length, Option, Some, None, option_map, Result, Ok, Err}
+use Rattle.std.specs.Prelude.{◌≡◌, ◌⊎◌, ℕ, Bool, true, false, IsSome, List, ◌∷◌, length, Option, Some, None, Result, Ok, Err}
 use Rattle.disk_model.specs.Disk.{DiskState, SameKind, Rose}
-use Rattle.disk_journal.specs.declared.layout.TheConstants.{SHORTEST}
+use Rattle.journal_checkpoint.specs.Extents.{Extent}
 use Rattle.journal_checkpoint.specs.Images.{Pair}
-use Rattle.journal_checkpoint.specs.Ends.{EndAt, HasNoPlace}
+use Rattle.journal_checkpoint.specs.Ends.{HasNoPlace}
 use Rattle.seata_types.specs.declared.acts.Act.{Act}
 use Rattle.seata_types.specs.declared.acts.Act.TheVariants as act
 use Rattle.seata_types.specs.declared.acts.Durable.{Durable}
+use Rattle.seata_types.specs.declared.acts.Durable.TheVariants as durable
 use Rattle.seata_types.specs.declared.errors.Full.{Full}
 use Rattle.seata_types.specs.declared.errors.NodeError.{NodeError}
 use Rattle.seata_types.specs.declared.errors.NodeError.TheVariants as error
@@ -14,14 +15,13 @@ use Rattle.seata_types.specs.declared.errors.OpenError.{OpenError}
 use Rattle.seata_types.specs.declared.errors.OpenError.TheVariants as open_error
 use Rattle.seata_types.specs.declared.messages.Input.{Input}
 use Rattle.seata_types.specs.declared.messages.Step.{Step}
-use Rattle.session_log.specs.Records as session_bytes
-use Rattle.resource_log.specs.Records as resource_bytes
+use Rattle.resource_log.specs.Records.{record_bytes}
 use Rattle.history_rules.specs.Own.{Event, Given, Restarted, Own, still}
-use Rattle.history_rules.specs.Devices.{is_short}
-use Rattle.history_rules.specs.CoordinatorMemory.{session_asked}
-use Rattle.history_rules.specs.ResourceMemory.{memory, resource_asked, boot_over}
-use Rattle.history_rules.specs.Nodes.{Role, Coordinator, Resource, Manager, answer, happens, left_at}
+use Rattle.history_rules.specs.Devices.{is_short, kept_act}
+use Rattle.history_rules.specs.ResourceMemory.{boot_over}
+use Rattle.history_rules.specs.Nodes.{Role, Resource, answer, happens, left_at}
 use Rattle.node_steps.specs.Durable.{own_faults}
+use Rattle.node_steps.specs.Ends.{EntryFits, EntryOver}
 pub use Rattle.node_steps.specs.Nodes.{NodeState, place_of, has_disks, own_entry}
 
 -- the own entry of a step
@@ -63,17 +63,28 @@ pub record StaysItself (old new : NodeState) : Type 0 where
   pub first : SameKind old.disks.first new.disks.first
   pub second : SameKind old.disks.second new.disks.second
 
--- ---- what happens at a node. Each word is said of each role, and each list of own entries, that the node stands for.
+-- ---- what happens at a node. Each word is said of each role, and each list of own entries, that the node stands for; and of where its
+-- journal stood at the first opening, on disks of a size, if it lies by that.
 
 -- the node stands for all that it stood for
 abbrev pub StandsAsBefore : (old new : NodeState) → Type 0
 StandsAsBefore old new = (role : Role) (owns : List Own) → old.stands_for role owns → new.stands_for role owns
+
+-- its journal stands where it stood
+abbrev pub LiesAsBefore : (old new : NodeState) → Type 0
+LiesAsBefore old new = (role : Role) (start : Extent) (size : ℕ) (owns : List Own) → old.lies role start size owns → new.lies role start size owns
+
+-- the record of one more own entry, if it has one, had a place, and the journal stands where the entries leave it
+abbrev pub LiesWith : (old new : NodeState) → Role → List Own → Own → Type 0
+LiesWith old new role owns o =
+    (start : Extent) (size : ℕ) → old.lies role start size owns → EntryFits role start size owns o × new.lies role start size (o ∷ owns)
 
 -- the step is what happens by the rules, and the node then stands for the list with the step's own entry
 abbrev pub Does : (old new : NodeState) → Event → ℕ → Step → Type 0
 Does old new event now step =
     (role : Role) (owns : List Own) → old.stands_for role owns →
     (step ≡ happens role owns now false false event) × new.stands_for role (own_entry event now step ∷ owns)
+    × LiesWith old new role owns (own_entry event now step)
 
 -- the same of a turn, a message or a local transaction
 abbrev pub TakesStep : (old new : NodeState) → Input → ℕ → Step → Type 0
@@ -89,53 +100,21 @@ abbrev pub FailsAt : (old new : NodeState) → Input → ℕ → Durable → Typ
 FailsAt old new given now flight =
     (role : Role) (owns : List Own) → old.stands_for role owns →
     (cut flight ≡ happens role owns now true false (Given given)) × new.stands_for role (own_step given now (cut flight) ∷ owns)
-    × ((is_short (left_at role owns) ≡ true) ⊎ DisksFail old.disks new.disks)
-
--- ---- records that don't fit
-
--- the bytes of the record that the rule's answer asks for
-abbrev pub asked_bytes : Role → List Own → ℕ → Input → Option (List ℕ)
-asked_bytes (Coordinator times past) owns now given =
-    option_map session_bytes.record_bytes (session_asked (own_step given now (answer (Coordinator times past) owns now given)))
-asked_bytes (Resource setup past) owns now given =
-    option_map resource_bytes.record_bytes (resource_asked setup (memory setup past owns) (own_step given now (answer (Resource setup past) owns now given)))
-asked_bytes (Manager settings) owns now given = None
-
--- the record that the rule's answer asks for has no place behind those that the disks hold now, with both numbers
-abbrev pub Overflows : (old new : NodeState) → Input → ℕ → Full → Type 0
-Overflows old new given now full =
-    (role : Role) (owns : List Own) → old.stands_for role owns →
-    (bytes : List ℕ) × (asked_bytes role owns now given ≡ Some bytes) × HasNoPlace new.disks new.size (length bytes) full
-
--- ---- records that fit
-
--- A record with a body of so many bytes goes behind the records that two disks hold, up to the next gate: that is within a disk of this
--- size.
-pub record HasPlace (disks : Pair) (size body : ℕ) : Type 0 where
-  pub end : ℕ
-  pub held : EndAt disks end
-  pub within : end + body + SHORTEST ≤ size
-
--- the record that the rule's answer asks for, if it asks for one, has a place
-abbrev pub Fits : NodeState → Input → ℕ → Type 0
-Fits node given now =
-    (role : Role) (owns : List Own) → node.stands_for role owns →
-    (bytes : List ℕ) → asked_bytes role owns now given ≡ Some bytes → HasPlace node.disks node.size (length bytes)
-
--- it had one where the step was answered, and where the disks failed
-abbrev pub HadPlace : (old : NodeState) → Input → ℕ → Result Step NodeError → Type 0
-HadPlace old given now (Ok step) = Fits old given now
-HadPlace old given now (Err (error.Failed flight)) = Fits old given now
-HadPlace old given now (Err (error.Full full)) = Unit {0}
-HadPlace old given now (Err error.NoMemory) = Unit {0}
+    × ((is_short (left_at role owns) ≡ true) ⊎ DisksFail old.disks new.disks) × LiesWith old new role owns (own_step given now (cut flight))
 
 -- ---- a step without an answer
+
+-- the record of the rule's answer would end behind the disk's last byte, with both numbers
+abbrev pub Overflows : NodeState → Input → ℕ → Full → Type 0
+Overflows node given now full =
+    (role : Role) (start : Extent) (size : ℕ) (owns : List Own) → node.stands_for role owns → node.lies role start size owns →
+    EntryOver role start size owns (own_step given now (answer role owns now given)) full
 
 -- the disks failed; or the record doesn't fit, or memory was refused, and the node stands for all that it stood for
 abbrev pub AfterError : (old new : NodeState) → Input → ℕ → NodeError → Type 0
 AfterError old new given now (error.Failed flight) = FailsAt old new given now flight
-AfterError old new given now (error.Full full) = StandsAsBefore old new × Overflows old new given now full
-AfterError old new given now error.NoMemory = StandsAsBefore old new
+AfterError old new given now (error.Full full) = StandsAsBefore old new × LiesAsBefore old new × Overflows old given now full
+AfterError old new given now error.NoMemory = StandsAsBefore old new × LiesAsBefore old new
 
 -- whether the step made an own entry, and whether it took the node down
 abbrev pub steps_of : Result Step NodeError → ℕ
@@ -156,26 +135,40 @@ Restarts old new pick calls now done =
     (role : Role) (owns : List Own) → old.stands_for role owns →
     (fault : Bool) × (keeps : Bool) × (still done ≡ happens role owns now fault keeps (Restarted pick calls))
     × new.stands_for role (own_entry (Restarted pick calls) now (still done) ∷ owns) × (fault ≡ true → DisksFail old.disks new.disks)
+    × LiesWith old new role owns (own_entry (Restarted pick calls) now (still done))
 
 -- the node is down after a restart
 abbrev pub stays_down : Result Act OpenError → Bool
 stays_down (Ok (act.Restarted kept)) = false
 stays_down _ = true
 
--- a boot, whose bytes are as many for each number, has no place behind the records that the disks hold
-abbrev pub BootOverflows : Role → (disks : Pair) → (size : ℕ) → Full → Type 0
-BootOverflows (Resource setup past) disks size full = HasNoPlace disks size (length (resource_bytes.record_bytes (boot_over past))) full
-BootOverflows _ disks size full = ⊥
+-- the entry of a restart whose boot fails, with what it keeps
+abbrev pub boot_failed : Role → List Own → ℕ → (pick : ℕ) → (calls : Option ℕ) → (keeps : Bool) → Own
+boot_failed role owns now pick calls keeps = own_entry (Restarted pick calls) now (still (act.Down (kept_act keeps owns (left_at role owns)) (Some durable.Boot)))
 
--- why a restart ended in an error: a fault of its disks, a boot that doesn't fit, or want of memory, which is free; bytes
--- that the node stands for are never damaged
-abbrev pub IsRestartError : Role → (old new : NodeState) → OpenError → Type 0
-IsRestartError role old new open_error.Failed = DisksFail old.disks new.disks
-IsRestartError role old new (open_error.Damaged second at) = ⊥
-IsRestartError role old new (open_error.Full full) = BootOverflows role new.disks new.size full
-IsRestartError role old new open_error.NoMemory = Unit {0}
+-- the boot of a restart would end behind the disk's last byte, by what it keeps
+abbrev pub BootOverflows : NodeState → Role → List Own → ℕ → (pick : ℕ) → (calls : Option ℕ) → Full → Type 0
+BootOverflows node role owns now pick calls full =
+    (start : Extent) (size : ℕ) → node.lies role start size owns → (keeps : Bool) × EntryOver role start size owns (boot_failed role owns now pick calls keeps) full
 
--- it gave no node that is up, and the node stands for all that it stood for
-abbrev pub FailsRestart : (old new : NodeState) → OpenError → Type 0
-FailsRestart old new error =
-    (role : Role) (owns : List Own) → old.stands_for role owns → new.stands_for role owns × IsRestartError role old new error
+-- a boot, whose bytes are as many for each number, has no place behind the records that the disks hold, on a disk of this size
+abbrev pub BootHasNoPlace : Role → (disks : Pair) → (size : ℕ) → Full → Type 0
+BootHasNoPlace (Resource setup past) disks size full = HasNoPlace disks size (length (record_bytes (boot_over past))) full
+BootHasNoPlace _ disks size full = ⊥
+
+-- on one of these two
+abbrev pub HasNoBootPlace : Role → (disks : Pair) → Full → Type 0
+HasNoBootPlace role disks full = BootHasNoPlace role disks disks.first.size full ⊎ BootHasNoPlace role disks disks.second.size full
+
+module _ (old new : NodeState) (pick : ℕ) (calls : Option ℕ) (now : ℕ) where
+  -- why a restart ended in an error: a fault of its disks, a boot that doesn't fit, or want of memory, which is free; bytes that the node
+  -- stands for are never damaged
+  abbrev pub IsRestartError : Role → List Own → OpenError → Type 0
+  IsRestartError role owns open_error.Failed = DisksFail old.disks new.disks
+  IsRestartError role owns (open_error.Damaged second at) = ⊥
+  IsRestartError role owns (open_error.Full full) = BootOverflows old role owns now pick calls full × HasNoBootPlace role new.disks full
+  IsRestartError role owns open_error.NoMemory = Unit {0}
+
+  -- it gave no node that is up, and the node stands for all that it stood for; of where its journal stands nothing is said
+  abbrev pub FailsRestart : OpenError → Type 0
+  FailsRestart error = (role : Role) (owns : List Own) → old.stands_for role owns → new.stands_for role owns × IsRestartError role owns error

@@ -3,8 +3,9 @@ use seata_types::{Act, Input, NodeError, OpenError, Place, Step};
 use std::alloc::Global;
 
 /// A node. It keeps no history: what it promises is said of each role, with the records that its disks had before, and of each
-/// list of own entries, newest first, that it stands for. A node just opened stands for the empty list. A manager has no
-/// disk and is never down; what `arm`, `crash` and `restart` promise is said of a node with disks.
+/// list of own entries, newest first, that it stands for. A node just opened stands for the empty list, and lies where its
+/// journal stood. A manager has no disk and is never down; what `arm`, `crash` and `restart` promise is said of a node with
+/// disks.
 pub trait Node {
     ghost use Rattle.std.specs.Prelude.{◌≡◌, ◌+◌, ◌^◌, ◌<◌, ◌≤◌, ℕ, None, true, false, IfOk, IfErr, OnOk, Err};
     ghost use Rattle.seata_types.specs.declared.limits.TheConstants.{LATEST_MOMENT};
@@ -14,9 +15,10 @@ pub trait Node {
     ghost use Rattle.node_steps.specs.Durable.{SamePicks, HavePick};
     ghost use Rattle.node_steps.specs.Framing.{ComesFramable, SendsFramable};
     ghost use Rattle.node_steps.specs.Nodes.{NodeState, IsLawful};
-    ghost use Rattle.node_steps.specs.Promises.{AreTold, DisksFail, StaysItself, Does, TakesStep, AfterError, HadPlace, steps_of, goes_down, Restarts, FailsRestart, stays_down};
+    ghost use Rattle.node_steps.specs.Promises.{AreTold, DisksFail, StaysItself, Does, TakesStep, AfterError, steps_of, goes_down, Restarts, FailsRestart, stays_down};
 
-    /// What it stands for, where it stands, which inputs it serves, how many steps are left, whether it is down, and its disks.
+    /// What it stands for and lies by, where it stands, which inputs it serves, how many steps are left, whether it is down, and
+    /// its disks.
     ghost state: { Self → NodeState };
 
     /// Where it stands.
@@ -24,8 +26,8 @@ pub trait Node {
         ensures { result ≡ (state self.now).place };
 
     /// Takes a turn, a message or a local transaction, at this moment in ticks: what happens by the rules of all nodes. After
-    /// want of memory and `Full` the node is as before; after `Failed` it is down with the act in flight. A step that is
-    /// answered, and one at which the disks fail, asked for no record or for one that has a place behind those on them.
+    /// want of memory and `Full` the node is as before; after `Failed` it is down with the act in flight. `Full` comes exactly
+    /// where the record that it asks for would end behind the disk's last byte, by where its journal stands.
     fn step(&mut self, alloc: Global, input: Input, now: u64) -> Result<Step, NodeError>
         requires up { (state self.old).down ≡ false }
         requires able { 0 < (state self.old).left }
@@ -34,7 +36,6 @@ pub trait Node {
         ensures answers { IfOk result (TakesStep (state self.old) (state self.new) input now) }
         ensures framable { ComesFramable input → IfOk result SendsFramable }
         ensures after { IfErr result (AfterError (state self.old) (state self.new) input now) }
-        ensures room { HadPlace (state self.old) input now result }
         ensures same { StaysItself (state self.old) (state self.new) }
         ensures picks { SamePicks (state self.old).disks (state self.new).disks }
         ensures counted { (state self.new).left + steps_of result ≡ (state self.old).left }
@@ -85,7 +86,7 @@ pub trait Node {
         ensures restarts { AreTold (state self.old).disks →
             IfOk result (Restarts (state self.old) (state self.new) pick calls now) }
         ensures after { AreTold (state self.old).disks →
-            IfErr result (FailsRestart (state self.old) (state self.new)) }
+            IfErr result (FailsRestart (state self.old) (state self.new) pick calls now) }
         ensures picked { (state self.old).stops ≡ true → OnOk result (HavePick pick (state self.new).disks) }
         ensures failed { result ≡ Err OpenError.Failed →
             DisksFail (state self.old).disks (state self.new).disks }

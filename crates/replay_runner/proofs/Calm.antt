@@ -1,4 +1,4 @@
--- How a replay ends where neither the shelf nor a disk fails.
+-- How a replay or a run ends where neither the shelf nor a disk fails.
 use Rattle.std.proofs.Common.{inl, inr, ⊎_elim, IsTrue, ◌≡◌, ◌++◌, ℕ, zero, suc, Bool, List, [], ◌∷◌, map, Result, Ok, Err, refl, arith}
 use Rattle.disk_model.specs.Disk.{DiskState}
 use Rattle.disk_model.specs.Shelf.{ShelfState}
@@ -15,7 +15,8 @@ use Rattle.scenario_nodes.specs.Opening.{AreNotOpened, HaveCounted}
 use Rattle.scenario_nodes.specs.Shelves.{AllTell, AreGivenBack, IsDiskName, pair_of, second_name}
 use Rattle.scenario_nodes.specs.Together.{AreEach, IsOfOne}
 use Rattle.scenario_nodes.proofs.Returned.{still}
-use Rattle.replay_runner.specs.Leaving.{AreAllBack, CountsFailure, IsCalmEnd, IsCalmShelf, IsServerDisk, Replays, disks_in, nth_pair}
+use Rattle.journal_checkpoint.specs.Images.{Pair}
+use Rattle.replay_runner.specs.Leaving.{AreAllBack, CountsFailure, IsCalmEnd, IsCalmShelf, IsServerDisk, Leaves, Showing, UsesShelf, disks_in, nth_pair}
 use Rattle.replay_runner.proofs.Servers.{of_server}
 
 module _ {D : Type 0} (state : D → DiskState) (s : Scenario) (old new : ShelfState D) (calm : IsCalmShelf state s old new) (told : IsTrue new.tells) where
@@ -40,7 +41,7 @@ module _ {D : Type 0} (state : D → DiskState) (s : Scenario) (old new : ShelfS
   none_at disks back (place.Res k) = none_of (server_names s) disks (λ n o. o) back k
   none_at disks back (place.Man k) = refl
 
-  -- no disk failed while the schedule was played
+  -- no disk failed while the nodes went on
   not_played : (disks : List (D × D)) → AreAllBack new s disks → (q : Place) → CountsFailure (map (pair_of state) disks) (Err (fault.Store q)) → ⊥
   not_played disks back q counted = let none = none_at disks back q in omega (arith, counted, none)
 
@@ -63,13 +64,23 @@ module _ {D : Type 0} (state : D → DiskState) (all : AllTell state) (bytes : �
   not_other (inl t) = ⊎_elim (λ n. n.cause) (λ b. b.shows.cause all) t.refused
   not_other (inr t) = (t.refused.unopened all).cause
 
-pub ends_calmly : {D : Type 0} (state : D → DiskState) (s : Scenario) (old new : ShelfState D) (result : Result (List Entry) RunFault) → new.tells ≡ old.tells → Replays state old new s result → IsCalmShelf state s old new → IsCalmEnd result
-ends_calmly state s old new (Ok es) same r calm = tt
-ends_calmly state s old new (Err (fault.Full q full)) same r calm = tt
-ends_calmly state s old new (Err fault.NoMemory) same r calm = tt
-ends_calmly state s old new (Err (fault.Store q)) same (inl g) calm = not_played state s old new calm (still old.tells new.tells same calm.tells) g.disks g.back q g.counted
-ends_calmly state s old new (Err (fault.Store q)) same (inr t) calm = not_opened state s old new calm (still old.tells new.tells same calm.tells) q t
-ends_calmly state s old new (Err (fault.Damaged q second offset)) same (inl g) calm = (g.leaves calm.told).cause.blames
-ends_calmly state s old new (Err (fault.Damaged q second offset)) same (inr t) calm = not_damaged state calm.told s.disk (servers_of s) old new q second offset t
-ends_calmly state s old new (Err fault.Other) same (inl g) calm = (g.leaves calm.told).cause.blames
-ends_calmly state s old new (Err fault.Other) same (inr t) calm = not_other state calm.told s.disk (servers_of s) old new t
+-- what disks show once the nodes went on isn't damage, nor another scenario
+pub record NeverDamaged (Shows : Showing) : Type 1 where
+  pub damaged : (disks : List Pair) (q : Place) (second : Bool) (offset : ℕ) → Shows disks (Err (fault.Damaged q second offset)) → ⊥
+  pub other : (disks : List Pair) → Shows disks (Err fault.Other) → ⊥
+
+module _ {D : Type 0} (Shows : Showing) (never : NeverDamaged Shows) (state : D → DiskState) (s : Scenario) (old new : ShelfState D) where
+  pub ends_calmly : (result : Result (List Entry) RunFault) → new.tells ≡ old.tells → UsesShelf Shows state old new s result → IsCalmShelf state s old new → IsCalmEnd result
+  ends_calmly (Ok es) same r calm = tt
+  ends_calmly (Err (fault.Full q full)) same r calm = tt
+  ends_calmly (Err fault.NoMemory) same r calm = tt
+  ends_calmly (Err (fault.Store q)) same (inl g) calm = not_played state s old new calm (still old.tells new.tells same calm.tells) g.disks g.back q g.counted
+  ends_calmly (Err (fault.Store q)) same (inr t) calm = not_opened state s old new calm (still old.tells new.tells same calm.tells) q t
+  ends_calmly (Err (fault.Damaged q second offset)) same (inl g) calm = never.damaged (map (pair_of state) g.disks) q second offset (g.leaves calm.told)
+  ends_calmly (Err (fault.Damaged q second offset)) same (inr t) calm = not_damaged state calm.told s.disk (servers_of s) old new q second offset t
+  ends_calmly (Err fault.Other) same (inl g) calm = never.other (map (pair_of state) g.disks) (g.leaves calm.told)
+  ends_calmly (Err fault.Other) same (inr t) calm = not_other state calm.told s.disk (servers_of s) old new t
+
+-- so of a replay
+pub never_damaged : (s : Scenario) → NeverDamaged (Leaves s)
+never_damaged s = record { damaged = λ disks q second offset b. b.cause.blames; other = λ disks b. b.cause.blames }

@@ -139,6 +139,7 @@ module _ {D K : Type 0} (state : D → DiskState) (old : Run D K) (kept : Messag
         slow = n.here.plays.slow;
         legal = n.here.plays.legal;
         follows = n.here.plays.follows;
+        fits = n.here.plays.fits;
       };
       short = n.here.short;
       item = n.here.item;

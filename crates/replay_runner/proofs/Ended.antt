@@ -1,6 +1,7 @@
 -- What an entry adds to a history, and how the replay ends where one isn't made.
 use Rattle.std.proofs.Common.{inl, inr, ◌≡◌, ◌⊎◌, ◌+◌, ◌≤◌, ℕ, List, ◌∷◌, length, slice_get, Option, Some, Err, refl, ap, sym, subst, ◌∙◌, arith}
 use Rattle.disk_model.specs.Disk.{DiskState}
+use Rattle.journal_checkpoint.specs.Extents.{blank}
 use Rattle.journal_checkpoint.specs.Images.{Pair}
 use Rattle.seata_types.specs.declared.ids.Place.{Place}
 use Rattle.seata_types.specs.declared.ids.Place.TheVariants as place
@@ -8,10 +9,12 @@ use Rattle.seata_types.specs.declared.messages.Input.{Input}
 use Rattle.seata_types.specs.declared.messages.Step.{Step}
 use Rattle.scenario_form.specs.declared.scenarios.Scenario.{Scenario}
 use Rattle.history_rules.specs.Own.{Event}
-use Rattle.history_rules.specs.Nodes.{Happens, no_past}
+use Rattle.history_rules.specs.Nodes.{Happens, Role, no_past, role_at}
 use Rattle.history_rules.specs.Histories.{Moment, HappensAt, IsDone, ReceivesLater, Stands, brings, own}
 use Rattle.history_rules.specs.Histories.{Cause as Reason}
 use Rattle.history_rules.specs.Schedules.{IsStep, singles}
+use Rattle.node_steps.specs.Ends.{EntryFits, MomentFits}
+use Rattle.node_steps.specs.Nodes.{own_entry}
 use Rattle.history_text.specs.declared.entries.Cause.{Cause}
 use Rattle.history_text.specs.Worlds.{items_of, world_of}
 use Rattle.node_seat.specs.Faults.{Blames}
@@ -40,6 +43,12 @@ module _ {D K : Type 0} (state : D → DiskState) (s : Scenario) (r : Run D K) (
     brought = brought;
     done = done;
   }
+
+-- what stands at a place has a place for its record
+fits_at : (s : Scenario) (ms : List Moment) (role : Role) (p : Place) (now : ℕ) (why : Reason) (event : Event) (step : Step) → role_at (world_of s) no_past p ≡ Some role
+    → EntryFits role blank s.disk (own p ms) (own_entry event now step)
+    → MomentFits (role_at (world_of s) no_past p) (Some event) blank s.disk (own p ms) (next ms p now why (Some event) step)
+fits_at s ms role p now why event step there fits = subst (λ (o : Option Role). MomentFits o (Some event) blank s.disk (own p ms) (next ms p now why (Some event) step)) (sym there) fits
 
 -- a cause that stops the replay
 cause_is : (s : Scenario) (ms : List Moment) (disks : Place → Pair) (missed : RunFault) → StopsAt s ms disks missed → IsCause s ms disks missed
@@ -70,6 +79,11 @@ module _ {D K : Type 0} (state : D → DiskState) (r : Run D K) (p : Place) (pri
       subst (IsStep (world_of b.here.s) no_past history (moment_made state r p printed given b step)) (sym is_item)
       (refl, (let now_is = b.here.plays.clocked in let still = b.still in omega (arith, now_is, still)), sym b.names)
 
+  -- its record had a place
+  pub fits_next : (step : Step) → EntryFits b.role blank b.here.s.disk (own p history) (own_entry b.event r.clock step)
+      → MomentFits (role_at (world_of b.here.s) no_past p) (Some b.event) blank b.here.s.disk (own p history) (moment_made state r p printed given b step)
+  fits_next step fits = fits_at b.here.s history b.role p r.clock b.why b.event step b.there fits
+
   next_event : IsNextEvent b.here.s history p r.clock b.event
   next_event = record {
     item = b.here.item;
@@ -98,9 +112,9 @@ module _ {D K : Type 0} (state : D → DiskState) (r : Run D K) (p : Place) (pri
 
   -- no entry was made
   ends_here : (new : Run D K) (missed : RunFault) → Unmade state b.here.s new.nodes history p b.role r.clock b.event missed → Ends state b.here.s new missed
-  ends_here new missed u = record { history = history; legal = b.here.plays.legal; follows = b.here.plays.follows; stands = u.stands; cause = by u.cause }
+  ends_here new missed u = record { history = history; legal = b.here.plays.legal; follows = b.here.plays.follows; fits = b.here.plays.fits; stands = u.stands; cause = by u.cause }
     where
-      by : (missed ≡ fault.NoMemory) ⊎ Blames p b.role (own p history) r.clock b.event (disks_at state new.nodes p) b.here.s.disk missed → IsCause b.here.s history (disks_at state new.nodes) missed
+      by : (missed ≡ fault.NoMemory) ⊎ Blames p b.role blank b.here.s.disk (own p history) r.clock b.event (disks_at state new.nodes p) missed → IsCause b.here.s history (disks_at state new.nodes) missed
       by (inl is) = memory_ends b.here.s history (disks_at state new.nodes) missed is
       by (inr blames) = cause_is b.here.s history (disks_at state new.nodes) missed (record {
         at = p;
@@ -113,12 +127,14 @@ module _ {D K : Type 0} (state : D → DiskState) (r : Run D K) (p : Place) (pri
       })
 
   -- one was made, and memory was refused
-  pub ends_later : (new : Run D K) (missed : RunFault) (step : Step) → Happens b.role (own p history) r.clock b.event step → AllStand state b.here.s new.nodes (moment_made state r p printed given b step ∷ history)
+  pub ends_later : (new : Run D K) (missed : RunFault) (step : Step) → Happens b.role (own p history) r.clock b.event step → EntryFits b.role blank b.here.s.disk (own p history) (own_entry b.event r.clock step)
+      → AllStand state b.here.s new.nodes (moment_made state r p printed given b step ∷ history)
       → missed ≡ fault.NoMemory → Ends state b.here.s new missed
-  ends_later new missed step happens stands is = record {
+  ends_later new missed step happens fits stands is = record {
     history = moment_made state r p printed given b step ∷ history;
     legal = (b.here.plays.legal, stands_next step happens);
     follows = (b.here.plays.follows, is_step_next step);
+    fits = (b.here.plays.fits, fits_next step fits);
     stands = stands;
     cause = memory_ends b.here.s (moment_made state r p printed given b step ∷ history) (disks_at state new.nodes) missed is;
   }
@@ -127,4 +143,4 @@ module _ {D K : Type 0} (state : D → DiskState) (r : Run D K) (p : Place) (pri
   pub ends_unentered : (new : Run D K) (missed : RunFault) (stamp : ℕ) (is : stamp ≡ length r.places.items + 1) → Entered state r.nodes new.nodes stamp r.clock p printed given (among_nodes stamp is) (Err missed)
       → Ends state b.here.s new missed
   ends_unentered new missed stamp is (inl u) = ends_here new missed u
-  ends_unentered new missed stamp is (inr u) = ends_later new missed u.step u.happens u.stands u.memory
+  ends_unentered new missed stamp is (inr u) = ends_later new missed u.step u.happens u.fits u.stands u.memory

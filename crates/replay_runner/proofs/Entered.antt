@@ -5,6 +5,7 @@ use Rattle.std.proofs.lemmas.Option.{same_Some}
 use Rattle.std.specs.Prelude.{Vec}
 use Rattle.std.specs.declared.alloc.Global.{Global}
 use Rattle.disk_model.specs.Disk.{DiskState}
+use Rattle.journal_checkpoint.specs.Extents.{blank}
 use Rattle.seata_types.specs.declared.ids.Place.{Place}
 use Rattle.seata_types.specs.declared.ids.Place.TheVariants as place
 use Rattle.seata_types.specs.declared.messages.Step.{Step}
@@ -102,6 +103,7 @@ module _ {N K : Type 0} (state : N → NodeState) (p : Place) (role : Role) (byt
   pub server_stays : (member : Member N K) (ms : List Moment) (m : Moment) → same_place p m.place ≡ false → IsServer state p role bytes member ms → IsServer state p role bytes member (m ∷ ms)
   server_stays member ms m away k = record {
     member = member_stays state p role member ms m away k.member;
+    lies = subst ((state member.seat.node).lies role blank bytes) (sym (own_there p m ms away)) k.lies;
     told = k.told;
     picked = subst (λ os. HaveLast (last_pick os) (state member.seat.node).disks) (sym (own_there p m ms away)) k.picked;
     sized = k.sized;
@@ -114,6 +116,7 @@ module _ {N K : Type 0} (state : N → NodeState) (p : Place) (role : Role) (byt
       let told = told_all (state old.seat.node).disks event k.told in
       record {
         member = member_enters state p role old new ms now why event step letter k.member here told e;
+        lies = subst ((state new.seat.node).lies role blank bytes) (sym (own_next p ms now why event step)) (e.does.lies told role (own p ms) k.member.stands blank bytes k.lies).1;
         told = record { first = same.first.tells_images ∙ k.told.first; second = same.second.tells_images ∙ k.told.second };
         picked = subst (λ os. HaveLast (last_pick os) (state new.seat.node).disks) (sym (own_next p ms now why event step)) (e.does.picked told role (own p ms) k.member.stands k.picked);
         sized = record { first = same.first.size ∙ k.sized.first; second = same.second.size ∙ k.sized.second };

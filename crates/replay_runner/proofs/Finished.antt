@@ -3,6 +3,7 @@ use Rattle.std.proofs.Common.{inl, inr, ◌≡◌, ◌+◌, ◌≤◌, ◌<◌, 
 use Rattle.std.proofs.lemmas.Option.{slice_get_within}
 use Rattle.disk_model.specs.Disk.{DiskState}
 use Rattle.disk_model.specs.Shelf.{ShelfState}
+use Rattle.journal_checkpoint.specs.Extents.{blank}
 use Rattle.scenario_form.specs.declared.scenarios.Scenario.{Scenario}
 use Rattle.scenario_form.specs.Runnable.{IsRunnable}
 use Rattle.history_rules.specs.Nodes.{World, no_past}
@@ -22,7 +23,7 @@ use Rattle.scenario_nodes.proofs.Together.{have_still, none_taken, returned_all}
 use Rattle.replay_runner.specs.declared.runs.Run.{Run}
 use Rattle.replay_runner.specs.Collecting.{AreTraces, trace_of}
 use Rattle.replay_runner.specs.Ends.{HaveCountedAt, IsCause, StopsAt}
-use Rattle.replay_runner.specs.Leaving.{Broken, Completed, CountsFailure, IsServerDisk, disks_in}
+use Rattle.replay_runner.specs.Leaving.{Broken, Completed, CountsFailure, IsServerDisk, Leaves, Showing, disks_in}
 use Rattle.replay_runner.specs.OnShelves.{Closes, OpensNodes, RunsOn}
 use Rattle.replay_runner.specs.Opened.{node_disks}
 use Rattle.replay_runner.specs.Plays.{Ends, HasPlayed, Plays}
@@ -35,7 +36,7 @@ use Rattle.replay_runner.proofs.Gathered.{gathered}
 use Rattle.replay_runner.proofs.Lists.{drop_all}
 use Rattle.replay_runner.proofs.Safe.{run_is_safe}
 use Rattle.replay_runner.proofs.Servers.{none_asked}
-use Rattle.replay_runner.proofs.Shown.{all_disks, all_left, all_show, all_sized, all_stand, alike_in, count_disks}
+use Rattle.replay_runner.proofs.Shown.{all_disks, all_laid, all_left, all_show, all_sized, all_stand, alike_in, count_disks}
 
 -- ---- a whole schedule
 
@@ -59,8 +60,8 @@ module _ {D K : Type 0} (state : D → DiskState) (s : Scenario) (r : Run D K) w
     now = t.now;
     event = t.event;
     is_next = t.is_next;
-    blames = blames_alike (disks_at state r.nodes t.at) (disks_in (all_disks state r.nodes) t.at) (alike_in state s r.nodes t.at t.role (own t.at ms) (stand t.at t.role t.there)) s.disk
-        t.at t.role (own t.at ms) t.now t.event missed t.blames;
+    blames = blames_alike (disks_at state r.nodes t.at) (disks_in (all_disks state r.nodes) t.at) (alike_in state s r.nodes t.at t.role (own t.at ms) (stand t.at t.role t.there)) t.role blank s.disk
+        (own t.at ms) t.at t.now t.event missed t.blames;
   }
 
   cause_left : (ms : List Moment) (missed : RunFault) → AllStand state s r.nodes ms → IsCause s ms (disks_at state r.nodes) missed → IsCause s ms (disks_in (all_disks state r.nodes)) missed
@@ -80,6 +81,7 @@ module _ {D K : Type 0} (state : D → DiskState) (s : Scenario) (r : Run D K) w
       legal = e.legal;
       safe = run_is_safe s e.history runs e.legal;
       follows = e.follows;
+      fits = e.fits;
       count = count_left;
       device = all_show state s r.nodes e.history e.stands;
       sized = all_sized state s r.nodes count e.history e.stands;
@@ -96,7 +98,9 @@ module _ {D K : Type 0} (state : D → DiskState) (s : Scenario) (r : Run D K) w
       };
       safe = run_is_safe s ms runs t.legal;
       printed = printed;
+      fits = t.fits;
       device = all_left state s r.nodes ms t.nodes;
+      laid = all_laid state s r.nodes ms t.nodes;
       sized = all_sized state s r.nodes count ms (all_stand state s r.nodes ms t.nodes);
     }
 
@@ -107,6 +111,7 @@ module _ {D K : Type 0} (state : D → DiskState) (s : Scenario) (r : Run D K) w
       legal = t.legal;
       safe = run_is_safe s ms runs t.legal;
       follows = t.follows;
+      fits = t.fits;
       count = count_left;
       device = all_show state s r.nodes ms (all_stand state s r.nodes ms t.nodes);
       sized = all_sized state s r.nodes count ms (all_stand state s r.nodes ms t.nodes);
@@ -117,7 +122,7 @@ module _ {D K : Type 0} (state : D → DiskState) (s : Scenario) (r : Run D K) w
 
     module _ (old new : ShelfState D) (gives : GivesDisks (server_names s) (node_disks r.nodes) old new) where
       pub ended : (played : Result (Unit {0}) RunFault) (missed : RunFault) → played ≡ Err missed → (AllTell state → HasPlayed state s r [] played)
-          → IfErr played (HaveCountedAt (disks_at state r.nodes)) → Closes state s old new (Err missed)
+          → IfErr played (HaveCountedAt (disks_at state r.nodes)) → Closes (Leaves s) state s old new (Err missed)
       ended (Ok u) missed e has counted = absurd (let no : Ok u ≡ Err missed = e in cc)
       ended (Err why) missed e has counted =
           let same : why ≡ missed = let is : Err why ≡ Err missed = e in cc in
@@ -129,37 +134,37 @@ module _ {D K : Type 0} (state : D → DiskState) (s : Scenario) (r : Run D K) w
           }
 
       pub finished : (played : Result (Unit {0}) RunFault) (u : Unit {0}) → played ≡ Ok u → (AllTell state → HasPlayed state s r [] played) → (es : List Entry)
-          → ((ms : List Moment) → r.places.items ≡ places_of ms → AreTraces (trace_of r.network.items r.nodes) ms → es ≡ entries ms) → Closes state s old new (Ok es)
+          → ((ms : List Moment) → r.places.items ≡ places_of ms → AreTraces (trace_of r.network.items r.nodes) ms → es ≡ entries ms) → Closes (Leaves s) state s old new (Ok es)
       finished (Err missed) u e has es collected = absurd (let no : Err missed ≡ Ok u = e in cc)
       finished (Ok v) u e has es collected = record { disks = node_disks r.nodes; gives = gives; counted = tt; leaves = λ all. whole (has all) }
         where
           whole : HasPlayed state s r [] (Ok v) → Completed s (all_disks state r.nodes) es
           whole (ms, plays, left) = done ms plays left es (collected ms plays.standing (gathered state s r.network.items r.nodes ms plays.nodes plays.passed plays.legal))
 
-      pub unfinished : (played : Result (Unit {0}) RunFault) (u : Unit {0}) → played ≡ Ok u → (AllTell state → HasPlayed state s r [] played) → Closes state s old new (Err fault.NoMemory)
+      pub unfinished : (played : Result (Unit {0}) RunFault) (u : Unit {0}) → played ≡ Ok u → (AllTell state → HasPlayed state s r [] played) → Closes (Leaves s) state s old new (Err fault.NoMemory)
       unfinished (Err missed) u e has = absurd (let no : Err missed ≡ Ok u = e in cc)
       unfinished (Ok v) u e has = record { disks = node_disks r.nodes; gives = gives; counted = tt; leaves = λ all. whole (has all) }
         where
           whole : HasPlayed state s r [] (Ok v) → Broken s (all_disks state r.nodes) fault.NoMemory
           whole (ms, plays, left) = uncollected ms plays
 
--- ---- a whole replay
+-- ---- a whole replay or run
 
-module _ {D : Type 0} (state : D → DiskState) (s : Scenario) where
+module _ {D : Type 0} (Shows : Showing) (state : D → DiskState) (s : Scenario) where
   -- memory was refused before any disk was asked for
-  pub unasked : (shelf : ShelfState D) → RunsOn state s shelf shelf (Err fault.NoMemory)
+  pub unasked : (shelf : ShelfState D) → RunsOn Shows state s shelf shelf (Err fault.NoMemory)
   unasked shelf =
       let none = none_taken {A = Unit {0}} (server_names s) shelf fault.NoMemory in
-      record { replays = inr (none_asked state s shelf); returned = none.returned; keeps = none.keeps }
+      record { uses = inr (none_asked state s shelf); returned = none.returned; keeps = none.keeps }
 
   -- the nodes weren't opened
-  pub unopened : {K : Type 0} (old new : ShelfState D) (missed : RunFault) → OpensNodes {K = K} state s old new (Err missed) → RunsOn state s old new (Err missed)
-  unopened old new missed o = record { replays = inr o.refused; returned = o.shelf.returned; keeps = o.shelf.keeps }
+  pub unopened : {K : Type 0} (old new : ShelfState D) (missed : RunFault) → OpensNodes {K = K} state s old new (Err missed) → RunsOn Shows state s old new (Err missed)
+  unopened old new missed o = record { uses = inr o.refused; returned = o.shelf.returned; keeps = o.shelf.keeps }
 
-  -- they were, and the schedule was played
-  pub played_on : (old mid new : ShelfState D) (result : Result (List Entry) RunFault) → Takes (server_names s) old mid → Closes state s mid new result → RunsOn state s old new result
+  -- they were, and went on
+  pub played_on : (old mid new : ShelfState D) (result : Result (List Entry) RunFault) → Takes (server_names s) old mid → Closes Shows state s mid new result → RunsOn Shows state s old new result
   played_on old mid new result takes c = record {
-    replays = inl (record {
+    uses = inl (record {
       disks = c.disks;
       taken = have_still mid new (server_names s) (λ n. (c.gives.places n).1) takes.both;
       back = c.gives.back;

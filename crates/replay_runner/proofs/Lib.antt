@@ -1,13 +1,12 @@
-mod Lists
-mod Counted
+pub mod Lists
+pub mod Counted
 mod Printed
 mod Histories
 mod Waiting
-mod Roles
+pub mod Roles
 mod Locals
-mod Sizes
-mod Blamed
-mod Worlds
+pub mod Blamed
+pub mod Worlds
 mod Made
 mod Entered
 mod Entering
@@ -24,13 +23,14 @@ mod Fitting
 mod Playing
 mod Collected
 mod Gathered
-mod NewNodes
+pub mod NewNodes
 mod Unseated
-mod Shown
+pub mod Shown
 mod Failed
 mod Starting
-mod Servers
+pub mod Servers
 mod Modes
-mod Safe
-mod Finished
+pub mod Safe
+mod Exact
+pub mod Finished
 pub mod Calm

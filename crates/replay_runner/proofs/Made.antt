@@ -36,7 +36,7 @@ place_by state node = (state node).place
 module _ {N K : Type 0} (state : N → NodeState) (old new : Member N K) (stamp now : ℕ) (why : Cause) (event : Event) where
   pub made_err : (missed : RunFault) → IsEntered state (traced_of old.seat) (traced_of new.seat) stamp now why event (Err missed) → IsMade state old new stamp now why event (Err missed)
   made_err missed (inl e) = inl e
-  made_err missed (inr (is, step, e)) = inr (is, step, record { does = e.does; room = e.room; printed = e.printed; turned = tt; sent = tt })
+  made_err missed (inr (is, step, e)) = inr (is, step, record { does = e.does; printed = e.printed; turned = tt; sent = tt })
 
   pub made_ok : (packet : Option Sent) (letter : Option Letter) → IsEntered state (traced_of old.seat) (traced_of new.seat) stamp now why event (Ok packet) → new.turned ≡ turned_by why stamp old.turned
       → place_by state new.seat.node ≡ place_by state old.seat.node → letter ≡ letter_with (place_by state new.seat.node) (receiver_in new.seat.trace) packet → IsMade state old new stamp now why event (Ok letter)
@@ -45,7 +45,6 @@ module _ {N K : Type 0} (state : N → NodeState) (old new : Member N K) (stamp 
         step,
         record {
           does = e.does;
-          room = e.room;
           printed = e.printed;
           turned = turned;
           sent = is ∙ ap (λ p. letter_with p (receiver_in new.seat.trace) packet) same ∙ ap (λ t. letter_with at (receiver_in t) packet) e.printed

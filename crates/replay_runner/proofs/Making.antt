@@ -4,6 +4,7 @@ use Rattle.std.proofs.lemmas.Option.{same_Some}
 use Rattle.std.specs.Prelude.{Vec}
 use Rattle.std.specs.declared.alloc.Global.{Global}
 use Rattle.disk_model.specs.Disk.{DiskState}
+use Rattle.journal_checkpoint.specs.Extents.{Extent, blank}
 use Rattle.journal_checkpoint.specs.Images.{Pair}
 use Rattle.seata_types.specs.declared.ids.Place.{Place}
 use Rattle.seata_types.specs.declared.ids.Place.TheVariants as place
@@ -26,10 +27,10 @@ use Rattle.resource_core.specs.Shown as shown
 use Rattle.manager_core.specs.declared.nodes.Manager.{Manager}
 use Rattle.manager_core.specs.Standing as manager
 use Rattle.node_seat.specs.Entering.{IsTold, event_by}
-use Rattle.node_seat.specs.Faults.{Blames, EventFits}
+use Rattle.node_seat.specs.Faults.{Blames}
 use Rattle.node_seat.specs.declared.faults.RunFault.{RunFault}
 use Rattle.node_seat.specs.declared.faults.RunFault.TheVariants as fault
-use Rattle.node_seat.proofs.Kept.{told_all}
+use Rattle.node_seat.proofs.Kept.{lies_for, told_all}
 use Rattle.scenario_nodes.specs.Nodes.{HaveSize}
 use Rattle.replay_runner.specs.declared.members.Member.{Member}
 use Rattle.replay_runner.specs.declared.messages.Letter.{Letter}
@@ -41,40 +42,39 @@ use Rattle.replay_runner.specs.Standing.{AllStand, AreNodes, IsServer, disks_at,
 use Rattle.replay_runner.proofs.Entered.{member_enters, member_happens, member_stands, nodes_coordinator, nodes_manager, nodes_resource, own_there, server_enters, stand_coordinator, stand_manager, stand_resource, with_coordinator, with_managers, with_resources}
 use Rattle.replay_runner.proofs.Counted.{counted_set}
 use Rattle.replay_runner.proofs.Roles.{at_manager}
-use Rattle.replay_runner.proofs.Sizes.{size_coordinator, size_resource}
 
 -- why no entry was made at a place: want of memory, or what the node there is blamed for
 abbrev Missed : {D K : Type 0} → {state : D → DiskState} → {old : Nodes D K} → {stamp : ℕ} → {printed : Cause} → {given : Option Input} → (p : Place) (now : ℕ) → Comes state old stamp p printed given
     → (disks : Pair) → RunFault → Type 0
-Missed p now c disks missed = (missed ≡ fault.NoMemory) ⊎ Blames p c.role (own p c.ms) now c.event disks c.s.disk missed
+Missed p now c disks missed = (missed ≡ fault.NoMemory) ⊎ Blames p c.role blank c.s.disk (own p c.ms) now c.event disks missed
 
 -- ---- a node of any kind
 
 module _ {N D K : Type 0} (state : D → DiskState) (node_state : N → NodeState) (old new : Nodes D K) (before after : Member N K) (stamp now : ℕ) (p : Place) (printed : Cause) (given : Option Input)
-    (c : Comes state old stamp p printed given) (here : (node_state before.seat.node).place ≡ p) (stood : (node_state before.seat.node).stands_for c.role (own p c.ms)) (told : IsTold (node_state before.seat.node).disks c.event)
+    (c : Comes state old stamp p printed given) (here : (node_state before.seat.node).place ≡ p) (stood : (node_state before.seat.node).stands_for c.role (own p c.ms))
+    (lies : (node_state before.seat.node).lies c.role blank c.s.disk (own p c.ms)) (told : IsTold (node_state before.seat.node).disks c.event)
     (entered : (step : Step) (letter : Option Letter) → Makes node_state before after (length c.ms + 1) now (cause_of c.why) c.event step (Ok letter) → AreNodes state c.s new (moment_by p now c step ∷ c.ms))
     (stand : (os : List Moment) → ((q : Place) → same_place q p ≡ false → own q os ≡ own q c.ms) → (node_state after.seat.node).stands_for c.role (own p os) → AllStand state c.s new os)
-    (fits_by : EventFits (node_state before.seat.node).disks (node_state before.seat.node).size c.role (own p c.ms) now c.event → EventFits (disks_at state old p) c.s.disk c.role (own p c.ms) now c.event)
-    (missed_by : (missed : RunFault) → Blames p c.role (own p c.ms) now c.event (node_state after.seat.node).disks (node_state after.seat.node).size missed → Missed p now c (disks_at state new p) missed) where
+    (missed_by : (missed : RunFault) → Blames p c.role blank c.s.disk (own p c.ms) now c.event (node_state after.seat.node).disks missed → Missed p now c (disks_at state new p) missed) where
   entered_by : (r : Result (Option Letter) RunFault) → IsMade node_state before after (length c.ms + 1) now (cause_of c.why) c.event r → Entered state old new stamp now p printed given c r
   entered_by (Ok letter) (step, e) = record {
     step = step;
     happens = member_happens node_state p c.role before after c.ms now c.why c.event step (Ok letter) stood told e;
-    room = fits_by (e.room c.role (own p c.ms) stood);
+    fits = (e.does.lies told c.role (own p c.ms) stood blank c.s.disk lies).0;
     nodes = entered step letter e;
     sent = e.sent ∙ ap (λ q. option_map (letter_from q (length c.ms + 1)) step.sent) here;
   }
   entered_by (Err missed) (inl e) = inl (record {
     stands = stand c.ms (λ q away. refl) (e.misses.stands told c.role (own p c.ms) stood);
     cause = missed_by missed
-        (subst (λ q. Blames q c.role (own p c.ms) now c.event (node_state after.seat.node).disks (node_state after.seat.node).size missed) here
-        (e.misses.blames told c.role (own p c.ms) stood));
+        (subst (λ q. Blames q c.role blank c.s.disk (own p c.ms) now c.event (node_state after.seat.node).disks missed) here
+        (e.misses.blames told c.role blank c.s.disk (own p c.ms) stood (lies_for missed (node_state before.seat.node) c.role blank c.s.disk (own p c.ms) lies)));
   })
   entered_by (Err missed) (inr (is, step, e)) = inr (record {
     memory = is;
     step = step;
     happens = member_happens node_state p c.role before after c.ms now c.why c.event step (Err missed) stood told e;
-    room = fits_by (e.room c.role (own p c.ms) stood);
+    fits = (e.does.lies told c.role (own p c.ms) stood blank c.s.disk lies).0;
     stands = stand (moment_by p now c step ∷ c.ms) (λ q away. own_there q (moment_by p now c step) c.ms away)
         (member_stands node_state p c.role before after c.ms now c.why c.event step (Err missed) stood told e);
   })
@@ -97,12 +97,11 @@ module _ {D K : Type 0} (state : D → DiskState) (old : Nodes D K) (after : Mem
       let is : IsServer (coordinator.node_state state) place.Tc c.role c.s.disk old.coordinator c.ms = c.nodes.each place.Tc c.role c.there in
       let sized : HaveSize c.s.disk (coordinator.disks_of state after.seat.node) = record { first = same.first.size ∙ is.sized.first; second = same.second.size ∙ is.sized.second } in
       entered_as state (coordinator.node_state state) old (with_coordinator old after) old.coordinator after stamp now place.Tc printed given c
-      refl is.member.stands (told_all (coordinator.disks_of state old.coordinator.seat.node) c.event is.told)
+      refl is.member.stands is.lies (told_all (coordinator.disks_of state old.coordinator.seat.node) c.event is.told)
       (λ step letter e. nodes_coordinator state c.s old after c.role c.there c.ms (moment_by place.Tc now c step) refl c.nodes
       (server_enters (coordinator.node_state state) place.Tc c.role c.s.disk old.coordinator after c.ms now c.why c.event step letter is refl same e))
       (λ os elsewhere stands. stand_coordinator state c.s old after c.role c.there c.ms os elsewhere c.nodes (record { stands = stands; sized = sized }))
-      (λ fits. subst (λ n. EventFits (coordinator.disks_of state old.coordinator.seat.node) n c.role (own place.Tc c.ms) now c.event) (size_coordinator state c.s.disk old.coordinator.seat.node is.sized) fits)
-      (λ missed b. inr (subst (λ n. Blames place.Tc c.role (own place.Tc c.ms) now c.event (coordinator.disks_of state after.seat.node) n missed) (size_coordinator state c.s.disk after.seat.node sized) b)) r made
+      (λ missed b. inr b) r made
 
   pub entered_coordinator : (p : Place) → p ≡ place.Tc → ((event : Event) → event_by printed given ≡ Some event → CoordinatorMade event)
       → (c : Comes state old stamp p printed given) → Entered state old (with_coordinator old after) stamp now p printed given c r
@@ -126,14 +125,11 @@ module _ {D K : Type 0} (state : D → DiskState) (old : Nodes D K) (n : ℕ) (b
       let sized : HaveSize c.s.disk (shown.disks_of state after.seat.node) = record { first = same.first.size ∙ is.sized.first; second = same.second.size ∙ is.sized.second } in
       let there : counted_at resources.items n ≡ Some after = ap (λ l. counted_at l n) changed ∙ counted_set old.resources.items n after before placed in
       entered_as state (resource.node_state state) old (with_resources old resources) before after stamp now (place.Res n) printed given c
-      stands_here is.member.stands (told_all (shown.disks_of state before.seat.node) c.event is.told)
+      stands_here is.member.stands is.lies (told_all (shown.disks_of state before.seat.node) c.event is.told)
       (λ step letter e. nodes_resource state c.s old n before after resources placed changed c.role c.there c.ms (moment_by (place.Res n) now c step) refl c.nodes
       (server_enters (resource.node_state state) (place.Res n) c.role c.s.disk before after c.ms now c.why c.event step letter is stands_here same e))
       (λ os elsewhere stands. stand_resource state c.s old n before after resources placed changed c.role c.there c.ms os elsewhere c.nodes (record { stands = stands; sized = sized }))
-      (λ fits. subst (λ (o : Option (Member (Resource D) K)). EventFits (member_disks state o) c.s.disk c.role (own (place.Res n) c.ms) now c.event) (sym placed)
-      (subst (λ k. EventFits (shown.disks_of state before.seat.node) k c.role (own (place.Res n) c.ms) now c.event) (size_resource state c.s.disk before.seat.node is.sized) fits))
-      (λ missed b. inr (subst (λ (o : Option (Member (Resource D) K)). Blames (place.Res n) c.role (own (place.Res n) c.ms) now c.event (member_disks state o) c.s.disk missed) (sym there)
-      (subst (λ k. Blames (place.Res n) c.role (own (place.Res n) c.ms) now c.event (shown.disks_of state after.seat.node) k missed) (size_resource state c.s.disk after.seat.node sized) b))) r made
+      (λ missed b. inr (subst (λ (o : Option (Member (Resource D) K)). Blames (place.Res n) c.role blank c.s.disk (own (place.Res n) c.ms) now c.event (member_disks state o) missed) (sym there) b)) r made
 
   pub entered_resource : (p : Place) → p ≡ place.Res n → ((event : Event) → event_by printed given ≡ Some event → ResourceMade event)
       → (c : Comes state old stamp p printed given) → Entered state old (with_resources old resources) stamp now p printed given c r
@@ -151,23 +147,16 @@ manager_told m disks Crashed fits = tt
 manager_told m disks (Restarted pick calls) fits = absurd fits
 
 -- it makes no entry for want of memory alone
-only_memory : (m : Settings) (at : Place) (owns : List Own) (now : ℕ) (event : Event) (disks : Pair) (size : ℕ) (missed : RunFault) → ComesTo (ManagerRole m) event
-    → Blames at (ManagerRole m) owns now event disks size missed → missed ≡ fault.NoMemory
-only_memory m at owns now (Given given) disks size (fault.Store q) fits b = absurd b.2
-only_memory m at owns now (Given given) disks size (fault.Full q full) fits b = absurd (let no : None ≡ Some b.1.1 = b.1.2 in cc)
-only_memory m at owns now (Given given) disks size (fault.Damaged q second offset) fits b = absurd b
-only_memory m at owns now (Given given) disks size fault.Other fits b = absurd b
-only_memory m at owns now (Given given) disks size fault.NoMemory fits b = refl
-only_memory m at owns now (Stopped calls) disks size missed fits b = absurd fits
-only_memory m at owns now Crashed disks size missed fits b = absurd fits
-only_memory m at owns now (Restarted pick calls) disks size missed fits b = absurd fits
-
--- it asks for no record
-asks_none : (m : Settings) (owns : List Own) (now : ℕ) (event : Event) (disks : Pair) (size : ℕ) → EventFits disks size (ManagerRole m) owns now event
-asks_none m owns now (Given given) disks size = λ up bytes e. absurd (let no : None ≡ Some bytes = e in cc)
-asks_none m owns now (Stopped calls) disks size = tt
-asks_none m owns now Crashed disks size = tt
-asks_none m owns now (Restarted pick calls) disks size = tt
+only_memory : (m : Settings) (at : Place) (start : Extent) (size : ℕ) (owns : List Own) (now : ℕ) (event : Event) (disks : Pair) (missed : RunFault) → ComesTo (ManagerRole m) event
+    → Blames at (ManagerRole m) start size owns now event disks missed → missed ≡ fault.NoMemory
+only_memory m at start size owns now (Given given) disks (fault.Store q) fits b = absurd b.2
+only_memory m at start size owns now (Given given) disks (fault.Full q full) fits b = absurd b.1.1.by_entries
+only_memory m at start size owns now (Given given) disks (fault.Damaged q second offset) fits b = absurd b
+only_memory m at start size owns now (Given given) disks fault.Other fits b = absurd b
+only_memory m at start size owns now (Given given) disks fault.NoMemory fits b = refl
+only_memory m at start size owns now (Stopped calls) disks missed fits b = absurd fits
+only_memory m at start size owns now Crashed disks missed fits b = absurd fits
+only_memory m at start size owns now (Restarted pick calls) disks missed fits b = absurd fits
 
 module _ {D K : Type 0} (state : D → DiskState) (old : Nodes D K) (n : ℕ) (before after : Member Manager K) (managers : Vec (Member Manager K) Global) (stamp now : ℕ) (printed : Cause) (given : Option Input)
     (placed : counted_at old.managers.items n ≡ Some before) (changed : managers.items ≡ set old.managers.items (n - 1) after) (stands_here : (manager.node_state before.seat.node).place ≡ place.Man n) (r : Result (Option Letter) RunFault) where
@@ -182,13 +171,12 @@ module _ {D K : Type 0} (state : D → DiskState) (old : Nodes D K) (n : ℕ) (b
       let fits : ComesTo (ManagerRole settings) c.event = subst (λ role. ComesTo role c.event) role_is c.fits in
       let told : IsTold no_disks c.event = manager_told settings no_disks c.event fits in
       entered_as state manager.node_state old (with_managers old managers) before after stamp now (place.Man n) printed given c
-      stands_here is.stands told
+      stands_here is.stands tt told
       (λ step letter e. nodes_manager state c.s old n before after managers placed changed c.role c.there c.ms (moment_by (place.Man n) now c step) refl c.nodes
       (member_enters manager.node_state (place.Man n) c.role before after c.ms now c.why c.event step letter is stands_here told e))
       (λ os elsewhere stands. stand_manager state c.s old n before after managers placed changed c.role c.there c.ms os elsewhere c.nodes stands)
-      (λ fits. subst (λ role. EventFits no_disks c.s.disk role (own (place.Man n) c.ms) now c.event) (sym role_is) (asks_none settings (own (place.Man n) c.ms) now c.event no_disks c.s.disk))
-      (λ missed b. inl (only_memory settings (place.Man n) (own (place.Man n) c.ms) now c.event no_disks 0 missed fits
-      (subst (λ role. Blames (place.Man n) role (own (place.Man n) c.ms) now c.event no_disks 0 missed) role_is b)))
+      (λ missed b. inl (only_memory settings (place.Man n) blank c.s.disk (own (place.Man n) c.ms) now c.event no_disks missed fits
+      (subst (λ role. Blames (place.Man n) role blank c.s.disk (own (place.Man n) c.ms) now c.event no_disks missed) role_is b)))
       r made
 
   pub entered_manager : (p : Place) → p ≡ place.Man n → ((event : Event) → event_by printed given ≡ Some event → ManagerMade event)

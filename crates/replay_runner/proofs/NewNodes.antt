@@ -3,6 +3,7 @@ use Rattle.std.proofs.Common.{◌≡◌, ◌+◌, ◌≤◌, ℕ, zero, suc, Lis
 use Rattle.std.proofs.lemmas.Option.{same_Some, slice_get_within}
 use Rattle.std.specs.List.{AllByRecursion}
 use Rattle.disk_model.specs.Disk.{DiskState}
+use Rattle.journal_checkpoint.specs.Extents.{blank}
 use Rattle.seata_types.specs.declared.ids.Place.{Place}
 use Rattle.seata_types.specs.declared.ids.Place.TheVariants as place
 use Rattle.scenario_form.specs.declared.scenarios.ManagerDef.{ManagerDef}
@@ -23,7 +24,7 @@ use Rattle.resource_core.specs.declared.nodes.Resource.{Resource}
 use Rattle.resource_core.specs.NodeStanding as resource
 use Rattle.manager_core.specs.declared.nodes.Manager.{Manager}
 use Rattle.manager_core.specs.Standing as manager
-use Rattle.node_seat.specs.Keeping.{IsBehind, IsFresh}
+use Rattle.node_seat.specs.Keeping.{IsBehind, IsFresh, have_disks}
 use Rattle.scenario_nodes.specs.Nodes.{AreNewResources, HaveSize, IsNewCoordinator, IsNewManager, IsNewResource, ServesAll, coordinator_role, manager_role, resource_role}
 use Rattle.scenario_nodes.specs.Shelves.{AllTell}
 use Rattle.scenario_nodes.specs.Together.{AreEach, numbered}
@@ -111,7 +112,7 @@ pub fresh_resource : {D : Type 0} (state : D → DiskState) (w : World) (past : 
 fresh_resource state w past s k def r is none here new = (
   resource_role s (k + 1) def,
   ap (λ (v : World). role_at v past (place.Res (k + 1))) is ∙ ap (λ (x : Past). role_at (world_of s) x (place.Res (k + 1))) none ∙ role_of_resource s k def here,
-  λ tells. new.stands (tells refl),
+  λ tells. new.stands (tells (ap have_disks new.at)),
 )
 
 pub all_fresh : {D : Type 0} (state : D → DiskState) (w : World) (past : Past) (s : Scenario) (nodes : List (Resource D)) → w ≡ world_of s → past ≡ no_past
@@ -170,10 +171,11 @@ module _ {D K : Type 0} (state : D → DiskState) (s : Scenario) (n : Nodes D K)
 
   -- where the disks tell their bytes, they stand for the empty history
   module _ (all : AllTell state) where
-    server : {N : Type 0} (node_state : N → NodeState) (p : Place) (role : Role) (m : Member N K) → (node_state m.seat.node).stands_for role [] → AreTold (node_state m.seat.node).disks
+    server : {N : Type 0} (node_state : N → NodeState) (p : Place) (role : Role) (m : Member N K) → (node_state m.seat.node).stands_for role [] → (node_state m.seat.node).lies role blank s.disk [] → AreTold (node_state m.seat.node).disks
         → HaveSize s.disk (node_state m.seat.node).disks → m.seat.trace ≡ [] → m.turned ≡ 0 → IsServer node_state p role s.disk m []
-    server node_state p role m stands told sized traced turned = record {
+    server node_state p role m stands lies told sized traced turned = record {
       member = record { stands = stands; traced = traced; turned = turned };
+      lies = lies;
       told = told;
       picked = λ pick e. absurd (let no : None ≡ Some pick = e in cc);
       sized = sized;
@@ -182,7 +184,7 @@ module _ {D K : Type 0} (state : D → DiskState) (s : Scenario) (n : Nodes D K)
     has_coordinator : IsServer (coordinator.node_state state) place.Tc (coordinator_role s) s.disk n.coordinator []
     has_coordinator =
         let c = new.coordinator in
-        server (coordinator.node_state state) place.Tc (coordinator_role s) n.coordinator (c.node.stands (c.node.told all)) (c.node.told all) c.node.sized c.traced c.turned
+        server (coordinator.node_state state) place.Tc (coordinator_role s) n.coordinator (c.node.stands (c.node.told all)) (c.node.lies (c.node.told all)) (c.node.told all) c.node.sized c.traced c.turned
 
     has_resource : (k : ℕ) (def : ResourceDef) → slice_get s.resources k ≡ Some def → HasNode state s.disk n [] (place.Res (k + 1)) (resource_role s (k + 1) def)
     has_resource k def here =
@@ -192,7 +194,7 @@ module _ {D K : Type 0} (state : D → DiskState) (s : Scenario) (n : Nodes D K)
         let r = resource_new k def m here there in (
           m,
           counted_next n.resources.items k ∙ there,
-          server (resource.node_state state) (place.Res (k + 1)) (resource_role s (k + 1) def) m (r.node.stands (r.node.told all)) (r.node.told all) r.node.sized r.traced r.turned,
+          server (resource.node_state state) (place.Res (k + 1)) (resource_role s (k + 1) def) m (r.node.stands (r.node.told all)) (r.node.lies (r.node.told all)) (r.node.told all) r.node.sized r.traced r.turned,
         )
 
     has_manager : (k : ℕ) (def : ManagerDef) → slice_get s.managers k ≡ Some def → HasNode state s.disk n [] (place.Man (k + 1)) (manager_role s (k + 1) def)

@@ -49,6 +49,7 @@ module _ {D K : Type 0} (state : D → DiskState) (s : Scenario) where
     slow = let now = g.clocked in let slow = g.slow in omega (arith, now, slow);
     legal = (t.legal, g.stands);
     follows = (t.follows, g.is_step);
+    fits = (t.fits, g.fits);
   }
 
   -- the same where it delivers no message
@@ -272,4 +273,5 @@ module _ {D K : Type 0} (state : D → DiskState) (old mid new : Run D K) (here 
         stands = rising state here.s old here.ms here.plays place.Net mid.clock why None (still act.Nothing) (omega (arith, time)) later brought (comes, refl);
         is_step = subst (IsStep (world_of here.s) no_past here.ms m) (sym (drop_first (singles (items_of here.s)) (length here.ms) here.item here.rest here.is_next))
             (refl, (let now_is = here.plays.clocked in omega (arith, now_is, time)), sym names);
+        fits = tt;
       }

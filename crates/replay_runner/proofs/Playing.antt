@@ -53,6 +53,7 @@ plays_nothing state s r nodes network places messages time = record {
   slow = omega (arith, time);
   legal = tt;
   follows = tt;
+  fits = tt;
 }
 
 -- ---- single steps

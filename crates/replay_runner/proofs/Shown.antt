@@ -3,6 +3,7 @@ use Rattle.std.proofs.Common.{◌≡◌, ◌+◌, ℕ, zero, suc, List, [], ◌�
 use Rattle.std.proofs.lemmas.List.{length-map}
 use Rattle.std.proofs.lemmas.Option.{same_Some, slice_get-map}
 use Rattle.disk_model.specs.Disk.{DiskState}
+use Rattle.journal_checkpoint.specs.Extents.{blank}
 use Rattle.journal_checkpoint.specs.Images.{Pair}
 use Rattle.seata_types.specs.declared.ids.Place.{Place}
 use Rattle.seata_types.specs.declared.ids.Place.TheVariants as place
@@ -13,6 +14,7 @@ use Rattle.history_rules.specs.Nodes.{Role, counted_at, no_past, role_at}
 use Rattle.history_rules.specs.Nodes.{Coordinator as CoordinatorRole, Manager as ManagerRole, Resource as ResourceRole}
 use Rattle.history_rules.specs.Histories.{Moment, own}
 use Rattle.node_steps.specs.Durable.{AreNodeDisks}
+use Rattle.node_steps.specs.Ends.{AreLaid}
 use Rattle.history_text.specs.Worlds.{world_of}
 use Rattle.coordinator_core.specs.declared.nodes.Coordinator.{Coordinator}
 use Rattle.coordinator_core.specs.Standing as coordinator
@@ -38,12 +40,12 @@ use Rattle.replay_runner.proofs.Roles.{role_of_resource}
 -- ---- the disks of one node, without their stops
 
 module _ {D : Type 0} (state : D → DiskState) where
-  coordinator_shows : (c : Coordinator D) (role : Role) (owns : List Own) → coordinator.StandsAs state c role owns → AreNodeDisks role owns (pair_of state (coordinator_disks c))
+  pub coordinator_shows : (c : Coordinator D) (role : Role) (owns : List Own) → coordinator.StandsAs state c role owns → AreNodeDisks role owns (pair_of state (coordinator_disks c))
   coordinator_shows c (CoordinatorRole times past) owns stands = let d = (coordinator_lawful state c).device (CoordinatorRole times past) owns stands in record { images = d.images; counted = d.counted }
   coordinator_shows c (ResourceRole setup past) owns stands = absurd stands
   coordinator_shows c (ManagerRole settings) owns stands = absurd stands
 
-  coordinator_leaves : (c : Coordinator D) (role : Role) (owns : List Own) → coordinator.StandsAs state c role owns → HaveLast (last_pick owns) (coordinator.disks_of state c)
+  pub coordinator_leaves : (c : Coordinator D) (role : Role) (owns : List Own) → coordinator.StandsAs state c role owns → HaveLast (last_pick owns) (coordinator.disks_of state c)
       → AreLeft role owns (pair_of state (coordinator_disks c))
   coordinator_leaves c (CoordinatorRole times past) owns stands last =
       let d = (coordinator_lawful state c).device (CoordinatorRole times past) owns stands in
@@ -51,12 +53,12 @@ module _ {D : Type 0} (state : D → DiskState) where
   coordinator_leaves c (ResourceRole setup past) owns stands last = absurd stands
   coordinator_leaves c (ManagerRole settings) owns stands last = absurd stands
 
-  resource_shows : (r : Resource D) (role : Role) (owns : List Own) → resource.StandsAs state r role owns → AreNodeDisks role owns (pair_of state (resource_disks r))
+  pub resource_shows : (r : Resource D) (role : Role) (owns : List Own) → resource.StandsAs state r role owns → AreNodeDisks role owns (pair_of state (resource_disks r))
   resource_shows r (ResourceRole setup past) owns stands = let d = (resource_lawful state r).device (ResourceRole setup past) owns stands in record { images = d.images; counted = d.counted }
   resource_shows r (CoordinatorRole times past) owns stands = absurd stands
   resource_shows r (ManagerRole settings) owns stands = absurd stands
 
-  resource_leaves : (r : Resource D) (role : Role) (owns : List Own) → resource.StandsAs state r role owns → HaveLast (last_pick owns) (shown.disks_of state r)
+  pub resource_leaves : (r : Resource D) (role : Role) (owns : List Own) → resource.StandsAs state r role owns → HaveLast (last_pick owns) (shown.disks_of state r)
       → AreLeft role owns (pair_of state (resource_disks r))
   resource_leaves r (ResourceRole setup past) owns stands last =
       let d = (resource_lawful state r).device (ResourceRole setup past) owns stands in
@@ -64,7 +66,23 @@ module _ {D : Type 0} (state : D → DiskState) where
   resource_leaves r (CoordinatorRole times past) owns stands last = absurd stands
   resource_leaves r (ManagerRole settings) owns stands last = absurd stands
 
-  manager_role_is : (m : Manager) (role : Role) (owns : List Own) (disks : Pair) → manager.StandsAs m role owns → AreNodeDisks role owns disks × AreLeft role owns disks
+  -- their journal stands where the entries leave it
+  pub coordinator_laid : (c : Coordinator D) (role : Role) (size : ℕ) (owns : List Own) → coordinator.StandsAs state c role owns → coordinator.LiesAs state c role blank size owns
+      → AreLaid role blank size owns (pair_of state (coordinator_disks c))
+  coordinator_laid c (CoordinatorRole times past) size owns stands lies = let laid = (coordinator_lawful state c).laid (CoordinatorRole times past) blank size owns stands lies in λ a b one two. laid a b one two
+  coordinator_laid c (ResourceRole setup past) size owns stands lies = absurd stands
+  coordinator_laid c (ManagerRole settings) size owns stands lies = absurd stands
+
+  pub resource_laid : (r : Resource D) (role : Role) (size : ℕ) (owns : List Own) → resource.StandsAs state r role owns → resource.LiesAs state r role blank size owns
+      → AreLaid role blank size owns (pair_of state (resource_disks r))
+  resource_laid r (ResourceRole setup past) size owns stands lies = let laid = (resource_lawful state r).laid (ResourceRole setup past) blank size owns stands lies in λ a b one two. laid a b one two
+  resource_laid r (CoordinatorRole times past) size owns stands lies = absurd stands
+  resource_laid r (ManagerRole settings) size owns stands lies = absurd stands
+
+  pub manager_laid : (m : Manager) (role : Role) (size : ℕ) (owns : List Own) (disks : Pair) → manager.StandsAs m role owns → AreLaid role blank size owns disks
+  manager_laid m role size owns disks stands = subst (λ r. AreLaid r blank size owns disks) (sym stands.0) tt
+
+  pub manager_role_is : (m : Manager) (role : Role) (owns : List Own) (disks : Pair) → manager.StandsAs m role owns → AreNodeDisks role owns disks × AreLeft role owns disks
   manager_role_is m role owns disks stands = subst (λ r. AreNodeDisks r owns disks × AreLeft r owns disks) (sym stands.0) (tt, tt)
 
 -- ---- among the disks of all
@@ -113,6 +131,17 @@ module _ {D K : Type 0} (state : D → DiskState) (s : Scenario) (n : Nodes D K)
 
   pub all_left : (ms : List Moment) → AreNodes state s n ms → (p : Place) (role : Role) → role_at (world_of s) no_past p ≡ Some role → AreLeft role (own p ms) (disks_in (all_disks state n) p)
   all_left ms nodes p role e = leaves_at s.disk ms p role (nodes.each p role e)
+
+  laid_at : (bytes : ℕ) (ms : List Moment) (p : Place) (role : Role) → HasNode state bytes n ms p role → AreLaid role blank bytes (own p ms) (disks_in (all_disks state n) p)
+  laid_at bytes ms place.Net role has = absurd has
+  laid_at bytes ms place.Tc role has = coordinator_laid state n.coordinator.seat.node role bytes (own place.Tc ms) has.member.stands has.lies
+  laid_at bytes ms (place.Res k) role (m, here, is) =
+      subst (λ (d : Pair). AreLaid role blank bytes (own (place.Res k) ms) d) (sym (resource_in state n k m here))
+      (resource_laid state m.seat.node role bytes (own (place.Res k) ms) is.member.stands is.lies)
+  laid_at bytes ms (place.Man k) role (m, here, is) = manager_laid state m.seat.node role bytes (own (place.Man k) ms) (disks_in (all_disks state n) (place.Man k)) is.stands
+
+  pub all_laid : (ms : List Moment) → AreNodes state s n ms → (p : Place) (role : Role) → role_at (world_of s) no_past p ≡ Some role → AreLaid role blank s.disk (own p ms) (disks_in (all_disks state n) p)
+  all_laid ms nodes p role e = laid_at s.disk ms p role (nodes.each p role e)
 
   stands_by : (bytes : ℕ) (ms : List Moment) (p : Place) (role : Role) → HasNode state bytes n ms p role → StandsAt state bytes n p role (own p ms)
   stands_by bytes ms place.Net role has = absurd has

@@ -23,7 +23,7 @@ use Rattle.replay_runner.specs.Letters.{delivery_of, letter_at}
 use Rattle.replay_runner.specs.Entering.{Entered}
 use Rattle.replay_runner.specs.Plays.{Brings, HasMade, HasPlayed, Hears, IsAt, IsPassed, Made, Names, Ready, moment_made}
 use Rattle.replay_runner.specs.Standing.{AllStand, AreNodes}
-use Rattle.replay_runner.proofs.Ended.{among_nodes, ends_later, is_step_next, stands_next}
+use Rattle.replay_runner.proofs.Ended.{among_nodes, ends_later, fits_next, is_step_next, stands_next}
 use Rattle.replay_runner.proofs.Entered.{all_stand}
 use Rattle.replay_runner.proofs.Printed.{printed_there}
 use Rattle.replay_runner.proofs.Chosen.{ready_at}
@@ -65,6 +65,7 @@ module _ {D K : Type 0} (state : D → DiskState) (old mid new : Run D K) (p : P
           clocked = k.clock ∙ clock;
           slow = let slow = b.here.plays.slow in omega (arith, slow);
           stands = stands_next state old p printed given b e.step e.happens;
+          fits = fits_next state old p printed given b e.step e.fits;
           is_step = is_step_next state old p printed given b e.step;
         },
       )
@@ -74,7 +75,7 @@ module _ {D K : Type 0} (state : D → DiskState) (old mid new : Run D K) (p : P
       → Made state old new p printed given b (Err fault.NoMemory)
   ends_unkept letter e same =
       let m = moment_made state old p printed given b e.step in
-      ends_later state old p printed given b new fault.NoMemory e.step e.happens
+      ends_later state old p printed given b new fault.NoMemory e.step e.happens e.fits
       (subst (λ (n : Nodes D K). AllStand state b.here.s n (m ∷ b.here.ms)) (sym same) (all_stand state b.here.s mid.nodes (m ∷ b.here.ms) e.nodes)) refl
 
 -- ---- deliveries
@@ -116,6 +117,7 @@ module _ {D K : Type 0} (state : D → DiskState) (old mid new : Run D K) (stamp
           slow = let now = clock ∙ g.clocked in let slow = g.slow in omega (arith, now, slow);
           legal = (comes.here.plays.legal, g.stands);
           follows = (comes.here.plays.follows, g.is_step);
+          fits = (comes.here.plays.fits, g.fits);
         },
         left_next comes.here.s comes.here.ms m comes.here.item comes.here.rest comes.here.is_next,
       )
@@ -129,6 +131,7 @@ module _ {D K : Type 0} (state : D → DiskState) (old new : Run D K) where
     history = here.ms;
     legal = here.plays.legal;
     follows = here.plays.follows;
+    fits = here.plays.fits;
     stands = subst (λ (n : Nodes D K). AllStand state here.s n here.ms) (sym same) (all_stand state here.s old.nodes here.ms here.plays.nodes);
     cause = tt;
   }

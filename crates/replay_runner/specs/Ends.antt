@@ -1,5 +1,6 @@
 -- How a replay ends before its schedule does.
 use Rattle.std.specs.Prelude.{◌≡◌, ◌≤◌, ℕ, List, Some}
+use Rattle.journal_checkpoint.specs.Extents.{blank}
 use Rattle.journal_checkpoint.specs.Images.{Pair}
 use Rattle.seata_types.specs.declared.ids.Place.{Place}
 use Rattle.scenario_form.specs.declared.scenarios.Scenario.{Scenario}
@@ -21,7 +22,7 @@ pub record StopsAt (s : Scenario) (ms : List Moment) (disks : Place → Pair) (m
   pub now : ℕ
   pub event : Event
   pub is_next : IsNextEvent s ms at now event
-  pub blames : Blames at role (own at ms) now event (disks at) s.disk missed
+  pub blames : Blames at role blank s.disk (own at ms) now event (disks at) missed
 
 -- why a replay ended after these moments; want of memory is free
 abbrev pub IsCause : Scenario → List Moment → (disks : Place → Pair) → RunFault → Type 0

@@ -10,7 +10,7 @@ use Rattle.node_steps.specs.Nodes.{NodeState}
 use Rattle.history_text.specs.declared.entries.Cause.{Cause}
 use Rattle.history_text.specs.declared.entries.Cause.TheVariants as cause
 use Rattle.history_text.specs.History.{entries}
-use Rattle.node_seat.specs.Entering.{Does, HadPlaceFor, Stays, entry_at}
+use Rattle.node_seat.specs.Entering.{Does, Stays, entry_at}
 use Rattle.node_seat.specs.Seating.{traced_of}
 use Rattle.node_seat.specs.declared.faults.RunFault.{RunFault}
 use Rattle.node_seat.specs.declared.faults.RunFault.TheVariants as fault
@@ -24,11 +24,9 @@ abbrev pub turned_by : Cause → (stamp before : ℕ) → ℕ
 turned_by cause.Turn stamp before = stamp
 turned_by _ stamp before = before
 
--- A node did a step, for whose record there was a place, its entry was added, and this is the message that it sent, unless memory for that
--- was refused.
+-- A node did a step, its entry was added, and this is the message that it sent, unless memory for that was refused.
 pub record Makes {N K : Type 0} (state : N → NodeState) (old new : Member N K) (stamp now : ℕ) (why : Cause) (event : Event) (step : Step) (result : Result (Option Letter) RunFault) : Type 0 where
   pub does : Does (state old.seat.node) (state new.seat.node) event now step
-  pub room : HadPlaceFor (state old.seat.node) event now
   pub printed : new.seat.trace ≡ old.seat.trace ++ entry_at stamp (state old.seat.node).place now why step ∷ []
   pub turned : IfOk result (λ letter. new.turned ≡ turned_by why stamp old.turned)
   pub sent : IfOk result (λ letter. letter ≡ option_map (letter_from (state old.seat.node).place stamp) step.sent)

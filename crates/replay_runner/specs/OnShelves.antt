@@ -16,7 +16,7 @@ use Rattle.scenario_nodes.specs.Together.{AreSecondNames, TakesOrReturns}
 use Rattle.scenario_nodes.specs.Together.{GivesBack as GivesDisks}
 use Rattle.replay_runner.specs.declared.closings.Room.{Room}
 use Rattle.replay_runner.specs.declared.nodes.Nodes.{Nodes}
-use Rattle.replay_runner.specs.Leaving.{CountsFailure, IsServerDisk, Leaves, Replays}
+use Rattle.replay_runner.specs.Leaving.{CountsFailure, IsServerDisk, Showing, UsesShelf}
 use Rattle.replay_runner.specs.Opened.{AreNewNodes}
 
 -- nodes of a scenario in a run of its world, without records before it, can be opened with these names of second disks
@@ -40,15 +40,15 @@ pub record IsRoom {D : Type 0} (count : ℕ) (room : Room D) : Type 0 where
   pub traces : count ≤ vec_capacity room.traces
 
 -- The disks of all nodes were given back, and nothing else was done. Those that failed counted a fault, and where disks tell their bytes,
--- they show how the replay ended.
-pub record Closes {D : Type 0} (state : D → DiskState) (s : Scenario) (old new : ShelfState D) (result : Result (List Entry) RunFault) : Type 0 where
+-- they show how the replay or run ended.
+pub record Closes {D : Type 0} (Shows : Showing) (state : D → DiskState) (s : Scenario) (old new : ShelfState D) (result : Result (List Entry) RunFault) : Type 0 where
   pub disks : List (D × D)
   pub gives : GivesDisks (server_names s) disks old new
   pub counted : CountsFailure (map (pair_of state) disks) result
-  pub leaves : AllTell state → Leaves s (map (pair_of state) disks) result
+  pub leaves : AllTell state → Shows (map (pair_of state) disks) result
 
--- what is promised of a replay and its shelf, whatever else holds
-pub record RunsOn {D : Type 0} (state : D → DiskState) (s : Scenario) (old new : ShelfState D) (result : Result (List Entry) RunFault) : Type 0 where
-  pub replays : Replays state old new s result
+-- what is promised of a replay or a run and its shelf, whatever else holds
+pub record RunsOn {D : Type 0} (Shows : Showing) (state : D → DiskState) (s : Scenario) (old new : ShelfState D) (result : Result (List Entry) RunFault) : Type 0 where
+  pub uses : UsesShelf Shows state old new s result
   pub returned : ReturnsAll old new
   pub keeps : KeepsOthers (IsServerDisk s) old new

@@ -12,13 +12,14 @@ use Rattle.scenario_form.specs.declared.scenarios.Scenario.{Scenario}
 use Rattle.scenario_form.specs.Runnable.{IsRunnable}
 use Rattle.history_rules.specs.Own.{Event, still}
 use Rattle.history_rules.specs.Nodes.{ComesTo, Role, no_past, role_at}
-use Rattle.history_rules.specs.Histories.{Moment, brings, Legal, ReceivesLater, Stands}
+use Rattle.history_rules.specs.Histories.{Moment, brings, own, Legal, ReceivesLater, Stands}
 use Rattle.history_rules.specs.Histories.{Cause as Reason}
 use Rattle.history_rules.specs.Schedules.{Follows, IsStep, Item, DeliverOf, clock, named, singles, ticks_of}
 use Rattle.history_text.specs.declared.entries.Cause.{Cause}
 use Rattle.frame_codec.specs.Limits.{IsFramable}
 use Rattle.history_text.specs.History.{cause_of, entries}
 use Rattle.history_text.specs.Worlds.{items_of, world_of}
+use Rattle.node_steps.specs.Ends.{AllFit, MomentFits, no_starts}
 use Rattle.node_seat.specs.Entering.{entry_at, event_by}
 use Rattle.node_seat.specs.declared.faults.RunFault.{RunFault}
 use Rattle.replay_runner.specs.declared.messages.Delivery.{Delivery}
@@ -31,7 +32,7 @@ use Rattle.replay_runner.specs.Traces.{at, places_of}
 
 -- ---- the replay
 
--- the replay made this history, which is legal and follows the schedule
+-- the replay made this history, which is legal, follows the schedule, and whose records each had a place
 pub record Plays {D K : Type 0} (state : D → DiskState) (s : Scenario) (r : Run D K) (ms : List Moment) : Type 0 where
   pub nodes : AreNodes state s r.nodes ms
   pub passed : r.network.items ≡ entries (at place.Net ms)
@@ -41,12 +42,15 @@ pub record Plays {D K : Type 0} (state : D → DiskState) (s : Scenario) (r : Ru
   pub slow : r.clock ≤ length ms * TICKS
   pub legal : Legal (world_of s) no_past ms
   pub follows : Follows (world_of s) no_past (items_of s) ms
+  pub fits : AllFit (world_of s) no_past no_starts s.disk ms
 
--- A replay ended, by this fault: what it made is legal and follows the schedule up to there, and its nodes stand for their own entries.
+-- A replay ended, by this fault: what it made is legal and follows the schedule up to there, each record of it had a place, and its nodes
+-- stand for their own entries.
 pub record Ends {D K : Type 0} (state : D → DiskState) (s : Scenario) (r : Run D K) (missed : RunFault) : Type 0 where
   pub history : List Moment
   pub legal : Legal (world_of s) no_past history
   pub follows : Follows (world_of s) no_past (items_of s) history
+  pub fits : AllFit (world_of s) no_past no_starts s.disk history
   pub stands : AllStand state s r.nodes history
   pub cause : IsCause s history (disks_at state r.nodes) missed
 
@@ -93,6 +97,7 @@ pub record Grows {D K : Type 0} (state : D → DiskState) (s : Scenario) (old ne
   pub clocked : new.clock ≡ m.now
   pub slow : m.now ≤ (length ms + 1) * TICKS
   pub stands : Stands (world_of s) no_past ms m
+  pub fits : MomentFits (role_at (world_of s) no_past m.place) m.event (no_starts m.place) s.disk (own m.place ms) m
   pub is_step : IsStep (world_of s) no_past ms m (slice_get (singles (items_of s)) (length ms))
 
 abbrev pub Made : {D K : Type 0} → (state : D → DiskState) → (old new : Run D K) (at : Place) (printed : Cause) (given : Option Input) → Brings state old at printed given

@@ -1,6 +1,7 @@
 -- What the nodes of a replay stand for.
 use Rattle.std.specs.Prelude.{◌≡◌, ℕ, List, length, Option, Some, None}
 use Rattle.disk_model.specs.Disk.{DiskState}
+use Rattle.journal_checkpoint.specs.Extents.{blank}
 use Rattle.journal_checkpoint.specs.Images.{Pair}
 use Rattle.seata_types.specs.declared.ids.Place.{Place}
 use Rattle.seata_types.specs.declared.ids.Place.TheVariants as place
@@ -26,9 +27,11 @@ use Rattle.replay_runner.specs.Members.{IsMember}
 
 -- ---- one node
 
--- a node with disks of so many bytes, which tell their bytes and have the pick of its last restart
+-- A node with disks of so many bytes, which tell their bytes and have the pick of its last restart. Its journal stands where its entries leave
+-- it, from blank disks.
 pub record IsServer {N K : Type 0} (state : N → NodeState) (p : Place) (role : Role) (bytes : ℕ) (m : Member N K) (ms : List Moment) : Type 0 where
   pub member : IsMember state p role m ms
+  pub lies : (state m.seat.node).lies role blank bytes (own p ms)
   pub told : AreTold (state m.seat.node).disks
   pub picked : HaveLast (last_pick (own p ms)) (state m.seat.node).disks
   pub sized : HaveSize bytes (state m.seat.node).disks

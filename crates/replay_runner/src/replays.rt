@@ -7,7 +7,7 @@ ghost use Rattle.history_text.specs.Worlds.{world_of};
 ghost use Rattle.scenario_nodes.specs.Nodes.{server_names};
 ghost use Rattle.scenario_nodes.specs.Shelves.{ReturnsAll};
 ghost use Rattle.scenario_nodes.specs.Together.{AreSecondNames, HaveBoth};
-ghost use Rattle.replay_runner.specs.Leaving.{IsCalmEnd, IsCalmShelf, IsServerDisk, Replays};
+ghost use Rattle.replay_runner.specs.Leaving.{IsCalmEnd, IsCalmShelf, IsServerDisk, Leaves, Replays};
 ghost use Rattle.replay_runner.specs.OnShelves.{Closes, IsRoom, RunsOn};
 ghost use Rattle.replay_runner.specs.Opened.{AreNewNodes};
 
@@ -38,7 +38,8 @@ fn play<H: Shelf, K: RunName>(
     requires new { AreNewNodes H.D.state scenario.now nodes }
     requires room { IsRoom (length scenario.now.resources) room }
     requires taken { HaveBoth (H.state shelf.old) (server_names scenario.now) }
-    ensures { Closes H.D.state scenario.now (H.state shelf.old) (H.state shelf.new) result }
+    ensures { Closes (Leaves scenario.now) H.D.state scenario.now
+        (H.state shelf.old) (H.state shelf.new) result }
 {
     let mut run = Run::<H::D, K>::new(alloc, nodes);
     let locals = scenario.locals.as_slice();
@@ -63,7 +64,8 @@ fn replay_named<H: Shelf, K: RunName>(
     requires runnable { IsRunnable scenario.now }
     requires world { K.world ≡ world_of scenario.now }
     requires past { K.past ≡ no_past }
-    ensures { RunsOn H.D.state scenario.now (H.state shelf.old) (H.state shelf.new) result }
+    ensures { RunsOn (Leaves scenario.now) H.D.state scenario.now
+        (H.state shelf.old) (H.state shelf.new) result }
 {
     let defs = scenario.resources.as_slice();
     let Ok(seconds) = second_names(alloc, defs) else {
@@ -84,8 +86,9 @@ fn replay_named<H: Shelf, K: RunName>(
 /// Replays the schedule of a scenario, step by step, with the coordinator and each resource on two disks of the shelf: those of
 /// all are taken and read before any resource writes its boot, and they are given back however it ends. It gives the entries of
 /// its history, or why it ended early. `Store` comes only by a fault that the shelf or a disk of the node counted, whatever the
-/// disks tell. Where they tell their bytes, `Damaged` and `Other` never come: blank disks are no other scenario's, and each
-/// message fits a node. Disks under other names stay as they are.
+/// disks tell. Where they tell their bytes, each record of its history had a place, by the entries alone, and `Full` comes where
+/// the next one has none. `Damaged` and `Other` never come: blank disks are no other scenario's, and each message fits a node.
+/// Disks under other names stay as they are.
 pub fn replay<H: Shelf>(
     alloc: Global,
     scenario: &Scenario,

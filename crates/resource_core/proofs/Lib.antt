@@ -23,6 +23,7 @@ pub mod StayReady
 pub mod QuietLaws
 pub mod HappensLaws
 pub mod NodeDisks
+pub mod LyingLaws
 pub mod NodeStepped
 pub mod NodeArms
 pub mod NodeRestarted

@@ -18,6 +18,7 @@ use Rattle.history_rules.specs.Devices.{is_down as down_by}
 use Rattle.history_rules.specs.ResourceMemory.{Setup, memory}
 use Rattle.history_rules.specs.Nodes.{Coordinator, Manager, happens}
 use Rattle.history_rules.specs.Nodes.{Resource as ResourceRole}
+use Rattle.node_steps.specs.Ends.{extent, resource_recording}
 use Rattle.node_steps.specs.Promises.{Does, own_entry}
 use Rattle.resource_memory.specs.Known.{Known}
 use Rattle.resource_store.specs.declared.store.Store.{Store}
@@ -32,6 +33,7 @@ use Rattle.resource_core.specs.NodeStepping.{ArmsBy, CrashesBy}
 use Rattle.resource_core.specs.Ready.{AreTicketsWithin}
 use Rattle.resource_core.specs.Setups.{actions_of}
 use Rattle.resource_core.specs.Shown.{disks_of, is_down, pair_of, setup_in, store_of}
+use Rattle.resource_core.proofs.LyingLaws.{fits_none, lies_up, sized_after, stands_there}
 use Rattle.resource_core.proofs.NodeDisks.{Moved, false_true, keeps_images, moved_same, pair_on, same_kind, same_picks}
 use Rattle.resource_core.proofs.NodeStepped.{stays_itself}
 
@@ -124,6 +126,7 @@ module _ {D : Type 0} (state : D → DiskState) (calls : ℕ) where
     back = back_armed s;
     left = refl;
     pair = pair_armed (is_second (twin s)) (active_disk (twin s)) (other_disk (twin s));
+    extent = refl;
     known = refl;
     setting = refl;
     found = refl;
@@ -214,7 +217,16 @@ module _ {D : Type 0} (state : D → DiskState) (law : (d : Stoppable D) → IsL
         }
 
     arm_does : (now : ℕ) → Does (node_state state r) (node_state state (with_store r s')) (Stopped calls) now (still act.Armed)
-    arm_does now (ResourceRole setup past) owns s = (armed_happens setup past owns now calls (upon setup past owns s), armed_so setup past owns now s)
+    arm_does now (ResourceRole setup past) owns s =
+        let moves = moved_armed (disks_of state r) (pair_of state s') a.pair in (
+          armed_happens setup past owns now calls (upon setup past owns s),
+          armed_so setup past owns now s,
+          λ start size l. (
+            λ q some. fits_none None refl q some,
+            lies_up (state_of state) law setup past start size (own_entry (Stopped calls) now (still act.Armed) ∷ owns) s' (sized_after (state_of state) size (twin (store_of r)) (twin s') moves.first_kind moves.second_kind l.sized)
+                (holds_armed setup past owns s).keeps (a.extent ∙ l.up (upon setup past owns s)),
+          ),
+        )
     arm_does now (Coordinator times past) owns s = absurd s
     arm_does now (Manager settings) owns s = absurd s
 
@@ -254,7 +266,19 @@ module _ {D : Type 0} (state : D → DiskState) (law : (d : Stoppable D) → IsL
         }
 
     crash_does : (now : ℕ) → Does (node_state state r) (node_state state crashed) Crashed now (still (act.Down None None))
-    crash_does now (ResourceRole setup past) owns s = (crashed_happens setup past owns now (upon setup past owns s), crashed_so setup past owns now s)
+    crash_does now (ResourceRole setup past) owns s = (
+      crashed_happens setup past owns now (upon setup past owns s),
+      crashed_so setup past owns now s,
+      λ start size l. (
+        λ q some. fits_none None refl q some,
+        record {
+          sized = l.sized;
+          up = λ e. false_true (sym e);
+          images = λ x y first second. inl (stands_there (state_of state) law (setting_of (store_of r)) (memory setup past owns).left.records (store_of r) (extent (resource_recording setup past) start size owns)
+              (s.holds (upon setup past owns s)).keeps (l.up (upon setup past owns s)) x y first second);
+        },
+      ),
+    )
     crash_does now (Coordinator times past) owns s = absurd s
     crash_does now (Manager settings) owns s = absurd s
 

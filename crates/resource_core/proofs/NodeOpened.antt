@@ -1,15 +1,22 @@
 -- A resource after its opening.
-use Rattle.std.proofs.Common.{◌≡◌, ◌⊎◌, inl, inr, ◌≤◌, ℕ, false, List, [], ◌∷◌, Some, None, Result, Ok, Err, IfOk, IfErr, refl, sym, ap, subst, ◌∙◌, arith}
+use Rattle.std.proofs.Common.{◌≡◌, ◌⊎◌, inl, inr, ◌≤◌, ◌+◌, ℕ, false, List, [], ◌∷◌, length, Some, None, Result, Ok, Err, IfOk, IfErr, refl, sym, ap, subst, ◌∙◌, arith}
 use Rattle.std.specs.List.{AllByRecursion}
 use Rattle.disk_model.specs.Disk.{DiskState, HasCause, IsLawful, IsSettled, KeepsRest, Rose, present}
 use Rattle.disk_model.specs.Stop.{below, stop_of, left_of, state_of}
 use Rattle.disk_model.specs.declared.stoppable.Stop.TheVariants.{Off}
 use Rattle.disk_model.specs.declared.stoppable.Stoppable.{Stoppable}
-use Rattle.journal_checkpoint.specs.Keeping.{active_disk, other_disk, first_disk, second_disk, is_second}
-use Rattle.memory_store.specs.Keeping.{FindsFirst, IsDamage}
+use Rattle.disk_journal.specs.Keeping.{IsFull}
+use Rattle.journal_checkpoint.specs.Extents.{Extent, extent_of, longer, needed}
+use Rattle.journal_checkpoint.specs.Images.{PairStandsFor}
+use Rattle.journal_checkpoint.specs.Keeping.{AreSized, active_disk, other_disk, first_disk, second_disk, is_second, twin_extent}
+use Rattle.journal_checkpoint.specs.declared.types.Found.{Found}
+use Rattle.memory_store.specs.Checkpoints.{checked}
+use Rattle.memory_store.specs.Keeping.{FindsFirst, IsDamage, IsNotFull}
 use Rattle.memory_store.specs.Keeping.{IsOf as IsOfBytes}
 use Rattle.memory_store.specs.Openings.{OpensDisks}
 use Rattle.memory_store.specs.Settling.{RunsOn}
+use Rattle.memory_store.proofs.Damages.{same_found}
+use Rattle.seata_types.specs.declared.errors.Full.{Full}
 use Rattle.seata_types.specs.declared.errors.OpenError.{OpenError}
 use Rattle.seata_types.specs.declared.errors.OpenError.TheVariants as open_error
 use Rattle.seata_types.specs.declared.errors.StoreError.{StoreError}
@@ -18,11 +25,13 @@ use Rattle.seata_types.specs.declared.ids.Place.TheVariants as place
 use Rattle.local_txn.specs.Answers.{Tickets, no_tickets}
 use Rattle.durable_records.specs.declared.resources.ResourceRecord.{ResourceRecord}
 use Rattle.history_rules.specs.ResourceMemory.{Setup as RuleSetup, boot_over}
+use Rattle.node_steps.specs.Ends.{resource_saving}
+use Rattle.resource_log.specs.Records.{record_bytes}
 use Rattle.resource_memory.specs.Known.{Known}
 use Rattle.resource_store.specs.declared.store.Store.{Store}
-use Rattle.resource_store.specs.Keeping.{Changes, GoesOnAs, IsNoDamage, KeepsEach, KeepsRecords, boot_record, known, setting_of, store_of, twin}
+use Rattle.resource_store.specs.Keeping.{Adds, Changes, GoesOnAs, IsNoDamage, KeepsEach, KeepsRecords, boot_record, known, setting_of, store_of, twin}
 use Rattle.resource_store.specs.Meaning.{IsOf, Opens, Setting, meaning_of}
-use Rattle.resource_store.specs.Openings.{IsUndamaged, opening_error}
+use Rattle.resource_store.specs.Openings.{IsUndamaged, boot_length, opening_error}
 use Rattle.resource_store.specs.Standing.{StandsForRecords}
 use Rattle.resource_store.proofs.OpeningLaws.{boot_damage, boot_images, boot_refused, boot_sound, boots_as, failed_disk, moved_first, moved_second, read_damage, read_undamaged}
 use Rattle.record_places.specs.Within.{IsTableWithin}
@@ -32,9 +41,11 @@ use Rattle.resource_core.specs.declared.opening.Loaded.{Loaded}
 use Rattle.seata_types.specs.declared.limits.TheConstants.{NODE_STEPS}
 use Rattle.resource_core.specs.declared.setup.Setup.{Setup}
 use Rattle.resource_core.specs.NodeOpening.{GoOnWithBoot, HandsBack, IsLoaded, IsNotLoaded, IsOpened, IsOpenedDisk, IsSetupWithin, FailsStart, Starts, StaysUnwritten, loaded_at, loaded_disks, setting_at, setup_at, store_in, with_setup}
+use Rattle.resource_core.specs.Lying.{Lies}
 use Rattle.resource_core.specs.NodeStanding.{IsSound, StandsOver}
 use Rattle.resource_core.specs.Setups.{actions_of}
 use Rattle.resource_core.specs.Shown.{active_of, stands_at}
+use Rattle.resource_core.proofs.LyingLaws.{at_there, boot_bytes, lies_up, loaded}
 use Rattle.resource_core.proofs.NodeDisks.{false_true, keeps_images}
 use Rattle.resource_core.proofs.NodeRestarted.{fails_more, unarmed_by}
 
@@ -153,12 +164,19 @@ module _ {D : Type 0} (state : D → DiskState) (number : ℕ) (w : Setup) (firs
 pub not_opened : {D : Type 0} (state : D → DiskState) (first second : D) (number : ℕ) (w : Setup) (failed : OpenError × D × D) → IsNotLoaded state first second number w failed → HandsBack state first second number w failed
 not_opened state first second number w failed n = record {
   recovers = λ rs a b is too stands. read_undamaged (state failed.1) (state failed.2) failed.0 (n.recovers rs a b is too stands);
+  full = λ size rs a b found one two is too pair stands full e. absurd (subst IsNotFull e n.not_full);
   damaged = λ a b is too. read_damage (meaning_of (setting_at number w)) a b failed.0 (n.damaged a b is too);
   cause = n.cause;
   images = λ a b x y is too left left_too rs stands. inl (n.images a b x y is too left left_too rs stands);
   first_disk = n.first_disk;
   second_disk = n.second_disk;
 }
+
+-- a store is full where its opening is
+full_error : (error : StoreError) (full : Full) → opening_error error ≡ open_error.Full full → error ≡ store_error.Full full
+full_error (store_error.Full full') full e = cc
+full_error store_error.Failed full e = absurd cc
+full_error store_error.NoMemory full e = absurd cc
 
 -- ---- the boot is written
 
@@ -183,6 +201,49 @@ module _ {D : Type 0} (state : D → DiskState) (law : (d : Stoppable D) → IsL
   images_now : (result : Result (Unit {0}) StoreError) → made result → GoOnWithBoot its (state first) (state second) (state (below (first_disk (twin s)))) (state (below (second_disk (twin s))))
   images_now result m a b x y is too left left_too =
       boot_images (state_of state) its a b (store_in l) i.setting (λ rs. i.keeps rs a b is too) (λ p q. i.images a b p q is too) result s m x y left left_too
+
+  -- ---- where the journal stands of what was read, on disks of one size
+
+  module _ (size : ℕ) (rs : List ResourceRecord) (a b : List ℕ) (found : Found) (one : (state first).size ≡ size) (two : (state second).size ≡ size)
+      (is : present (state first) ≡ Some a) (too : present (state second) ≡ Some b) (pair : PairStandsFor found a b) (stands : StandsForRecords its rs a b) where
+    -- behind a snapshot where one was due
+    abbrev settled_at : Extent
+    settled_at = checked size (resource_saving (setup_at number w) rs) (extent_of found)
+
+    keeps_read : KeepsRecords (state_of state) (setting_of (store_in l)) rs (store_in l)
+    keeps_read = subst (λ (q : Setting). KeepsRecords (state_of state) q rs (store_in l)) (sym i.setting) (i.keeps rs a b is too stands)
+
+    boot_is : boot_record (known (store_in l)) ≡ boot_over rs
+    boot_is = ap boot_record (i.keeps rs a b is too stands).knows
+
+    sized_read : AreSized (state_of state) (twin (store_in l)) size
+    sized_read = record { first = i.first_disk.rest.kind.size ∙ one; second = i.second_disk.rest.kind.size ∙ two }
+
+    read_there : twin_extent (twin (store_in l)) ≡ settled_at
+    read_there = loaded (state_of state) its (setup_at number w) refl (store_in l) a b (i.settles a b is too) size sized_read rs (extent_of found)
+        (stands, ap extent_of (same_found a b stands.found found stands.pair pair)) (i.keeps rs a b is too stands).knows
+
+    -- its boot was added
+    module _ (m : made (Ok tt)) where
+      boot_added : Adds (state_of state) (boot_record (known (store_in l))) rs (store_in l) s
+      boot_added = m.makes rs keeps_read
+
+      keeps_boot : KeepsRecords (state_of state) (setting_of s) (boot_over rs ∷ rs) s
+      keeps_boot =
+          subst (λ (q : ResourceRecord). KeepsRecords (state_of state) (setting_of s) (q ∷ rs) s) boot_is
+          (subst (λ (q : Setting). KeepsRecords (state_of state) q (boot_record (known (store_in l)) ∷ rs) s) (sym m.setting) boot_added.keeps)
+
+      lies_opened : Lies (state_of state) s (setup_at number w) rs (extent_of found) size []
+      lies_opened = lies_up (state_of state) law (setup_at number w) rs (extent_of found) size [] s
+          (record { first = (first_now (Ok tt) m).rest.kind.size ∙ one; second = (second_now (Ok tt) m).rest.kind.size ∙ two }) keeps_boot
+          (boot_added.extent ∙ ap (λ (q : ResourceRecord). longer (length (record_bytes q)) (twin_extent (twin (store_in l)))) boot_is ∙ ap (longer (length (record_bytes (boot_over rs)))) read_there)
+
+    -- or it doesn't fit
+    boot_full : (full : Full) → made (Err (store_error.Full full)) → IsFull (needed settled_at boot_length) size full
+    boot_full full m =
+        let bytes = length (record_bytes (boot_record (known (store_in l)))) in
+        subst (λ (n : ℕ). IsFull (needed settled_at n) size full) (boot_bytes ((known (store_in l)).boots + 1))
+        (at_there (state_of state) size (λ (n k : ℕ). IsFull n k full) (store_in l) settled_at bytes read_there sized_read (m.makes rs keeps_read))
 
   -- ---- it is
 
@@ -243,6 +304,7 @@ module _ {D : Type 0} (state : D → DiskState) (law : (d : Stoppable D) → IsL
     is_opening : IsOpened state first second number w opening
     is_opening = record {
       stands = λ rs a b is too stands. stands_on rs (boots_as (state_of state) its a b (store_in l) i.setting (λ qs. i.keeps qs a b is too) s m rs stands);
+      lies = λ size rs a b found one two is too pair stands. lies_opened size rs a b found one two is too pair stands m;
       place = λ a b is too found stands. m.found ∙ i.place a b is too found stands;
       settles = λ a b is too. record { loaded = store_in l; is = i.settles a b is too; boots = m };
       images = images_now (Ok tt) m;
@@ -269,6 +331,8 @@ module _ {D : Type 0} (state : D → DiskState) (law : (d : Stoppable D) → IsL
     hands_back = record {
       recovers = λ rs a b is too stands. undamaged_below state (first_disk (twin s)) (second_disk (twin s)) (opening_error error)
           (boot_refused (state_of state) its a b (store_in l) i.setting (λ qs. i.keeps qs a b is too) law error s m rs stands);
+      full = λ size rs a b found one two is too pair stands full e.
+          boot_full size rs a b found one two is too pair stands full (subst (λ (z : StoreError). made (Err z)) (full_error error full e) m);
       damaged = λ a b is too. boot_damage (meaning_of its) a b error;
       cause = λ e. by (failed_disk (state_of state) error (store_in l) s e m.disks);
       images = images_now (Err error) m;

@@ -7,8 +7,12 @@ use Rattle.disk_model.specs.Disk.{DiskState, Counts, IsLawful, SameKind, Rose, l
 use Rattle.disk_model.specs.Stop.{state_of}
 use Rattle.disk_model.specs.declared.stoppable.Stoppable.{Stoppable}
 use Rattle.journal_checkpoint.specs.Images.{Pair, FailsItself}
+use Rattle.disk_journal.specs.Keeping.{IsFull}
 use Rattle.journal_checkpoint.specs.Ends.{HasNoPlace}
-use Rattle.journal_checkpoint.specs.Keeping.{active_disk, other_disk, is_second}
+use Rattle.journal_checkpoint.specs.Extents.{Extent, longer, needed}
+use Rattle.journal_checkpoint.specs.Keeping.{AreSized, active_disk, other_disk, is_second, needed_for, twin_extent}
+use Rattle.journal_checkpoint.specs.Pairs.{chosen}
+use Rattle.memory_store.specs.Checkpoints.{checked}
 use Rattle.memory_store.specs.Keeping.{ComesUp, StaysWhereShort}
 use Rattle.journal_checkpoint.proofs.Ends.{no_place}
 use Rattle.seata_types.specs.declared.acts.Act.{Act}
@@ -25,26 +29,29 @@ use Rattle.durable_records.specs.declared.resources.ResourceRecord.TheVariants a
 use Rattle.durable_records.specs.UndoRecords.{boots}
 use Rattle.history_rules.specs.Own.{Left, Own, Restarted, added, asked_act, kept_part, leaves, still}
 use Rattle.history_rules.specs.Devices.{calls_left, fails, fault_entries, flight_after, in_flight, is_short, kept_act, may_stand, restarted, spent, is_down as down_by}
-use Rattle.history_rules.specs.ResourceMemory.{Memory, Setup, booted, boot_over, memory, memory_after}
+use Rattle.history_rules.specs.ResourceMemory.{Memory, Setup, booted, boot_over, memory, memory_after, opening_tables}
 use Rattle.history_rules.specs.Nodes.{Role, Coordinator, Manager, happens}
 use Rattle.history_rules.specs.Nodes.{Resource as ResourceRole}
 use Rattle.node_steps.specs.Durable.{HavePick, keepable, own_faults}
+use Rattle.node_steps.specs.Ends.{IsOver, extent, reopened, resource_recording, resource_saving, with_added}
 use Rattle.node_steps.specs.Nodes.{NodeState}
-use Rattle.node_steps.specs.Promises.{AreTold, DisksFail, IsRestartError, Restarts, StandsAsBefore, own_entry}
+use Rattle.node_steps.specs.Promises.{AreTold, BootOverflows, DisksFail, HasNoBootPlace, IsRestartError, LiesWith, Restarts, StandsAsBefore, own_entry}
 use Rattle.resource_log.specs.Records.{fields_bytes, record_bytes}
 use Rattle.resource_memory.specs.Changes.{after}
 use Rattle.resource_memory.specs.Known.{Known}
 use Rattle.resource_store.specs.declared.store.Store.{Store}
-use Rattle.resource_store.specs.Keeping.{BringsBack, Changes, GoesOnAs, IsNoDamage, KeepsRecords, StandsAlways, boot_record, found_of, is_down as store_is_down, known, setting_of, twin}
+use Rattle.resource_store.specs.Keeping.{Adds, BringsBack, Changes, GoesOnAs, IsNoDamage, KeepsRecords, Loses, StandsAlways, StandsAt, boot_record, found_of, is_down as store_is_down, known, setting_of, twin}
 use Rattle.resource_store.specs.Meaning.{IsOf, Opens, Setting, meaning_of}
 use Rattle.resource_store.specs.Standing.{StandsForRecords}
 use Rattle.resource_store.proofs.OpeningLaws.{boot_sound, came_back}
 use Rattle.record_places.specs.Within.{IsTableWithin}
 use Rattle.resource_core.specs.declared.nodes.Resource.{Resource}
+use Rattle.resource_core.specs.Lying.{AtEither, Lies}
 use Rattle.resource_core.specs.NodeMoving.{ArmsPair, ArmsWith, Boots, kept_of, with_store}
 use Rattle.resource_core.specs.NodeStanding.{IsFallen, IsSound, StandsAs, StandsForEither, StandsOver, node_state}
 use Rattle.resource_core.specs.NodeStepping.{RestartsBy}
-use Rattle.resource_core.specs.Shown.{active_of, disks_of, is_down, pair_of, size_of, store_of}
+use Rattle.resource_core.specs.Shown.{active_of, disks_of, is_down, pair_of, store_of}
+use Rattle.resource_core.proofs.LyingLaws.{at_there, fits_for, flies_behind, lies_up, loaded, sized_after}
 use Rattle.resource_core.proofs.NodeArms.{moved_armed, setup_still}
 use Rattle.resource_core.proofs.NodeDisks.{Moved, false_true, faults_more, fell_for, keeps_images, lost_images, moved, pair_on, passed_left, passed_long}
 use Rattle.resource_core.proofs.NodeStepped.{stays_itself}
@@ -89,6 +96,11 @@ unfolding fields_bytes
 boot_length n k = refl
 
 -- ---- two disks
+
+-- the active disk is one of both
+one_of_both : {D : Type 0} (state : D → DiskState) (P : ℕ → Type 0) (second : Bool) (a o : D) → P (state a).size → P (state (chosen second a o)).size ⊎ P (state (chosen second o a)).size
+one_of_both state P true a o said = inr said
+one_of_both state P false a o said = inl said
 
 pub fails_more : (a b c : ℕ) → a ≤ b → Rose b c → Rose a c
 fails_more a b c one rose = omega (arith, one, rose)
@@ -220,11 +232,12 @@ always state r setup past owns s a b one two = by (memory setup past owns).left 
     by left (inl e) = (left.records, e)
     by left (inr (q, is, e)) = (q ∷ left.records, e)
 
-cause_by : (setup : Setup) (past : List ResourceRecord) (old new : NodeState) (e : OpenError) → IsNoDamage e → (e ≡ open_error.Failed → DisksFail old.disks new.disks) → IsRestartError (ResourceRole setup past) old new e
-cause_by setup past old new open_error.Failed none fails = fails refl
-cause_by setup past old new (open_error.Damaged second at) none fails = absurd none
-cause_by setup past old new (open_error.Full full) none fails = absurd none
-cause_by setup past old new open_error.NoMemory none fails = tt
+module _ (old new : NodeState) (pick : ℕ) (calls : Option ℕ) (now : ℕ) (role : Role) (owns : List Own) where
+  cause_by : (e : OpenError) → IsNoDamage e → (e ≡ open_error.Failed → DisksFail old.disks new.disks) → IsRestartError old new pick calls now role owns e
+  cause_by open_error.Failed none fails = fails refl
+  cause_by (open_error.Damaged second at) none fails = absurd none
+  cause_by (open_error.Full full) none fails = absurd none
+  cause_by open_error.NoMemory none fails = tt
 
 -- ---- all that is promised of a restart
 
@@ -266,8 +279,9 @@ module _ {D : Type 0} (state : D → DiskState) (law : (d : Stoppable D) → IsL
       failing : e ≡ open_error.Failed → DisksFail (disks_of state r) (pair_of state s1)
       failing is = either_fails (disks_of state r).first.counts (disks_of state r).second.counts (pair_of state s1).first.counts (pair_of state s1).second.counts up.first.own up.second.own (cause is)
 
-      by : AreTold (disks_of state r) → (role : Role) (owns : List Own) → StandsAs state r role owns → IsRestartError role (node_state state r) (node_state state (with_store r s1)) e
-      by told (ResourceRole setup past) owns s = cause_by setup past (node_state state r) (node_state state (with_store r s1)) e (recovers told (always state r setup past owns s)) failing
+      by : AreTold (disks_of state r) → (role : Role) (owns : List Own) → StandsAs state r role owns → IsRestartError (node_state state r) (node_state state (with_store r s1)) pick calls now role owns e
+      by told (ResourceRole setup past) owns s =
+          cause_by (node_state state r) (node_state state (with_store r s1)) pick calls now (ResourceRole setup past) owns e (recovers told (always state r setup past owns s)) failing
       by told (Coordinator times past) owns s = absurd s
       by told (Manager settings) owns s = absurd s
 
@@ -330,31 +344,40 @@ module _ {D : Type 0} (state : D → DiskState) (law : (d : Stoppable D) → IsL
         pub is : kept_of r2 ≡ kept_act keeps owns (calls_left true owns)
         pub stands : KeepsRecords (state_of state) (setting_of (store_of r)) (came (kept_of r2)) s2
 
-      counts : (ks : List ResourceRecord) → KeepsRecords (state_of state) (setting_of (store_of r)) ks s1 → nat_lt r.records (known s2).acts ≡ nat_lt (length rs) (length ks)
-      counts ks k = ap (λ (n : ℕ). nat_lt n (known s2).acts) fallen.count ∙ ap (λ (q : Known). nat_lt (length rs) q.acts) (armed.known ∙ k.knows)
+      -- it keeps these records now
+      abbrev KeepsNow : List ResourceRecord → Type 0
+      KeepsNow ks = KeepsRecords (state_of state) (setting_of (store_of r)) ks s2
 
-      without : KeepsRecords (state_of state) (setting_of (store_of r)) rs s1 → Came
-      without k =
-          let none : kept_of r2 ≡ None = ap (λ (b : Bool). if b then r.flight else None) (counts rs k ∙ not_less (length rs)) in
-          record { keeps = false; is = none; stands = subst (λ (d : Option Durable). KeepsRecords (state_of state) (setting_of (store_of r)) (came d) s2) (sym none) (armed.keeps (setting_of (store_of r)) rs k) }
+      counts : (ks : List ResourceRecord) → KeepsNow ks → nat_lt r.records (known s2).acts ≡ nat_lt (length rs) (length ks)
+      counts ks k = ap (λ (n : ℕ). nat_lt n (known s2).acts) fallen.count ∙ ap (λ (q : Known). nat_lt (length rs) q.acts) k.knows
 
-      with_flight : (q : ResourceRecord) → keepable true owns m.left ≡ Some q → KeepsRecords (state_of state) (setting_of (store_of r)) (q ∷ rs) s1 → Came
+      kept_none : KeepsNow rs → kept_of r2 ≡ None
+      kept_none k = ap (λ (b : Bool). if b then r.flight else None) (counts rs k ∙ not_less (length rs))
+
+      kept_flight : (q : ResourceRecord) → KeepsNow (q ∷ rs) → kept_of r2 ≡ in_flight owns
+      kept_flight q k = ap (λ (b : Bool). if b then r.flight else None) (counts (q ∷ rs) k ∙ less_one (length rs)) ∙ fallen.flight
+
+      without : KeepsNow rs → Came
+      without k = record { keeps = false; is = kept_none k; stands = subst (λ (d : Option Durable). KeepsNow (came d)) (sym (kept_none k)) k }
+
+      with_flight : (q : ResourceRecord) → keepable true owns m.left ≡ Some q → KeepsNow (q ∷ rs) → Came
       with_flight q is k =
           let may = keepable_by (may_stand (calls_left true owns)) m.left.flight q is in
           let done = flight_act setup past owns q may.1 in
-          let kept : kept_of r2 ≡ in_flight owns = ap (λ (b : Bool). if b then r.flight else None) (counts (q ∷ rs) k ∙ less_one (length rs)) ∙ fallen.flight in
           let part : came (in_flight owns) ≡ q ∷ rs = ap came done.1 ∙ ap (λ (o : Option ResourceRecord). added o rs) may.1 in
           record {
             keeps = true;
-            is = kept ∙ sym (ap (λ (b : Bool). if b then in_flight owns else None) may.0);
-            stands = subst (λ (d : Option Durable). KeepsRecords (state_of state) (setting_of (store_of r)) (came d) s2) (sym kept)
-                (subst (λ (ks : List ResourceRecord). KeepsRecords (state_of state) (setting_of (store_of r)) ks s2) (sym part) (armed.keeps (setting_of (store_of r)) (q ∷ rs) k));
+            is = kept_flight q k ∙ sym (ap (λ (b : Bool). if b then in_flight owns else None) may.0);
+            stands = subst (λ (d : Option Durable). KeepsNow (came d)) (sym (kept_flight q k)) (subst KeepsNow (sym part) k);
           }
 
+      back2 : AreTold (disks_of state r) → BringsBack (state_of state) pick (store_of r) s2
+      back2 told = armed.back pick (store_of r) (back told)
+
       brought : AreTold (disks_of state r) → Came
-      brought told = by (came_back (state_of state) law pick (store_of r) s1 rs (keepable true owns m.left) (back told) (λ a b one two. s.disks.images a b one two))
+      brought told = by (came_back (state_of state) law pick (store_of r) s2 rs (keepable true owns m.left) (back2 told) (λ a b one two. s.disks.images a b one two))
         where
-          by : KeepsRecords (state_of state) (setting_of (store_of r)) rs s1 ⊎ ((q : ResourceRecord) × (keepable true owns m.left ≡ Some q) × KeepsRecords (state_of state) (setting_of (store_of r)) (q ∷ rs) s1) → Came
+          by : KeepsNow rs ⊎ ((q : ResourceRecord) × (keepable true owns m.left ≡ Some q) × KeepsNow (q ∷ rs)) → Came
           by (inl k) = without k
           by (inr (q, is, k)) = with_flight q is k
 
@@ -365,6 +388,44 @@ module _ {D : Type 0} (state : D → DiskState) (law : (d : Stoppable D) → IsL
       -- the record of the boot is that of the rules
       boot_is : (c : Came) → boot_record (known s2) ≡ boot_over (came (kept_of r2))
       boot_is c = ap boot_record c.stands.knows
+
+      came_now : (c : Came) → KeepsRecords (state_of state) (setting_of s2) (came (kept_of r2)) s2
+      came_now c = subst (λ (t : Setting). KeepsRecords (state_of state) t (came (kept_of r2)) s2) (sym setting2) c.stands
+
+      -- ---- where the journal stands that came back
+
+      module _ (start : Extent) (size : ℕ) (l : Lies (state_of state) (store_of r) setup past start size owns) where
+        abbrev there : Extent
+        there = extent (resource_recording setup past) start size owns
+
+        -- what is kept decides it
+        abbrev again : Option Durable → Extent
+        again kept = reopened (resource_recording setup past) start size (act.Restarted kept) m.left there
+
+        sized2 : AreSized (state_of state) (twin s2) size
+        sized2 = sized_after (state_of state) size (twin (store_of r)) (twin s2) first2 second2 l.sized
+
+        module _ (b : BringsBack (state_of state) pick (store_of r) s2) where
+          reads : (ks : List ResourceRecord) (e : Extent) → StandsAt (setting_of (store_of r)) ks e b.a b.b → twin_extent (twin s2) ≡ checked size (resource_saving setup ks) e
+          reads ks e h = loaded (state_of state) (setting_of (store_of r)) setup (sym (ap opening_tables s.is)) s2 b.a b.b b.is size sized2 ks e h (b.keeps ks h.0).knows
+
+          by_image : AtEither (setting_of (store_of r)) m.left there b.a b.b → twin_extent (twin s2) ≡ again (kept_of r2)
+          by_image (inl h) = reads rs there h ∙ ap again (sym (kept_none (b.keeps rs h.0)))
+          by_image (inr (q, flies, h)) =
+              let done = flight_act setup past owns q flies in
+              reads (q ∷ rs) (longer (length (record_bytes q)) there) h
+              ∙ ap (λ (o : Option ResourceRecord). checked size (resource_saving setup (added o rs)) (with_added (resource_recording setup past) start size o there)) (sym flies)
+              ∙ ap again (sym (kept_flight q (b.keeps (q ∷ rs) h.0) ∙ done.1))
+
+        reopens : AreTold (disks_of state r) → twin_extent (twin s2) ≡ again (kept_of r2)
+        reopens told = by_image (back2 told) (l.images (back2 told).a (back2 told).b (back2 told).first.0 (back2 told).second.0)
+
+        -- where the record of its boot would end, and the disk's size
+        boot_there : AreTold (disks_of state r) → Came → (P : ℕ → ℕ → Type 0) → P (needed_for (twin s2) (length (record_bytes (boot_record (known s2))))) (active_of state s2).size
+            → P (needed (again (kept_of r2)) (length (record_bytes (boot_over (came (kept_of r2)))))) size
+        boot_there told c P said =
+            subst (λ (q : ResourceRecord). P (needed (again (kept_of r2)) (length (record_bytes q))) size) (boot_is c)
+            (at_there (state_of state) size P s2 (again (kept_of r2)) (length (record_bytes (boot_record (known s2)))) (reopens told) sized2 said)
 
     -- ---- it is up again
 
@@ -386,13 +447,21 @@ module _ {D : Type 0} (state : D → DiskState) (law : (d : Stoppable D) → IsL
         abbrev entry : Own
         entry = own_entry (Restarted pick calls) now (still (act.Restarted (kept_of r2)))
 
+        -- the records with that of the boot
+        boot_added : (setup : Setup) (past : List ResourceRecord) (owns : List Own) (s : StandsOver state r setup past owns) → Came setup past owns s → Adds (state_of state) (boot_record (known s2)) (came setup past owns s (kept_of r2)) s2 s3
+        boot_added setup past owns s c = made.makes (came setup past owns s (kept_of r2)) (came_now setup past owns s c)
+
+        keeps_boot : (setup : Setup) (past : List ResourceRecord) (owns : List Own) (s : StandsOver state r setup past owns) → Came setup past owns s
+            → KeepsRecords (state_of state) (setting_of s3) (boot_over (came setup past owns s (kept_of r2)) ∷ came setup past owns s (kept_of r2)) s3
+        keeps_boot setup past owns s c =
+            let rs : List ResourceRecord = came setup past owns s (kept_of r2) in
+            subst (λ (q : ResourceRecord). KeepsRecords (state_of state) (setting_of s3) (q ∷ rs) s3) (boot_is setup past owns s c)
+            (subst (λ (t : Setting). KeepsRecords (state_of state) t (boot_record (known s2) ∷ rs) s3) (sym made.setting) (boot_added setup past owns s c).keeps)
+
         stands_up : (setup : Setup) (past : List ResourceRecord) (owns : List Own) (s : StandsOver state r setup past owns) → Came setup past owns s → StandsOver state booting setup past (entry ∷ owns)
         stands_up setup past owns s c =
             let rs : List ResourceRecord = came setup past owns s (kept_of r2) in
-            let kept = subst (λ (t : Setting). KeepsRecords (state_of state) t rs s2) (sym setting2) c.stands in
-            let keeps : KeepsRecords (state_of state) (setting_of s3) (boot_over rs ∷ rs) s3 =
-            subst (λ (q : ResourceRecord). KeepsRecords (state_of state) (setting_of s3) (q ∷ rs) s3) (boot_is setup past owns s c)
-            (subst (λ (t : Setting). KeepsRecords (state_of state) t (boot_record (known s2) ∷ rs) s3) (sym made.setting) (made.makes rs kept).keeps) in
+            let keeps = keeps_boot setup past owns s c in
             let counted = s.disks.counted in
             let own = moved3.own in
             record {
@@ -411,10 +480,22 @@ module _ {D : Type 0} (state : D → DiskState) (law : (d : Stoppable D) → IsL
               fallen = λ e. false_true e;
             }
 
+        lies_again : (setup : Setup) (past : List ResourceRecord) (owns : List Own) (s : StandsOver state r setup past owns) → AreTold (disks_of state r) → Came setup past owns s
+            → LiesWith (node_state state r) (node_state state booting) (ResourceRole setup past) owns entry
+        lies_again setup past owns s told c start size l =
+            let boot : ResourceRecord = boot_over (came setup past owns s (kept_of r2)) in
+            let adds = boot_added setup past owns s c in
+            let e : Extent = again setup past owns s start size l (kept_of r2) in (
+              fits_for e size (Some boot) boot refl (boot_there setup past owns s start size l told c (λ (n k : ℕ). n ≤ k) adds.fits),
+              lies_up (state_of state) law setup past start size (entry ∷ owns) s3 (sized_after (state_of state) size (twin s2) (twin s3) moved3.first_kind moved3.second_kind (sized2 setup past owns s start size l))
+                  (keeps_boot setup past owns s c)
+                  (adds.extent ∙ ap (λ (q : ResourceRecord). longer (length (record_bytes q)) (twin_extent (twin s2))) (boot_is setup past owns s c) ∙ ap (longer (length (record_bytes boot))) (reopens setup past owns s start size l told)),
+            )
+
         restarts_up : AreTold (disks_of state r) → Restarts (node_state state r) (node_state state booting) pick calls now (act.Restarted (kept_of r2))
         restarts_up told (ResourceRole setup past) owns s =
             let c = brought setup past owns s told in
-            (false, c.keeps, sym (happens_back setup past owns s false c.keeps (kept_of r2) false c.is long), stands_up setup past owns s c, λ e. false_true e)
+            (false, c.keeps, sym (happens_back setup past owns s false c.keeps (kept_of r2) false c.is long), stands_up setup past owns s c, λ e. false_true e, lies_again setup past owns s told c)
         restarts_up told (Coordinator times past) owns s = absurd s
         restarts_up told (Manager settings) owns s = absurd s
 
@@ -474,11 +555,13 @@ module _ {D : Type 0} (state : D → DiskState) (law : (d : Stoppable D) → IsL
         abbrev entry_down : Own
         entry_down = own_entry (Restarted pick calls) now (still (act.Down (kept_of r2) (Some durable.Boot)))
 
+        boot_lost : (setup : Setup) (past : List ResourceRecord) (owns : List Own) (s : StandsOver state r setup past owns) → Came setup past owns s → Loses (state_of state) (boot_record (known s2)) (came setup past owns s (kept_of r2)) s2 s3
+        boot_lost setup past owns s c = lost.makes (came setup past owns s (kept_of r2)) (came_now setup past owns s c)
+
         stands_down : (setup : Setup) (past : List ResourceRecord) (owns : List Own) (s : StandsOver state r setup past owns) → Came setup past owns s → StandsOver state falling setup past (entry_down ∷ owns)
         stands_down setup past owns s c =
             let rs : List ResourceRecord = came setup past owns s (kept_of r2) in
-            let kept = subst (λ (t : Setting). KeepsRecords (state_of state) t rs s2) (sym setting2) c.stands in
-            let images = lost_images state law s2 s3 rs (boot_record (known s2)) calls armed.left lost.setting (lost.makes rs kept) in
+            let images = lost_images state law s2 s3 rs (boot_record (known s2)) calls armed.left lost.setting (boot_lost setup past owns s c) in
             let own = moved_lost.own in
             record {
               is = s.is ∙ setup_still r s3 setting_lost;
@@ -494,16 +577,35 @@ module _ {D : Type 0} (state : D → DiskState) (law : (d : Stoppable D) → IsL
               fallen = λ e. record { flight = refl; count = ap (λ (k : Known). k.acts) c.stands.knows; closed = refl };
             }
 
+        lies_down : (setup : Setup) (past : List ResourceRecord) (owns : List Own) (s : StandsOver state r setup past owns) → AreTold (disks_of state r) → Came setup past owns s
+            → LiesWith (node_state state r) (node_state state falling) (ResourceRole setup past) owns entry_down
+        lies_down setup past owns s told c start size l =
+            let rs : List ResourceRecord = came setup past owns s (kept_of r2) in
+            let loses = boot_lost setup past owns s c in
+            let e : Extent = again setup past owns s start size l (kept_of r2) in (
+              fits_for e size (Some (boot_over rs)) (boot_over rs) refl (boot_there setup past owns s start size l told c (λ (n k : ℕ). n ≤ k) loses.fits),
+              record {
+                sized = sized_after (state_of state) size (twin s2) (twin s3) moved_lost.first_kind moved_lost.second_kind (sized2 setup past owns s start size l);
+                up = λ e. false_true (sym e);
+                images = λ x y first second. subst (λ (q : ResourceRecord). AtEither (setting_of s3) (record { records = rs; flight = Some q }) e x y) (boot_is setup past owns s c)
+                    (flies_behind (state_of state) s2 s3 rs (boot_record (known s2)) e lost.setting (reopens setup past owns s start size l told) loses x y first second);
+              },
+            )
+
         abbrev Fell : (setup : Setup) (past : List ResourceRecord) (owns : List Own) → Type 0
         Fell setup past owns = (fault : Bool) × (keeps : Bool) × (still (act.Down (kept_of r2) (Some durable.Boot)) ≡ happens (ResourceRole setup past) owns now fault keeps (Restarted pick calls))
             × StandsOver state falling setup past (entry_down ∷ owns) × (fault ≡ true → DisksFail (disks_of state r) (disks_of state falling))
+            × LiesWith (node_state state r) (node_state state falling) (ResourceRole setup past) owns entry_down
 
-        fell : (setup : Setup) (past : List ResourceRecord) (owns : List Own) (s : StandsOver state r setup past owns) → Came setup past owns s → (is_short calls ≡ true) ⊎ DisksFail (disks_of state r) (pair_of state s3) → Fell setup past owns
-        fell setup past owns s c (inl short) = (false, c.keeps, sym (happens_back setup past owns s false c.keeps (kept_of r2) true c.is short), stands_down setup past owns s c, λ e. false_true e)
-        fell setup past owns s c (inr fail) = (true, c.keeps, sym (happens_back setup past owns s true c.keeps (kept_of r2) true c.is refl), stands_down setup past owns s c, λ e. fail)
+        fell : (setup : Setup) (past : List ResourceRecord) (owns : List Own) (s : StandsOver state r setup past owns) → AreTold (disks_of state r) → Came setup past owns s → (is_short calls ≡ true) ⊎ DisksFail (disks_of state r) (pair_of state s3)
+            → Fell setup past owns
+        fell setup past owns s told c (inl short) =
+            (false, c.keeps, sym (happens_back setup past owns s false c.keeps (kept_of r2) true c.is short), stands_down setup past owns s c, λ e. false_true e, lies_down setup past owns s told c)
+        fell setup past owns s told c (inr fail) =
+            (true, c.keeps, sym (happens_back setup past owns s true c.keeps (kept_of r2) true c.is refl), stands_down setup past owns s c, λ e. fail, lies_down setup past owns s told c)
 
         restarts_down : AreTold (disks_of state r) → Restarts (node_state state r) (node_state state falling) pick calls now (act.Down (kept_of r2) (Some durable.Boot))
-        restarts_down told (ResourceRole setup past) owns s = fell setup past owns s (brought setup past owns s told) cause
+        restarts_down told (ResourceRole setup past) owns s = fell setup past owns s told (brought setup past owns s told) cause
         restarts_down told (Coordinator times past) owns s = absurd s
         restarts_down told (Manager settings) owns s = absurd s
 
@@ -539,7 +641,7 @@ module _ {D : Type 0} (state : D → DiskState) (law : (d : Stoppable D) → IsL
     -- ---- the boot isn't made, and nothing more changed
 
     not_booted : (e : OpenError) → (e ≡ open_error.Failed → DisksFail (disks_of state r) (pair_of state s2))
-        → (AreTold (disks_of state r) → (role : Role) (owns : List Own) → StandsAs state r role owns → IsRestartError role (node_state state r) (node_state state r2) e)
+        → (AreTold (disks_of state r) → (role : Role) (owns : List Own) → StandsAs state r role owns → IsRestartError (node_state state r) (node_state state r2) pick calls now role owns e)
         → RestartsBy state r r2 pick calls now (Err e)
     not_booted e failing causes = record {
       restarts = λ told. tt;
@@ -555,17 +657,31 @@ module _ {D : Type 0} (state : D → DiskState) (law : (d : Stoppable D) → IsL
     }
 
     -- a boot that doesn't fit
-    too_full : (full : Full) → Changes (state_of state) (boot_record (known s2)) (Err (store_error.Full full)) s2 s2 → AreTold (disks_of state r) → (role : Role) (owns : List Own) → StandsAs state r role owns
-        → IsRestartError role (node_state state r) (node_state state r2) (open_error.Full full)
-    too_full full changes told (ResourceRole setup past) owns s =
-        let c = brought setup past owns s told in
-        let kept = subst (λ (t : Setting). KeepsRecords (state_of state) t (came setup past owns s (kept_of r2)) s2) (sym setting2) c.stands in
-        subst (λ (n : ℕ). HasNoPlace (pair_of state s2) (size_of state r2) n full) (boot_length ((known s2).boots + 1) (boots past + 1))
-        (no_place (state_of state) law kept.found (twin s2) kept.kept.pair (size_of state r2) (length (record_bytes (boot_record (known s2)))) full (changes.makes (came setup past owns s (kept_of r2)) kept))
-    too_full full changes told (Coordinator times past) owns s = absurd s
-    too_full full changes told (Manager settings) owns s = absurd s
+    module _ (full : Full) (changes : Changes (state_of state) (boot_record (known s2)) (Err (store_error.Full full)) s2 s2) (told : AreTold (disks_of state r)) where
+      module _ (setup : Setup) (past : List ResourceRecord) (owns : List Own) (s : StandsOver state r setup past owns) (c : Came setup past owns s) where
+        is_full : IsFull (needed_for (twin s2) (length (record_bytes (boot_record (known s2))))) (active_of state s2).size full
+        is_full = changes.makes (came setup past owns s (kept_of r2)) (came_now setup past owns s c)
 
-    free : (role : Role) (owns : List Own) → StandsAs state r role owns → IsRestartError role (node_state state r) (node_state state r2) open_error.NoMemory
+        overflows_by : BootOverflows (node_state state r) (ResourceRole setup past) owns now pick calls full
+        overflows_by start size l = (
+          c.keeps,
+          subst (λ (kept : Option Durable). IsOver (resource_recording setup past) start size owns (own_entry (Restarted pick calls) now (still (act.Down kept (Some durable.Boot)))) full) c.is
+              (boot_over (came setup past owns s (kept_of r2)), refl, boot_there setup past owns s start size l told c (λ (n k : ℕ). IsFull n k full) is_full),
+        )
+
+        no_boot_place : HasNoBootPlace (ResourceRole setup past) (pair_of state s2) full
+        no_boot_place =
+            let kept = came_now setup past owns s c in
+            one_of_both (state_of state) (λ (n : ℕ). HasNoPlace (pair_of state s2) n (length (record_bytes (boot_over past))) full) (is_second (twin s2)) (active_disk (twin s2)) (other_disk (twin s2))
+            (subst (λ (n : ℕ). HasNoPlace (pair_of state s2) (active_of state s2).size n full) (boot_length ((known s2).boots + 1) (boots past + 1))
+            (no_place (state_of state) law kept.found (twin s2) kept.kept.pair (active_of state s2).size (length (record_bytes (boot_record (known s2)))) full is_full))
+
+      too_full : (role : Role) (owns : List Own) → StandsAs state r role owns → IsRestartError (node_state state r) (node_state state r2) pick calls now role owns (open_error.Full full)
+      too_full (ResourceRole setup past) owns s = let c = brought setup past owns s told in (overflows_by setup past owns s c, no_boot_place setup past owns s c)
+      too_full (Coordinator times past) owns s = absurd s
+      too_full (Manager settings) owns s = absurd s
+
+    free : (role : Role) (owns : List Own) → StandsAs state r role owns → IsRestartError (node_state state r) (node_state state r2) pick calls now role owns open_error.NoMemory
     free (ResourceRole setup past) owns s = tt
     free (Coordinator times past) owns s = absurd s
     free (Manager settings) owns s = absurd s

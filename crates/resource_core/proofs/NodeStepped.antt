@@ -5,8 +5,8 @@ use Rattle.std.specs.Option.{option_and_then}
 use Rattle.disk_model.specs.Disk.{DiskState, IsLawful, SameKind}
 use Rattle.disk_model.specs.Stop.{state_of}
 use Rattle.disk_model.specs.declared.stoppable.Stoppable.{Stoppable}
-use Rattle.journal_checkpoint.specs.Ends.{HasNoPlace}
-use Rattle.journal_checkpoint.proofs.Ends.{no_place}
+use Rattle.disk_journal.specs.Keeping.{IsFull}
+use Rattle.journal_checkpoint.specs.Extents.{Extent, longer}
 use Rattle.seata_types.specs.declared.acts.Act.{Act}
 use Rattle.seata_types.specs.declared.acts.Act.TheVariants as act
 use Rattle.seata_types.specs.declared.acts.Durable.{Durable}
@@ -29,12 +29,13 @@ use Rattle.history_rules.specs.ResourceRules.{resource_answer}
 use Rattle.history_rules.specs.Nodes.{Coordinator, Manager, happens, left_at}
 use Rattle.history_rules.specs.Nodes.{Resource as ResourceRole}
 use Rattle.node_steps.specs.Durable.{own_faults}
-use Rattle.node_steps.specs.Promises.{AfterError, TakesStep, FailsAt, StaysItself, Overflows, Fits, HadPlace, own_step, cut, goes_down, steps_of, DisksFail}
+use Rattle.node_steps.specs.Ends.{boot_or, extent, resource_recording}
+use Rattle.node_steps.specs.Promises.{AfterError, TakesStep, FailsAt, LiesWith, StaysItself, Overflows, own_step, cut, goes_down, steps_of, DisksFail}
 use Rattle.resource_log.specs.Records.{record_bytes}
 use Rattle.resource_memory.specs.Known.{Known}
 use Rattle.resource_store.specs.declared.store.Store.{Store}
 use Rattle.resource_store.specs.Answers.{Does, Leaves, outcome}
-use Rattle.resource_store.specs.Keeping.{Changes, Makes, HasRoom as HasRecordRoom, is_down as store_is_down, found_of, known, setting_of, twin}
+use Rattle.resource_store.specs.Keeping.{Adds, Changes, Loses, Makes, HasRoom as HasRecordRoom, is_down as store_is_down, found_of, known, setting_of, twin}
 use Rattle.resource_store.specs.Meaning.{IsOf, Opens, Setting}
 use Rattle.record_places.specs.Within.{IsTableWithin}
 use Rattle.resource_core.specs.declared.branches.Branches.{Branches}
@@ -44,13 +45,14 @@ use Rattle.resource_core.specs.Holding.{Holds}
 use Rattle.resource_core.specs.NodeMoving.{Misses}
 use Rattle.resource_core.specs.NodeLaws.{on_same}
 use Rattle.resource_core.specs.NodeStanding.{IsSound, OnDisks, StandsForEither, StandsOver, node_state, serves}
-use Rattle.node_steps.proofs.Places.{has_place}
-use Rattle.resource_core.specs.NodeStepping.{HasRoom, HadRoom, StepsBy}
+use Rattle.resource_core.specs.Lying.{AtEither, Lies}
+use Rattle.resource_core.specs.NodeStepping.{HasNoRoom, HasRoom, HadRoom, StepsBy}
 use Rattle.resource_core.specs.Ready.{AreTicketsWithin, HasActionWithin, HasStmtsWithin, IsReady}
 use Rattle.resource_core.specs.Shown.{active_of, disks_of, is_down, needs, pair_of, size_of, store_of}
 use Rattle.resource_core.specs.Stepping.{Answers, KeepsSettings, asked_record, made_as}
 use Rattle.resource_core.proofs.HappensLaws as happening
 use Rattle.resource_core.proofs.HappensLaws.{same_setup}
+use Rattle.resource_core.proofs.LyingLaws.{at_there, behind_durable, behind_still, boot_durable, boot_still, fits_for, fits_none, flies_behind, lies_still, lies_up, sized_after}
 use Rattle.resource_core.proofs.NodeDisks.{Moved, false_true, faults_more, fell_for, is_still, keeps_images, lost_images, moved, moved_same, passed_left, passed_long, same_kind, same_picks, still_down, still_fault, still_leaves, still_left}
 use Rattle.resource_core.proofs.QuietLaws.{answers_are_recorded, is_recorded}
 use Rattle.resource_core.proofs.StayReady.{known_after, stays_ready}
@@ -109,12 +111,6 @@ quiet_none asked _ e none = refl
 
 no_record : {X : Type 0} (r : ResourceRecord) → None ≡ Some r → X
 no_record r e = absurd cc
-
-no_bytes : {X : Type 0} (bytes : List ℕ) → None ≡ Some bytes → X
-no_bytes bytes e = absurd cc
-
-same_bytes : (a b : List ℕ) → Some a ≡ Some b → a ≡ b
-same_bytes a b e = cc
 
 durable_some : (f : Durable → Option ResourceRecord) (asked : Option ResourceRecord) (a : Act) (r : ResourceRecord) → is_recorded asked a ≡ true → option_and_then f (asked_act a) ≡ Some r → (d : Durable) × (a ≡ act.Durable d)
 durable_some f asked (act.Durable done) r e some = (done, refl)
@@ -181,12 +177,20 @@ module _ {D : Type 0} (state : D → DiskState) (law : (d : Stoppable D) → IsL
         fallen = λ e. false_true (sym up_now ∙ e);
       }
 
+      abbrev entry : Own
+      entry = own_step given now step
+
       abbrev Done : Type 0
-      Done = (step ≡ happens (ResourceRole setup past) owns now false false (Given given)) × StandsOver state r' setup past (own_step given now step ∷ owns)
+      Done = (step ≡ happens (ResourceRole setup past) owns now false false (Given given)) × StandsOver state r' setup past (entry ∷ owns)
+          × LiesWith (node_state state r) (node_state state r') (ResourceRole setup past) owns entry
+
+      -- where its journal stood
+      abbrev there : Extent → (size : ℕ) → Extent
+      there start size = extent (resource_recording setup past) start size owns
 
       -- without a record
-      quiet : is_still step.act ≡ true → store_of r' ≡ store_of r → Done
-      quiet e same = (
+      quiet : asked ≡ None → is_still step.act ≡ true → store_of r' ≡ store_of r → Done
+      quiet none e same = (
         sym (happens_as false ∙ still_written (fails false (calls_left true owns)) step step.act e),
         stands_so
             (subst (λ (k : Store (Stoppable D)). OnDisks state k (memory_after setup (own_step given now step) m).left (own_step given now step ∷ owns)) (sym same)
@@ -194,20 +198,34 @@ module _ {D : Type 0} (state : D → DiskState) (law : (d : Stoppable D) → IsL
             (still_leaves step.act (resource_asked setup m (own_step given now step)) m.left e) (still_left given step.act (calls_left true owns) e)
             (let none = still_fault step.act (calls_left true owns) e in omega (arith, none)) s.disks))
             (still_down step.act (down_by owns) e ∙ upon setup past owns s),
+        λ start size l. (
+          λ q some. fits_none (boot_or step.act m.left asked) (boot_still m.left asked step.act e ∙ none) q some,
+          subst (λ (k : Store (Stoppable D)). Lies (state_of state) k setup past start size (entry ∷ owns)) (sym same)
+              (lies_still (state_of state) (store_of r) setup past start size owns (entry ∷ owns) (still_down step.act (down_by owns) e) (still_leaves step.act asked m.left e)
+              (behind_still m.left asked setup past start size (there start size) step.act (boot_or step.act m.left asked) e) l),
+        ),
       )
 
       -- with one
-      made : (d : Durable) (q : ResourceRecord) → step.act ≡ act.Durable d → Changes (state_of state) q (Ok tt) (store_of r) (store_of r') → Done
-      made d q is changes =
+      made : (d : Durable) (q : ResourceRecord) → asked ≡ Some q → step.act ≡ act.Durable d → Changes (state_of state) q (Ok tt) (store_of r) (store_of r') → Done
+      made d q some is changes =
           let took = changes.disks in
+          let moves = moved state (store_of r) (store_of r') (Ok tt) took in
+          let adds : Adds (state_of state) q m.left.records (store_of r) (store_of r') = changes.makes m.left.records h.keeps in
           let long : is_short (calls_left true owns) ≡ false = subst (λ (l : Option ℕ). is_short l ≡ false) (passes setup past owns s) (passed_long _ _ took.counts.passed) in
-          let grown = (moved state (store_of r) (store_of r') (Ok tt) took).own in (
+          let grown = moves.own in (
             sym (happens_as false ∙ ap (λ (b : Bool). written b step step.act) long ∙ ap (written false step) is),
             stands_so (record {
               passes = λ e. passed_left _ _ took.counts.passed ∙ ap (option_map spent) (passes setup past owns s) ∙ sym (ap (λ (k : Act). left_of k) is);
               images = λ x y first second. inl (keeps_images state law (setting_of (store_of r')) (memory_after setup (own_step given now step) m).left.records (store_of r') holds.keeps x y first second);
               counted = subst (λ (k : Act). min (fault_entries true owns + fault_of k (calls_left true owns)) (2 ^ 64 - 1) ≤ own_faults (pair_of state (store_of r'))) (sym is) (let counted = s.disks.counted in omega (arith, counted, grown));
             }) (ap (λ (k : Act). down_after k (down_by owns)) is ∙ upon setup past owns s),
+            λ start size l. (
+              fits_for (there start size) size (boot_or step.act m.left asked) q (boot_durable m.left asked step.act d is ∙ some)
+                  (at_there (state_of state) size (λ (n k : ℕ). n ≤ k) (store_of r) (there start size) (length (record_bytes q)) (l.up (upon setup past owns s)) l.sized adds.fits),
+              lies_up (state_of state) law setup past start size (entry ∷ owns) (store_of r') (sized_after (state_of state) size (twin (store_of r)) (twin (store_of r')) moves.first_kind moves.second_kind l.sized) holds.keeps
+                  (adds.extent ∙ ap (longer (length (record_bytes q))) (l.up (upon setup past owns s)) ∙ sym (behind_durable m.left asked setup past start size (there start size) step.act d q is some)),
+            ),
           )
         where
           left_of : Act → Option ℕ
@@ -217,10 +235,10 @@ module _ {D : Type 0} (state : D → DiskState) (law : (d : Stoppable D) → IsL
       done = by asked refl
         where
           by : (o : Option ResourceRecord) → asked ≡ o → Done
-          by None none = quiet (quiet_none asked step.act recorded none) (subst (λ (o : Option ResourceRecord). Does {A = Unit {0}} (state_of state) o (Ok tt) (store_of r) (store_of r')) none does)
+          by None none = quiet none (quiet_none asked step.act recorded none) (subst (λ (o : Option ResourceRecord). Does {A = Unit {0}} (state_of state) o (Ok tt) (store_of r) (store_of r')) none does)
           by (Some q) some =
               let d = durable_some (resource_record setup (kept_records step.act m.left) m.opens (Given given)) asked step.act q recorded some in
-              made d.0 q d.1 (subst (λ (o : Option ResourceRecord). Does {A = Unit {0}} (state_of state) o (Ok tt) (store_of r) (store_of r')) some does)
+              made d.0 q some d.1 (subst (λ (o : Option ResourceRecord). Does {A = Unit {0}} (state_of state) o (Ok tt) (store_of r) (store_of r')) some does)
 
     pub takes_step : TakesStep (node_state state r) (node_state state r') given now step
     takes_step (ResourceRole setup past) owns s = done setup past owns s
@@ -237,6 +255,7 @@ module _ {D : Type 0} (state : D → DiskState) (law : (d : Stoppable D) → IsL
       abbrev Fell : Type 0
       Fell = (cut flight ≡ happens (ResourceRole setup past) owns now true false (Given given)) × StandsOver state r' setup past (own_step given now (cut flight) ∷ owns)
           × ((is_short (left_at (ResourceRole setup past) owns) ≡ true) ⊎ DisksFail (disks_of state r) (disks_of state r'))
+          × LiesWith (node_state state r) (node_state state r') (ResourceRole setup past) owns (own_step given now (cut flight))
 
       held : Holds (state_of state) r.branches mem
       held = s.holds (upon setup past owns s)
@@ -254,7 +273,9 @@ module _ {D : Type 0} (state : D → DiskState) (law : (d : Stoppable D) → IsL
           let cause = fell_for state (store_of r) (store_of r') (calls_left true owns) (passes setup past owns s) falls in
           let flies : asked_at (act.Durable flight) ≡ Some q = sym (ap asked_at at) ∙ some in
           let keeps = held.keeps in
-          let lost = lost_images state law (store_of r) (store_of r') mem.left.records q (calls_left true owns) (passes setup past owns s) changes.setting (changes.makes mem.left.records keeps) in (
+          let loses : Loses (state_of state) q mem.left.records (store_of r) (store_of r') = changes.makes mem.left.records keeps in
+          let lost = lost_images state law (store_of r) (store_of r') mem.left.records q (calls_left true owns) (passes setup past owns s) changes.setting loses in
+          let moves = moved state (store_of r) (store_of r') (Err store_error.Failed) falls in (
             happening.cut setup past owns now (upon setup past owns s) given flight at,
             record {
               is = s.is ∙ same_setup (state_of state) r.branches r'.branches a.leaves.setting a.same;
@@ -265,12 +286,23 @@ module _ {D : Type 0} (state : D → DiskState) (law : (d : Stoppable D) → IsL
                 images = λ x y first second. subst (λ (o : Option ResourceRecord). StandsForEither (setting_of (store_of r')) (record { records = mem.left.records; flight = o }) (if may_stand (calls_left true owns) then o else None) x y)
                     (sym flies) (lost x y first second);
                 counted = faults_more (is_short (calls_left true owns)) (fault_entries true owns) (own_faults (disks_of state r)) (own_faults (disks_of state r')) s.disks.counted
-                    (moved state (store_of r) (store_of r') (Err store_error.Failed) falls).own cause;
+                    moves.own cause;
               };
               holds = λ e. false_true (sym e);
               fallen = λ e. record { flight = in_flight; count = count ∙ ap (λ (k : Known). k.acts) keeps.knows; closed = refl };
             },
             cause,
+            λ start size l.
+                let there : Extent = extent (resource_recording setup past) start size owns in
+                let stood = l.up (upon setup past owns s) in (
+                  fits_for there size (asked_at (act.Durable flight)) q flies (at_there (state_of state) size (λ (n k : ℕ). n ≤ k) (store_of r) there (length (record_bytes q)) stood l.sized loses.fits),
+                  record {
+                    sized = sized_after (state_of state) size (twin (store_of r)) (twin (store_of r')) moves.first_kind moves.second_kind l.sized;
+                    up = λ e. false_true (sym e);
+                    images = λ x y first second. subst (λ (o : Option ResourceRecord). AtEither (setting_of (store_of r')) (record { records = mem.left.records; flight = o }) there x y) (sym flies)
+                        (flies_behind (state_of state) (store_of r) (store_of r') mem.left.records q there changes.setting stood loses x y first second);
+                  },
+                ),
           )
 
       failed : Fell
@@ -285,56 +317,42 @@ module _ {D : Type 0} (state : D → DiskState) (law : (d : Stoppable D) → IsL
     fails_at (Coordinator times past) owns s = absurd s
     fails_at (Manager settings) owns s = absurd s
 
-  -- ---- a record that doesn't fit
+  -- ---- a record that doesn't fit, or does
 
-  pub overflows : (full : Full) (b' : Branches (Stoppable D)) → Answers (state_of state) r.branches b' given (Err (error.Full full)) → Overflows (node_state state r) (node_state state r) given now full
-  overflows full b' a (ResourceRole setup past) owns s =
-      let m : Memory = memory setup past owns in
-      let h = s.holds (upon setup past owns s) in
-      by m h (asked_record setup m given) refl (subst (λ (t : Setup). Does {A = Unit {0}} (state_of state) (asked_record t m given) (Err (store_error.Full full)) (store_of r) b'.store) (sym s.is) (a.steps m h).does)
-    where
-      by : (m : Memory) → Holds (state_of state) r.branches m → (o : Option ResourceRecord) → asked_record setup m given ≡ o → Does {A = Unit {0}} (state_of state) o (Err (store_error.Full full)) (store_of r) b'.store
-          → (bytes : List ℕ) × (option_map record_bytes (asked_record setup m given) ≡ Some bytes) × HasNoPlace (disks_of state r) (size_of state r) (length bytes) full
-      by m h None none does = absurd (let no : store_error.Full full ≡ store_error.NoMemory = does.0 in cc)
-      by m h (Some q) some does = (
-        record_bytes q,
-        ap (option_map record_bytes) some,
-        no_place (state_of state) law h.keeps.found (twin (store_of r)) h.keeps.kept.pair (size_of state r) (length (record_bytes q)) full (does.makes m.left.records h.keeps),
-      )
-  overflows full b' a (Coordinator times past) owns s = absurd s
-  overflows full b' a (Manager settings) owns s = absurd s
-
-  -- ---- a record that was taken
-
-  -- what fits has a place behind the records that the disks hold
-  pub placed : HasRoom state r given now → Fits (node_state state r) given now
-  placed room (ResourceRole setup past) owns s bytes e =
-      let h = s.holds (upon setup past owns s) in
-      has_place (state_of state) law h.keeps.found (twin (store_of r)) h.keeps.kept.pair (size_of state r) (length bytes) (room (ResourceRole setup past) owns s bytes e)
-  placed room (Coordinator times past) owns s bytes e = absurd s
-  placed room (Manager settings) owns s bytes e = absurd s
-
-  -- the bytes of a record fit where it does
-  room_of : (asked : Option ResourceRecord) (bytes : List ℕ) → ((q : ResourceRecord) → asked ≡ Some q → HasRecordRoom (state_of state) q (store_of r)) → option_map record_bytes asked ≡ Some bytes
-      → needs r (length bytes) ≤ size_of state r
-  room_of None bytes room e = no_bytes bytes e
-  room_of (Some q) bytes room e = subst (λ (b : List ℕ). needs r (length b) ≤ size_of state r) (same_bytes (record_bytes q) bytes e) (room q refl)
-
-  module _ (result : Result Step NodeError) (b' : Branches (Stoppable D)) (a : Answers (state_of state) r.branches b' given result)
-      (fits : (q : ResourceRecord) (rs : List ResourceRecord) → Makes (state_of state) q rs (outcome (made_as result)) (store_of r) b'.store → HasRecordRoom (state_of state) q (store_of r)) where
+  module _ (result : Result Step NodeError) (b' : Branches (Stoppable D)) (a : Answers (state_of state) r.branches b' given result) where
     -- what became of the record that was asked for
     abbrev DoesFor : Option ResourceRecord → Type 0
     DoesFor o = Does {A = Unit {0}} (state_of state) o (made_as result) (store_of r) b'.store
 
-    -- the record that the rule's answer asks for fits, as whatever record the store makes with this outcome
-    pub has_room : HasRoom state r given now
-    has_room (ResourceRole setup past) owns s bytes e =
-        let m : Memory = memory setup past owns in
-        let h = s.holds (upon setup past owns s) in
-        let does = subst (λ (t : Setup). DoesFor (asked_record t m given)) (sym s.is) (a.steps m h).does in
-        room_of (asked_record setup m given) bytes (λ q some. fits q m.left.records ((subst DoesFor some does).makes m.left.records h.keeps)) e
-    has_room (Coordinator times past) owns s bytes e = absurd s
-    has_room (Manager settings) owns s bytes e = absurd s
+    does_for : (setup : Setup) (past : List ResourceRecord) (owns : List Own) → StandsOver state r setup past owns → DoesFor (asked_record setup (memory setup past owns) given)
+    does_for setup past owns s = subst (λ (t : Setup). DoesFor (asked_record t (memory setup past owns) given)) (sym s.is) (a.steps (memory setup past owns) (s.holds (upon setup past owns s))).does
+
+    -- whatever record the store makes with this outcome fits
+    pub has_room : ((q : ResourceRecord) (rs : List ResourceRecord) → Makes (state_of state) q rs (outcome (made_as result)) (store_of r) b'.store → HasRecordRoom (state_of state) q (store_of r)) → HasRoom state r given
+    has_room fits setup past owns s q some =
+        fits q (memory setup past owns).left.records ((subst DoesFor some (does_for setup past owns s)).makes (memory setup past owns).left.records (s.holds (upon setup past owns s)).keeps)
+
+  pub has_no_room : (full : Full) (b' : Branches (Stoppable D)) → Answers (state_of state) r.branches b' given (Err (error.Full full)) → HasNoRoom state r given full
+  has_no_room full b' a setup past owns s = by (asked_record setup (memory setup past owns) given) refl (does_for (Err (error.Full full)) b' a setup past owns s)
+    where
+      by : (o : Option ResourceRecord) → asked_record setup (memory setup past owns) given ≡ o → DoesFor (Err (error.Full full)) b' a o
+          → (q : ResourceRecord) × (asked_record setup (memory setup past owns) given ≡ Some q) × IsFull (needs r (length (record_bytes q))) (size_of state r) full
+      by None none does = absurd (let no : store_error.Full full ≡ store_error.NoMemory = does.0 in cc)
+      by (Some q) some does = (q, some, does.makes (memory setup past owns).left.records (s.holds (upon setup past owns s)).keeps)
+
+  -- by where its journal stands
+  pub overflows : (full : Full) → HasNoRoom state r given full → Overflows (node_state state r) given now full
+  overflows full none (ResourceRole setup past) start size owns s l =
+      let m : Memory = memory setup past owns in
+      let (q, some, is) = none setup past owns s in
+      let rule = (resource_answer setup m given).act in
+      let d = durable_some (resource_record setup (kept_records rule m.left) m.opens (Given given)) (asked_record setup m given) rule q (answers_are_recorded setup m given) some in (
+        q,
+        boot_durable m.left (asked_record setup m given) rule d.0 d.1 ∙ some,
+        at_there (state_of state) size (λ (n k : ℕ). IsFull n k full) (store_of r) (extent (resource_recording setup past) start size owns) (length (record_bytes q)) (l.up (upon setup past owns s)) l.sized is,
+      )
+  overflows full none (Coordinator times past) start size owns s l = absurd s
+  overflows full none (Manager settings) start size owns s l = absurd s
 
 -- ---- all that is promised of a step
 
@@ -394,7 +412,6 @@ module _ {D : Type 0} (state : D → DiskState) (law : (d : Stoppable D) → IsL
         framable = λ comes. a.frames ready served.1;
         after = tt;
         room = has_room state law r r' given now up (Ok step) r'.branches a (λ q rs made. made.fits);
-        placed = placed state law r r' given now up (has_room state law r r' given now up (Ok step) r'.branches a (λ q rs made. made.fits));
         same = stays_itself state r r' a.same.number (λ s. sound) moves.first_kind moves.second_kind;
         picks = same_picks (disks_of state r) (disks_of state r') moves;
         counted = counted;
@@ -403,15 +420,13 @@ module _ {D : Type 0} (state : D → DiskState) (law : (d : Stoppable D) → IsL
       }
 
   -- nothing changed
-  itself : (e : NodeError) → AfterError (node_state state r) (node_state state r) given now e → HadRoom state r given now (Err e)
-      → HadPlace (node_state state r) given now (Err e) → steps_of (Err e) ≡ 0
+  itself : (e : NodeError) → AfterError (node_state state r) (node_state state r) given now e → HadRoom state r given (Err e) → steps_of (Err e) ≡ 0
       → goes_down (Err e) ≡ false → StepsBy state r r given now (Err e)
-  itself e after room place none not = record {
+  itself e after room none not = record {
     answers = tt;
     framable = λ f. tt;
     after = after;
     room = room;
-    placed = place;
     same = stays_itself state r r refl (λ s. s) (same_kind (disks_of state r).first) (same_kind (disks_of state r).second);
     picks = same_picks (disks_of state r) (disks_of state r) (moved_same (disks_of state r));
     counted = omega (arith, none);
@@ -439,7 +454,6 @@ module _ {D : Type 0} (state : D → DiskState) (law : (d : Stoppable D) → IsL
         framable = λ f. tt;
         after = fails_at state law r r' given now up flight a' m.1 m.2 (m.3 ∙ counts);
         room = has_room state law r r' given now up (Err (error.Failed flight)) r'.branches a' (λ q rs made. made.fits);
-        placed = placed state law r r' given now up (has_room state law r r' given now up (Err (error.Failed flight)) r'.branches a' (λ q rs made. made.fits));
         same = stays_itself state r r' a'.same.number (λ s. sound) moves.first_kind moves.second_kind;
         picks = same_picks (disks_of state r) (disks_of state r') moves;
         counted = counted;
@@ -447,10 +461,11 @@ module _ {D : Type 0} (state : D → DiskState) (law : (d : Stoppable D) → IsL
         found = left_found (state_of state) (made_as (Err (error.Failed flight))) (store_of r) (store_of r') a'.leaves;
       }
   missed b' r' count counts (error.Full full) a m =
+      let none = has_no_room state law r r given now up full b' a in
       as_before b' r' (error.Full full) m
       (same_branches r.branches b' (same_store (state_of state) (store_error.Full full) (store_of r) b'.store a.leaves (λ e. absurd cc)) a.tickets a.same)
-      (itself (error.Full full) (λ role owns s. s, overflows state law r r given now up full b' a) tt tt refl refl)
+      (itself (error.Full full) (λ role owns s. s, λ role start size owns l. l, overflows state law r r given now up full none) none refl refl)
   missed b' r' count counts error.NoMemory a m =
       as_before b' r' error.NoMemory m
       (same_branches r.branches b' (same_store (state_of state) store_error.NoMemory (store_of r) b'.store a.leaves (λ e. absurd cc)) a.tickets a.same)
-      (itself error.NoMemory (λ role owns s. s) tt tt refl refl)
+      (itself error.NoMemory (λ role owns s. s, λ role start size owns l. l) tt refl refl)

@@ -6,6 +6,7 @@ pub mod Stepping
 pub mod Laws
 pub mod Standing
 pub mod Shown
+pub mod Lying
 pub mod NodeStanding
 pub mod NodeMoving
 pub mod NodeStepping

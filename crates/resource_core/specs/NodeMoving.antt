@@ -6,6 +6,7 @@ use Rattle.disk_model.specs.Stop.{state_of}
 use Rattle.disk_model.specs.declared.stoppable.Stoppable.{Stoppable}
 use Rattle.disk_model.specs.contracts.stoppable.Stoppable.{the_row as stoppable_row}
 use Rattle.journal_checkpoint.specs.Images.{Pair}
+use Rattle.journal_checkpoint.specs.Keeping.{twin_extent}
 use Rattle.seata_types.specs.declared.acts.Act.{Act}
 use Rattle.seata_types.specs.declared.acts.Act.TheVariants as act
 use Rattle.seata_types.specs.declared.acts.Durable.{Durable}
@@ -20,7 +21,7 @@ use Rattle.local_txn.specs.Answers.{no_tickets}
 use Rattle.node_steps.specs.Durable.{own_faults}
 use Rattle.resource_store.specs.declared.store.Store.{Store}
 use Rattle.resource_store.specs.Meaning.{Setting}
-use Rattle.resource_store.specs.Keeping.{setting_of, known, found_of, is_down as store_is_down, BringsBack, KeepsRecords, Changes, boot_record, with_disk as store_with}
+use Rattle.resource_store.specs.Keeping.{setting_of, known, found_of, twin, is_down as store_is_down, BringsBack, KeepsRecords, Changes, boot_record, with_disk as store_with}
 use Rattle.resource_core.specs.declared.nodes.Resource.{Resource}
 use Rattle.resource_core.specs.contracts.nodes.Resource.{the_row}
 use Rattle.resource_core.specs.Shown.{store_of, pair_of, active_of}
@@ -63,6 +64,7 @@ pub record ArmsStore {D : Type 0} (state : D → DiskState) (calls : ℕ) (old n
   pub back : (pick : ℕ) (before : Store (Stoppable D)) → BringsBack (state_of state) pick before old → BringsBack (state_of state) pick before new
   pub left : (active_of state new).counts.left ≡ Some calls
   pub pair : ArmsPair (pair_of state old) (pair_of state new)
+  pub extent : twin_extent (twin new) ≡ twin_extent (twin old)
   pub known : known new ≡ known old
   pub setting : setting_of new ≡ setting_of old
   pub found : found_of new ≡ found_of old

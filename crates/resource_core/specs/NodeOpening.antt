@@ -4,8 +4,14 @@ use Rattle.std.specs.List.{AllByRecursion}
 use Rattle.disk_model.specs.Disk.{DiskState, KeepsRest, Rose, present}
 use Rattle.disk_model.specs.Stop.{below, state_of}
 use Rattle.disk_model.specs.declared.stoppable.Stoppable.{Stoppable}
+use Rattle.disk_journal.specs.Keeping.{IsFull}
+use Rattle.journal_checkpoint.specs.Extents.{Extent, extent_of, needed}
+use Rattle.journal_checkpoint.specs.Images.{PairStandsFor}
 use Rattle.journal_checkpoint.specs.Keeping.{first_disk, second_disk}
+use Rattle.journal_checkpoint.specs.declared.types.Found.{Found}
+use Rattle.memory_store.specs.Checkpoints.{checked}
 use Rattle.memory_store.specs.Keeping.{FindsFirst, IsDamage, IsNotFull, IsOf}
+use Rattle.seata_types.specs.declared.errors.Full.{Full}
 use Rattle.seata_types.specs.declared.errors.OpenError.{OpenError}
 use Rattle.seata_types.specs.declared.errors.OpenError.TheVariants as open_error
 use Rattle.seata_types.specs.declared.ids.Place.{Place}
@@ -13,12 +19,14 @@ use Rattle.seata_types.specs.declared.ids.Place.TheVariants.{Res}
 use Rattle.seata_types.specs.declared.limits.TheConstants.{RESOURCES}
 use Rattle.durable_records.specs.declared.resources.ResourceRecord.{ResourceRecord}
 use Rattle.frame_codec.specs.Limits.{IsCounted}
+use Rattle.history_rules.specs.Nodes.{Resource as ResourceRole}
 use Rattle.history_rules.specs.ResourceMemory.{Setup as RuleSetup}
+use Rattle.node_steps.specs.Ends.{resource_saving}
 use Rattle.resource_store.specs.declared.store.Store.{Store}
 use Rattle.resource_store.specs.Keeping.{BootsFrom, GoesOnAs, GoesOnWithBoot, IsNoDamage, KeepsRecords, known, setting_of, twin}
 use Rattle.resource_store.specs.Keeping.{is_down as store_is_down}
 use Rattle.resource_store.specs.Meaning.{Setting, Opens, setting, meaning_of}
-use Rattle.resource_store.specs.Openings.{IsUndamaged, IsBootDamage}
+use Rattle.resource_store.specs.Openings.{IsUndamaged, IsBootDamage, boot_length}
 use Rattle.resource_store.specs.Standing.{StandsForRecords}
 use Rattle.record_places.specs.Within.{IsTableWithin}
 use Rattle.resource_core.specs.declared.branches.Branches.{Branches}
@@ -26,7 +34,7 @@ use Rattle.resource_core.specs.declared.nodes.Resource.{Resource}
 use Rattle.resource_core.specs.declared.opening.Loaded.{Loaded}
 use Rattle.seata_types.specs.declared.limits.TheConstants.{NODE_STEPS}
 use Rattle.resource_core.specs.declared.setup.Setup.{Setup}
-use Rattle.resource_core.specs.NodeStanding.{StandsOver, IsSound}
+use Rattle.resource_core.specs.NodeStanding.{StandsOver, LiesAs, IsSound}
 use Rattle.resource_core.specs.Ready.{HasActionWithin, HasStmtsWithin}
 use Rattle.resource_core.specs.Setups.{actions_of}
 use Rattle.resource_core.specs.Shown.{store_of, steps_left, is_down}
@@ -127,11 +135,19 @@ abbrev pub GoOnWithBoot : Setting → (first second now_first now_second : DiskS
 GoOnWithBoot t first second now_first now_second =
     (a b c d : List ℕ) → present first ≡ Some a → present second ≡ Some b → now_first.may_leave c → now_second.may_leave d → GoesOnWithBoot t a b c d
 
+-- P is so of each list of records that the bytes of two disks of one size stand for, of where their journal stands, and of that size
+abbrev pub WhereTold : {D : Type 0} → (D → DiskState) → (first second : D) → ℕ → Setup → (List ResourceRecord → (start : Extent) → (size : ℕ) → Type 0) → Type 0
+WhereTold state first second number s P =
+    (size : ℕ) (rs : List ResourceRecord) (a b : List ℕ) (found : Found) → (state first).size ≡ size → (state second).size ≡ size →
+    present (state first) ≡ Some a → present (state second) ≡ Some b → PairStandsFor found a b → StandsForRecords (setting_at number s) rs a b → P rs (extent_of found) size
+
 -- the resource on two disks, with this number and setup
 pub record IsOpened {D : Type 0} (state : D → DiskState) (first second : D) (number : ℕ) (s : Setup) (r : Resource D) : Type 0 where
   -- it stands for no own entry, over each list of records that the bytes stand for
   pub stands : (rs : List ResourceRecord) (a b : List ℕ) → present (state first) ≡ Some a → present (state second) ≡ Some b → StandsForRecords (setting_at number s) rs a b
       → StandsOver state r (setup_at number s) rs []
+  -- and its journal stands behind the boot, which came where these bytes have their end, or behind a snapshot where one was due
+  pub lies : WhereTold state first second number s (λ rs start size. LiesAs state r (ResourceRole (setup_at number s) rs) start size [])
   -- the first record that it found is the first one there
   pub place : (a b : List ℕ) → present (state first) ≡ Some a → present (state second) ≡ Some b → FindsFirst a b (store_of r).kept
   -- before its boot it knew what the bytes hold, with a snapshot in place of the records where one was due
@@ -148,6 +164,9 @@ pub record IsOpened {D : Type 0} (state : D → DiskState) (first second : D) (n
 pub record HandsBack {D : Type 0} (state : D → DiskState) (first second : D) (number : ℕ) (s : Setup) (failed : OpenError × D × D) : Type 0 where
   pub recovers : (rs : List ResourceRecord) (a b : List ℕ) → present (state first) ≡ Some a → present (state second) ≡ Some b → StandsForRecords (setting_at number s) rs a b
       → IsUndamaged (state failed.1) (state failed.2) failed.0
+  -- and a boot that doesn't fit would end behind the last byte, where the journal stands by these bytes
+  pub full : WhereTold state first second number s
+      (λ rs start size. (full : Full) → failed.0 ≡ open_error.Full full → IsFull (needed (checked size (resource_saving (setup_at number s) rs) start) boot_length) size full)
   pub damaged : (a b : List ℕ) → present (state first) ≡ Some a → present (state second) ≡ Some b → IsBootDamage (meaning_of (setting_at number s)) a b failed.0
   pub cause : failed.0 ≡ open_error.Failed → Rose (state first).counts.faults (state failed.1).counts.faults ⊎ Rose (state second).counts.faults (state failed.2).counts.faults
   pub images : GoOnWithBoot (setting_at number s) (state first) (state second) (state failed.1) (state failed.2)

@@ -4,6 +4,7 @@ use Rattle.std.specs.List.{AllByRecursion}
 use Rattle.disk_model.specs.Disk.{DiskState}
 use Rattle.disk_model.specs.Stop.{state_of}
 use Rattle.disk_model.specs.declared.stoppable.Stoppable.{Stoppable}
+use Rattle.journal_checkpoint.specs.Extents.{Extent}
 use Rattle.seata_types.specs.declared.messages.Input.{Input}
 use Rattle.seata_types.specs.declared.limits.TheConstants.{RESOURCES}
 use Rattle.frame_codec.specs.Limits.{IsCounted}
@@ -23,8 +24,9 @@ use Rattle.record_places.specs.Within.{IsTableWithin}
 use Rattle.resource_core.specs.declared.nodes.Resource.{Resource}
 use Rattle.seata_types.specs.declared.limits.TheConstants.{NODE_STEPS}
 use Rattle.resource_core.specs.Holding.{Holds}
+use Rattle.resource_core.specs.Lying.{Lies}
 use Rattle.resource_core.specs.Ready.{AreTicketsWithin, HasActionWithin, HasStmtsWithin, Serves}
-use Rattle.resource_core.specs.Shown.{store_of, setup_in, stands_at, steps_left, is_down, pair_of, disks_of, active_of, size_of}
+use Rattle.resource_core.specs.Shown.{store_of, setup_in, stands_at, steps_left, is_down, pair_of, disks_of, active_of}
 
 -- ---- its disks
 
@@ -69,6 +71,12 @@ StandsAs state r (ResourceRole setup past) os = StandsOver state r setup past os
 StandsAs state r (Coordinator times past) os = ⊥
 StandsAs state r (Manager settings) os = ⊥
 
+-- its journal stood there at the first opening, on disks of this size, and stands where these own entries leave it
+abbrev pub LiesAs : {D : Type 0} → (D → DiskState) → Resource D → Role → (start : Extent) → (size : ℕ) → List Own → Type 0
+LiesAs state r (ResourceRole setup past) start size os = Lies (state_of state) (store_of r) setup past start size os
+LiesAs state r (Coordinator times past) start size os = ⊥
+LiesAs state r (Manager settings) start size os = ⊥
+
 -- ---- what it needs to answer
 
 -- What always holds of a resource, whatever its disks keep: its setup is within the limits of a scenario, it opened no more
@@ -94,11 +102,11 @@ serves r given = IsSound r × Serves given
 abbrev pub node_state : {D : Type 0} → (D → DiskState) → Resource D → NodeState
 node_state state r = record {
   stands_for = StandsAs state r;
+  lies = LiesAs state r;
   place = stands_at r;
   serves = serves r;
   left = steps_left r;
   stops = true;
   down = is_down r;
   disks = disks_of state r;
-  size = size_of state r;
 }

@@ -3,6 +3,7 @@ use Rattle.std.proofs.Common.{inl, inr, ◌≡◌, ◌⊎◌, ◌≤◌, ℕ, tr
 use Rattle.std.proofs.lemmas.List.Elements.{All-nil}
 use Rattle.disk_model.specs.Disk.{Content, DiskState, Rose, present}
 use Rattle.disk_model.specs.Shelf.{IsBlank}
+use Rattle.journal_checkpoint.specs.Images.{PairStandsFor}
 use Rattle.seata_types.specs.declared.errors.OpenError.{OpenError}
 use Rattle.seata_types.specs.declared.errors.OpenError.TheVariants as why
 use Rattle.seata_types.specs.declared.ids.Place.{Place}
@@ -24,6 +25,11 @@ pub bytes_of : (disk : DiskState) → IsSome disk.content → (x : List ℕ) × 
 bytes_of disk told = present_some disk.content told
 
 module _ (n : ℕ) (one two : DiskState) (first : IsBlank n one) (second : IsBlank n two) (large : 10 ≤ n) (a b : List ℕ) (is_a : present one ≡ Some a) (is_b : present two ≡ Some b) where
+  pub nothing_there : PairStandsFor nothing a b
+  nothing_there =
+      subst (λ x. PairStandsFor nothing x b) (sym (first.zero a is_a))
+      (subst (λ y. PairStandsFor nothing (replicate n 0) y) (sym (second.zero b is_b)) (blank_pair n large))
+
   pub sessions : (managers resources : ℕ) → StandsForSessions managers resources [] a b
   sessions managers resources =
       subst (λ x. StandsForSessions managers resources [] x b) (sym (first.zero a is_a))

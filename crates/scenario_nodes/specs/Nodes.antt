@@ -3,6 +3,7 @@ use Rattle.std.specs.Prelude.{◌≡◌, ℕ, List, [], ◌∷◌, length, map}
 use Rattle.disk_model.specs.Disk.{DiskState}
 use Rattle.disk_model.specs.Shelf.{IsBlank}
 use Rattle.disk_model.specs.Stop.{below}
+use Rattle.journal_checkpoint.specs.Extents.{blank}
 use Rattle.journal_checkpoint.specs.Images.{Pair}
 use Rattle.journal_checkpoint.specs.Keeping.{first_disk, second_disk}
 use Rattle.seata_types.specs.declared.ids.Place.TheVariants as place
@@ -76,9 +77,11 @@ ServesAll managers resources c = (given : Input) → MayHear managers resources 
 
 -- ---- nodes
 
--- the coordinator of a scenario that did nothing; what it stands for is said where its disks tell their bytes
+-- The coordinator of a scenario that did nothing. What it stands for, and that its journal stands where it does on blank disks, is said where
+-- its disks tell their bytes.
 pub record IsNewCoordinator {D : Type 0} (state : D → DiskState) (s : Scenario) (managers resources : ℕ) (c : CoordinatorNode D) : Type 0 where
   pub stands : AreTold (coordinator.disks_of state c) → coordinator.StandsAs state c (coordinator_role s) []
+  pub lies : AreTold (coordinator.disks_of state c) → coordinator.LiesAs state c (coordinator_role s) blank s.disk []
   pub told : AllTell state → AreTold (coordinator.disks_of state c)
   pub sized : HaveSize s.disk (coordinator.disks_of state c)
   pub steps : coordinator.steps_left c ≡ NODE_STEPS
@@ -87,6 +90,7 @@ pub record IsNewCoordinator {D : Type 0} (state : D → DiskState) (s : Scenario
 -- its resource of this number, counted from 1
 pub record IsNewResource {D : Type 0} (state : D → DiskState) (s : Scenario) (n : ℕ) (def : ResourceDef) (r : ResourceNode D) : Type 0 where
   pub stands : AreTold (shown.disks_of state r) → resource.StandsAs state r (resource_role s n def) []
+  pub lies : AreTold (shown.disks_of state r) → resource.LiesAs state r (resource_role s n def) blank s.disk []
   pub told : AllTell state → AreTold (shown.disks_of state r)
   pub sized : HaveSize s.disk (shown.disks_of state r)
   pub at : shown.stands_at r ≡ place.Res n

@@ -1,14 +1,20 @@
 -- How the opening of a node ends that gives no node.
-use Rattle.std.specs.Prelude.{◌≡◌, ◌⊎◌, ◌≤◌, ◌++◌, ℕ, List, [], ◌∷◌}
+use Rattle.std.specs.Prelude.{◌≡◌, ◌⊎◌, ◌≤◌, ◌++◌, ℕ, List, [], ◌∷◌, length}
 use Rattle.std.specs.List.{AllByRecursion}
 use Rattle.disk_model.specs.Disk.{DiskState, Rose}
 use Rattle.disk_model.specs.Shelf.{IsBlank, IsGivenBack, SameUnder, ShelfState}
+use Rattle.disk_journal.specs.Keeping.{IsFull}
+use Rattle.journal_checkpoint.specs.Extents.{Extent, blank, needed}
 use Rattle.journal_checkpoint.specs.Images.{Pair}
+use Rattle.memory_store.specs.Checkpoints.{checked}
+use Rattle.resource_log.specs.Records.{record_bytes}
+use Rattle.seata_types.specs.declared.errors.Full.{Full}
 use Rattle.seata_types.specs.declared.ids.Place.{Place}
 use Rattle.history_rules.specs.Nodes.{Role, Coordinator, Resource, Manager}
 use Rattle.history_rules.specs.ResourceMemory.{boot_over, opening_tables}
 use Rattle.node_steps.specs.Durable.{AreNodeDisks, StandsForRecords, of_coordinator, of_resource, own_faults}
-use Rattle.node_steps.specs.Promises.{BootOverflows, place_of}
+use Rattle.node_steps.specs.Ends.{resource_saving}
+use Rattle.node_steps.specs.Promises.{BootHasNoPlace, place_of}
 use Rattle.node_seat.specs.declared.faults.RunFault.{RunFault}
 use Rattle.node_seat.specs.declared.faults.RunFault.TheVariants as fault
 use Rattle.scenario_nodes.specs.Nodes.{HaveSize, Server}
@@ -34,11 +40,16 @@ HaveNoRecord (Coordinator times past) disks = (a b : List ℕ) → disks.first.m
 HaveNoRecord (Resource setup past) disks = (a b : List ℕ) → disks.first.may_leave a → disks.second.may_leave b → StandsForRecords (of_resource (opening_tables setup)) [] a b
 HaveNoRecord (Manager settings) disks = Unit {0}
 
--- Why a node wasn't opened on two blank disks of so many bytes, as these show it now: a fault of theirs was counted; a resource's boot
--- doesn't fit; or memory was refused. Blank disks are never damaged.
+-- the boot of an opening, where the journal stood there on two disks of this size, would end behind the last byte, with both numbers
+abbrev pub BootIsOver : Role → (start : Extent) → (size : ℕ) → Full → Type 0
+BootIsOver (Resource setup past) start size full = IsFull (needed (checked size (resource_saving setup past) start) (length (record_bytes (boot_over past)))) size full
+BootIsOver _ start size full = ⊥
+
+-- Why a node wasn't opened on two blank disks of so many bytes, as these show it now: a fault of theirs was counted; a resource's boot has no
+-- place, by lengths alone and on the disks; or memory was refused. Blank disks are never damaged.
 abbrev pub IsOpenFault : Role → (bytes : ℕ) → (disks : Pair) → RunFault → Type 0
 IsOpenFault role bytes disks (fault.Store at) = (at ≡ place_of role) × (1 ≤ own_faults disks)
-IsOpenFault role bytes disks (fault.Full at full) = (at ≡ place_of role) × BootOverflows role disks bytes full
+IsOpenFault role bytes disks (fault.Full at full) = (at ≡ place_of role) × BootIsOver role blank bytes full × BootHasNoPlace role disks bytes full
 IsOpenFault role bytes disks (fault.Damaged at second offset) = ⊥
 IsOpenFault role bytes disks fault.Other = ⊥
 IsOpenFault role bytes disks fault.NoMemory = Unit {0}

@@ -1,9 +1,9 @@
-//! `seata_lab`: reads a scenario from standard input, replays it, and prints the whole history; or reads frames and prints a line
-//! for each; or prints the scenario that is made of a number.
+//! `seata_lab`: reads a scenario from standard input, replays it, or runs it on threads, and prints the whole history; or reads
+//! frames and prints a line for each; or prints the scenario that is made of a number.
 #![tactic(auto)]
 
 use disk_model::MemShelf;
-use lab_calls::{MEMORY, StdSink, StdSource, top};
+use lab_calls::{MEMORY, OpenGate, StdSink, StdSource, top};
 use seata_types::Text;
 use std::env;
 use std::io::ErrorKind;
@@ -31,11 +31,13 @@ fn main(rt: HostRuntime) -> ExitCode {
     let mut sink = StdSink::new(rt.stdout());
     let mut shelf = MemShelf::new(rt.alloc());
     let status = top(
+        &rt,
         rt.alloc(),
         words.as_slice(),
         &mut source,
         &mut sink,
         &mut shelf,
+        &OpenGate,
     );
     ExitCode::from(status)
 }

@@ -1,7 +1,9 @@
-use Rattle.replay_runner.proofs.Calm.{ends_calmly}
+use Rattle.replay_runner.specs.Leaving.{Leaves}
+use Rattle.replay_runner.proofs.Calm.{ends_calmly, never_damaged}
 use Rattle.replay_runner.proofs.replays.replay.Goals as goal
 
 pub returns-clause-calm : goal.returns-clause-calm
 returns-clause-calm g c =
-    ends_calmly g.H.D.Disk.state c.args.scenario.now (g.H.Shelf.state c.args.shelf.now) (g.H.Shelf.state c.replay_named.new.shelf) c.replay_named.result
-    c.replay_named.ensures.keeps.tells c.replay_named.ensures.replays
+    let s = c.args.scenario.now in
+    ends_calmly (Leaves s) (never_damaged s) g.H.D.Disk.state s (g.H.Shelf.state c.args.shelf.now) (g.H.Shelf.state c.replay_named.new.shelf) c.replay_named.result
+    c.replay_named.ensures.keeps.tells c.replay_named.ensures.uses

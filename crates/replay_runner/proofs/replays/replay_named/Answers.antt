@@ -1,16 +1,17 @@
 use Rattle.std.proofs.Common.{ap, length, rules, subst}
+use Rattle.replay_runner.specs.Leaving.{Leaves}
 use Rattle.replay_runner.specs.OnShelves.{IsRoom}
 use Rattle.replay_runner.proofs.Finished.{played_on, unasked, unopened}
 use Rattle.replay_runner.proofs.replays.replay_named.Goals as goal
 
 pub returns-in_default : goal.returns-in_default
-returns-in_default g c = unasked g.H.D.Disk.state c.args.scenario.now (g.H.Shelf.state c.args.shelf.now)
+returns-in_default g c = unasked (Leaves c.args.scenario.now) g.H.D.Disk.state c.args.scenario.now (g.H.Shelf.state c.args.shelf.now)
 
 pub returns-in_default-room_for : goal.returns-in_default-room_for
-returns-in_default-room_for g c = unasked g.H.D.Disk.state c.args.scenario.now (g.H.Shelf.state c.args.shelf.now)
+returns-in_default-room_for g c = unasked (Leaves c.args.scenario.now) g.H.D.Disk.state c.args.scenario.now (g.H.Shelf.state c.args.shelf.now)
 
 pub returns-in_default-new_managers : goal.returns-in_default-new_managers
-returns-in_default-new_managers g c = unasked g.H.D.Disk.state c.args.scenario.now (g.H.Shelf.state c.args.shelf.now)
+returns-in_default-new_managers g c = unasked (Leaves c.args.scenario.now) g.H.D.Disk.state c.args.scenario.now (g.H.Shelf.state c.args.shelf.now)
 
 pub open_nodes-requires-clause-can : goal.open_nodes-requires-clause-can
 open_nodes-requires-clause-can g c κs within = record {
@@ -29,9 +30,9 @@ play-requires-clause-taken g c κs within = c.in-Ok-open_nodes.ensures.shelf.tak
 pub returns-in-Ok-open_nodes : goal.returns-in-Ok-open_nodes
 returns-in-Ok-open_nodes g c =
     let state = g.H.Shelf.state in
-    played_on g.H.D.Disk.state c.args.scenario.now (state c.args.shelf.now) (state c.open_nodes.new.shelf) (state c.play.new.shelf) c.play.result c.in-Ok-open_nodes.ensures.shelf.takes c.play.ensures
+    played_on (Leaves c.args.scenario.now) g.H.D.Disk.state c.args.scenario.now (state c.args.shelf.now) (state c.open_nodes.new.shelf) (state c.play.new.shelf) c.play.result c.in-Ok-open_nodes.ensures.shelf.takes c.play.ensures
 
 pub returns : goal.returns
 returns g c =
     let state = g.H.Shelf.state in
-    unopened g.H.D.Disk.state c.args.scenario.now (state c.args.shelf.now) (state c.open_nodes.new.shelf) c.in-Err.fault c.in-Err.ensures
+    unopened (Leaves c.args.scenario.now) g.H.D.Disk.state c.args.scenario.now (state c.args.shelf.now) (state c.open_nodes.new.shelf) c.in-Err.fault c.in-Err.ensures

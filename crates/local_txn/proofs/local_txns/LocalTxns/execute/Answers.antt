@@ -25,17 +25,17 @@ pub returns-in-Some : goal.returns-in-Some
 returns-in-Some c =
     told_busy c.args.self.now (owner_by c.args.xid.0 c.args.manager c.args.call (work.At c.args.stmts.now)) (effect c.args.tables.now c.args.stmts.now) c.in-Ok.effect (ap (effect c.args.tables.now) (sym (c.as_slice.ensures ∙ c.get.ensures)) ∙ c.in-Ok.ensures.means) c.in-Some.key.now c.in-Some.by c.busy-in-Some.result (sym c.in-Some.ensures) c.busy-in-Some.ensures
 
-pub admit-requires-clause-free : goal.admit-requires-clause-free
-admit-requires-clause-free c = λ q h.
+pub open-requires-clause-free : goal.open-requires-clause-free
+open-requires-clause-free c = λ q h.
     let none : c.busy.result ≡ None = grind (arith, common_steps) in
     let free : busy_row c.args.self.now.opens c.in-Ok.effect ≡ None = none_told _ c.busy.result _ c.busy.ensures none in
     free_rows c.args.self.now.opens c.in-Ok.effect q free (ap (has_row q) (sym c.in-Ok-at_call.ensures) ∙ h)
 
-pub returns-in-Ok-admit : goal.returns-in-Ok-admit
-returns-in-Ok-admit c =
+pub returns-in-Ok-open : goal.returns-in-Ok-open
+returns-in-Ok-open c =
     let none : c.busy.result ≡ None = grind (arith, common_steps) in
     let free : busy_row c.args.self.now.opens c.in-Ok.effect ≡ None = none_told _ c.busy.result _ c.busy.ensures none in
     let owner = owner_by c.args.xid.0 c.args.manager c.args.call (work.At c.args.stmts.now) in
-    let ticket : c.in-Ok-admit.ticket ≡ c.next-ticket.result = c.in-Ok-admit.ensures.ticket ∙ ap ticket_of c.in-Ok-at_call.ensures in
-    executed c.args.self.now owner (effect c.args.tables.now c.args.stmts.now) c.in-Ok.effect (ap (effect c.args.tables.now) (sym (c.as_slice.ensures ∙ c.get.ensures)) ∙ c.in-Ok.ensures.means) c.in-Ok-admit.ticket c.admit.new.self (open_of c.in-Ok-at_call.txn) free
-    (ticket ∙ c.next-ticket.ensures) c.in-Ok-admit.ensures.ok (c.in-Ok-at_call.ensures ∙ ap (λ t. opening_of t owner c.in-Ok.effect) (sym ticket))
+    let ticket : c.in-Ok-open.ticket ≡ c.next-ticket.result = c.in-Ok-open.ensures.ticket ∙ ap ticket_of c.in-Ok-at_call.ensures in
+    executed c.args.self.now owner (effect c.args.tables.now c.args.stmts.now) c.in-Ok.effect (ap (effect c.args.tables.now) (sym (c.as_slice.ensures ∙ c.get.ensures)) ∙ c.in-Ok.ensures.means) c.in-Ok-open.ticket c.open.new.self (open_of c.in-Ok-at_call.txn) free
+    (ticket ∙ c.next-ticket.ensures) c.in-Ok-open.ensures.ok (c.in-Ok-at_call.ensures ∙ ap (λ t. opening_of t owner c.in-Ok.effect) (sym ticket))

@@ -13,7 +13,7 @@ invariant_of-self g c =
     let (event, is) = event_there c.args.stamp c.args.cause c.args.input may.next.input in
     record {
       runs = λ runs. absurd (true≢false (sym runs));
-      keeps = keeps_some g.N.Node.state g.met.N.Node.lawful g.K.RunName.world g.K.RunName.past old new c.args.stamp c.args.now c.args.cause c.args.input event is may.next
-          (given_or_disks (g.N.Node.state old.node) c.args.cause c.args.input may.can) (c.enter.ensures.same.first.tells_images, c.enter.ensures.same.second.tells_images) refl
+      keeps = keeps_some g.N.Node.state g.met.N.Node.lawful g.K.RunName.world g.K.RunName.past g.K.RunName.run old new c.args.stamp c.args.now c.args.cause c.args.input event is may.next
+          (given_or_disks (g.N.Node.state old.node) c.args.cause c.args.input may.can) c.enter.ensures.same.same_place (c.enter.ensures.same.first.tells_images, c.enter.ensures.same.second.tells_images) refl
           c.enter.result (c.enter.ensures.entered event is) c.self.invariant.keeps;
     }

@@ -1,0 +1,186 @@
+-- Calls: by what was looked up the answers are the rules'.
+use Rattle.std.proofs.Common.{◌≡◌, ◌∙◌, ◌==◌, ◌+◌, ◌≤◌, ℕ, zero, suc, true, false, List, [], ◌∷◌, map, Option, Some, None, option_map, is_some, Result, Ok, Err, refl, sym, ap, true≢false}
+use Rattle.std.specs.Prelude.{find, IfOk}
+use Rattle.seata_types.specs.declared.acts.Act.TheVariants as act
+use Rattle.seata_types.specs.declared.copies.NoMemory.{NoMemory}
+use Rattle.seata_types.specs.declared.errors.StmtError.{StmtError}
+use Rattle.seata_types.specs.declared.ids.BranchId.{BranchId}
+use Rattle.seata_types.specs.declared.ids.Leg.{Leg}
+use Rattle.seata_types.specs.declared.ids.Place.{Place}
+use Rattle.seata_types.specs.declared.ids.Ticket.{Ticket}
+use Rattle.seata_types.specs.declared.messages.Input.{Input}
+use Rattle.seata_types.specs.declared.messages.Input.TheVariants as input
+use Rattle.seata_types.specs.declared.messages.Message.TheVariants as message
+use Rattle.seata_types.specs.declared.rows.RowKey.{RowKey}
+use Rattle.seata_types.specs.declared.statements.Work.{Work}
+use Rattle.seata_types.specs.declared.statements.Work.TheVariants as work
+use Rattle.local_tables.specs.Calls.{effect}
+use Rattle.local_tables.specs.Rows.{Database}
+use Rattle.local_tables.specs.declared.schemas.Effect.{Effect}
+use Rattle.durable_records.specs.Fences.{tried_of_call}
+use Rattle.durable_records.specs.RowsKept.{tables}
+use Rattle.durable_records.specs.UndoRecords.{undos_of_call}
+use Rattle.undo_log.specs.Entries.{record_of_call}
+use Rattle.undo_log.specs.declared.records.UndoRecord.{UndoRecord}
+use Rattle.local_txn.specs.OpenTickets.{OfCall, Open, busy_row, is_for_call, opening_of, with_first}
+use Rattle.local_txn.specs.Answers.{Tickets, is_for, new_ticket, ticket_of}
+use Rattle.history_rules.specs.Own.{Given, still}
+use Rattle.history_rules.specs.ResourceMemory.{Setup, Memory, next_ticket, opened_for, opening_tables, or_none}
+use Rattle.history_rules.specs.ResourceRules as rules
+use Rattle.history_rules.specs.ResourceRules.{least_branch, requests, resource_answer}
+use Rattle.resource_memory.specs.Known.{Known}
+use Rattle.resource_memory.specs.Lookups as lookups
+use Rattle.resource_memory.specs.Lookups.{branch_in, tried_leg}
+use Rattle.resource_memory.proofs.TriedLaws.{finds}
+use Rattle.resource_rules.specs.Answers.{Answers, Hears, Shows, answer, ignored}
+use Rattle.resource_rules.specs.Calls.{again, branch_by, branch_on, done_for, free_call, meaning, new_call, opening}
+use Rattle.resource_rules.specs.declared.answers.Answer.{Answer}
+use Rattle.resource_rules.specs.declared.answers.Change.TheVariants as change
+use Rattle.resource_rules.specs.declared.callers.Caller.{Caller}
+use Rattle.resource_rules.specs.declared.setups.Setup.{Setup as TheSetup}
+use Rattle.resource_rules.proofs.AnswerLaws.{rests}
+use Rattle.resource_rules.proofs.DoneCalls.{branch_of_record, branch_of_undo, finds_undos}
+use Rattle.resource_rules.proofs.Owners.{not_none, owner_is}
+use Rattle.resource_rules.proofs.Seen.{next_seen, opens_seen, tables_seen}
+
+abbrev Meaning : Type 0
+Meaning = Result Effect (ℕ × StmtError)
+
+-- ---- the branch for which the work of a call is done
+
+lesser_same : (b : ℕ) (o : Option ℕ) → lookups.lesser b o ≡ rules.least_of b o
+lesser_same b None = refl
+lesser_same b (Some c) = refl
+
+least_same : (bs : List ℕ) → lookups.least_branch bs ≡ least_branch bs
+least_same [] = refl
+least_same (b ∷ bs) = ap (lookups.lesser b) (least_same bs) ∙ lesser_same b (least_branch bs)
+
+abbrev number_of : BranchId → ℕ
+number_of b = b.0
+
+record_number : (o : Option UndoRecord) → option_map number_of (option_map branch_by o) ≡ option_map branch_of_record o
+record_number None = refl
+record_number (Some r) = refl
+
+leg_number : (o : Option Leg) → option_map number_of (option_map branch_on o) ≡ option_map branch_in o
+leg_number None = refl
+leg_number (Some leg) = refl
+
+-- ---- tickets of a call
+
+pub found_open : {A : Type 0} (o : Option A) → is_some o ≡ true → (a : A) × (o ≡ Some a)
+found_open (Some a) e = (a, refl)
+found_open None e = absurd (true≢false (sym e))
+
+pub found_none : {A : Type 0} (o : Option A) → is_some o ≡ false → o ≡ None
+found_none (Some a) e = absurd (true≢false e)
+found_none None e = refl
+
+pub some_ticket : (o : Option Open) → is_some (option_map ticket_of o) ≡ is_some o
+some_ticket (Some o) = refl
+some_ticket None = refl
+
+tickets_for : (x c : ℕ) (opens : List Open) → (x == 0) ≡ false → find (is_for x c) opens ≡ find (λ o. is_for_call x c o.owner) opens
+tickets_for zero c opens one = absurd (true≢false one)
+tickets_for (suc x) c opens one = refl
+
+-- ---- the answers
+
+module _ (is : TheSetup) (k : Known) (ts : Tickets) (c : Caller) (w : Work) (resource : ℕ) (from : Place) where
+  abbrev pub call_input : Input
+  call_input = input.Message from (message.Call c.xid c.manager resource c.call w)
+
+  none_is : (x : ℕ) → (x == 0) ≡ true → (s : Setup) (m : Memory) → still act.Ignored ≡ rules.on_call s m.left.records m.opens (next_ticket m) c.manager x c.call w
+  none_is zero e s m = refl
+  none_is (suc x) e s m = not_none x e
+
+  -- of no transaction
+  pub of_none : (c.xid.0 == 0) ≡ true → (a : Answer) → a ≡ ignored → Answers is k ts call_input a
+  of_none e = rests change.Stays tt _ (λ s m sh. none_is c.xid.0 e s m) (λ s m. refl) (λ s m now sh. refl)
+
+  module _ (one : (c.xid.0 == 0) ≡ false) (counted : 1 ≤ c.call) where
+    one_is : (x : ℕ) → (x == 0) ≡ false → (s : Setup) (m : Memory) → rules.on_call s m.left.records m.opens (next_ticket m) c.manager x c.call w
+        ≡ rules.call_answer s m.left.records m.opens (next_ticket m) c.manager x c.call w
+        (least_branch (rules.done_for s m.left.records m.opens (next_ticket m) x c.call w)) (find (λ o. is_for_call x c.call o.owner) m.opens)
+    one_is zero e s m = absurd (true≢false e)
+    one_is (suc x) e s m = refl
+
+    done_seen : (v : Work) (s : Setup) (m : Memory) → Shows is k ts s m
+        → option_map number_of (done_for k c v) ≡ least_branch (rules.done_for s m.left.records m.opens (next_ticket m) c.xid.0 c.call v)
+    done_seen (work.At stmts) s m sh =
+        record_number (record_of_call c.xid.0 c.call k.undo_log)
+        ∙ ap (option_map branch_of_record) (ap (λ (z : Known). record_of_call c.xid.0 c.call z.undo_log) sh.knows)
+        ∙ finds_undos (opening_tables s) m.left.records sh.allowed c.xid.0 c.call
+        ∙ least_same (map branch_of_undo (undos_of_call m.left.records c.xid.0 c.call))
+    done_seen (work.Tcc action) s m sh =
+        leg_number (tried_leg c.xid.0 c.call k.calls)
+        ∙ ap (option_map branch_in) (ap (λ (z : Known). tried_leg c.xid.0 c.call z.calls) sh.knows)
+        ∙ finds c.xid.0 c.call (opening_tables s) m.left.records sh.allowed counted
+        ∙ least_same (tried_of_call m.left.records c.xid.0 c.call)
+
+    answer_is : (b : Option BranchId) → done_for k c w ≡ b → (o : Option Open) (s : Setup) (m : Memory) → Shows is k ts s m → find (λ p. is_for_call c.xid.0 c.call p.owner) m.opens ≡ o
+        → rules.call_answer s m.left.records m.opens (next_ticket m) c.manager c.xid.0 c.call w (option_map number_of b) o ≡ resource_answer s m call_input
+    answer_is b done o s m sh at =
+        sym (one_is c.xid.0 one s m ∙ λ i. rules.call_answer s m.left.records m.opens (next_ticket m) c.manager c.xid.0 c.call w ((sym (done_seen w s m sh) ∙ ap (option_map number_of) done) i) (at i))
+
+    -- the work is done
+    pub is_again : (b : BranchId) → done_for k c w ≡ Some b → (a : Answer) → a ≡ again c b → Answers is k ts call_input a
+    is_again b done = rests change.Stays tt _ (λ s m sh. answer_is (Some b) done (find (λ p. is_for_call c.xid.0 c.call p.owner) m.opens) s m sh refl) (λ s m. refl) (λ s m now sh. refl)
+
+    module _ (undone : done_for k c w ≡ None) where
+      find_is : (o : Option Open) → find (is_for c.xid.0 c.call) ts.opens ≡ o → (s : Setup) (m : Memory) → Shows is k ts s m
+          → rules.call_answer s m.left.records m.opens (next_ticket m) c.manager c.xid.0 c.call w None o ≡ resource_answer s m call_input
+      find_is o e s m sh =
+          answer_is None undone o s m sh (sym (tickets_for c.xid.0 c.call m.opens one) ∙ ap (λ (os : List Open). find (is_for c.xid.0 c.call) os) (sym (opens_seen s m sh)) ∙ e)
+
+      -- it is open
+      pub is_waiting : is_some (option_map ticket_of (find (is_for c.xid.0 c.call) ts.opens)) ≡ true → (a : Answer) → a ≡ answer None (still (act.Waiting c.xid c.call)) → Answers is k ts call_input a
+      is_waiting open_is =
+          let there = found_open (find (is_for c.xid.0 c.call) ts.opens) (sym (some_ticket (find (is_for c.xid.0 c.call) ts.opens)) ∙ open_is) in
+          rests change.Stays tt _ (λ s m sh. find_is (Some there.0) there.1 s m sh) (λ s m. refl) (λ s m now sh. refl)
+
+      module _ (closed : is_some (option_map ticket_of (find (is_for c.xid.0 c.call) ts.opens)) ≡ false) where
+        meaning_seen : (v : Work) (s : Setup) (m : Memory) → Shows is k ts s m → meaning k.tables v ≡ rules.meaning s m.left.records m.opens (next_ticket m) v
+        meaning_seen (work.At stmts) s m sh = ap (λ (db : Database). effect db stmts) (tables_seen s m sh)
+        meaning_seen (work.Tcc action) s m sh = refl
+
+        meant_is : (r : Meaning) → meaning k.tables w ≡ r → (s : Setup) (m : Memory) → Shows is k ts s m
+            → rules.new_call s m.left.records m.opens (next_ticket m) c.manager c.xid.0 c.call w r ≡ resource_answer s m call_input
+        meant_is r e s m sh =
+            sym (ap (rules.new_call s m.left.records m.opens (next_ticket m) c.manager c.xid.0 c.call w) (sym (meaning_seen w s m sh) ∙ e))
+            ∙ find_is None (found_none (find (is_for c.xid.0 c.call) ts.opens) (sym (some_ticket (find (is_for c.xid.0 c.call) ts.opens)) ∙ closed)) s m sh
+
+        rows_is : (e : Effect) → meaning k.tables w ≡ Ok e → (b : Option (RowKey × Ticket)) → busy_row ts.opens e ≡ b → (s : Setup) (m : Memory) → Shows is k ts s m
+            → rules.free_call s m.left.records m.opens (next_ticket m) c.manager c.xid.0 c.call w e b ≡ resource_answer s m call_input
+        rows_is e means b is_b s m sh =
+            sym (ap (rules.free_call s m.left.records m.opens (next_ticket m) c.manager c.xid.0 c.call w e) (ap (λ (os : List Open). busy_row os e) (sym (opens_seen s m sh)) ∙ is_b)) ∙ meant_is (Ok e) means s m sh
+
+        -- the ticket that the rules open
+        opened_is : (v : Work) (e : Effect) (t : Ticket) → meaning k.tables v ≡ Ok e → (s : Setup) (m : Memory) → Shows is k ts s m
+            → opened_for s (tables (opening_tables s) m.left.records) t (Given (input.Message from (message.Call c.xid c.manager resource c.call v))) ≡ Some (opening_of t (OfCall c.manager c.xid.0 c.call v) e)
+        opened_is (work.At stmts) e t means s m sh =
+            ap (λ (q : Meaning). Some (opening_of t (OfCall c.manager c.xid.0 c.call (work.At stmts)) (or_none q))) (ap (λ (db : Database). effect db stmts) (sym (tables_seen s m sh)) ∙ means)
+        opened_is (work.Tcc action) e t means s m sh =
+            ap (λ (q : Meaning). Some (opening_of t (OfCall c.manager c.xid.0 c.call (work.Tcc action)) (or_none q))) means
+
+        opens_is : (e : Effect) → meaning k.tables w ≡ Ok e → (b : Option (RowKey × Ticket)) → busy_row ts.opens e ≡ b → (a : Answer) → a ≡ free_call is.number ts c w e b → Answers is k ts call_input a
+        opens_is e means (Some (key, by)) is_b = rests change.Stays tt _ (λ s m sh. rows_is e means (Some (key, by)) is_b s m sh) (λ s m. refl) (λ s m now sh. refl)
+        opens_is e means None is_b =
+            let owner = owner_is c.xid.0 c.manager c.call w one in
+            rests (change.Opens (opening ts c w e)) (record { named = refl; free = is_b }, refl) _
+            (λ s m sh. (λ i. requests (sym sh.setup.number i) (act.Opened c.xid c.call (next_seen s m sh i)) (opening_of (next_seen s m sh i) (owner i) e)) ∙ rows_is e means None is_b s m sh)
+            (λ s m. refl)
+            (λ s m now sh. ap (λ (o : Option Open). record m { opens = with_first o m.opens; opened = m.opened + 1 })
+            (opened_is w e (new_ticket ts) means s m sh ∙ λ i. Some (opening_of (new_ticket ts) (sym owner i) e)))
+
+        pub is_new : (r : Meaning) → meaning k.tables w ≡ r → (a : Answer) → a ≡ new_call is.number ts c w r → Answers is k ts call_input a
+        is_new (Ok e) means = opens_is e means (busy_row ts.opens e) refl
+        is_new (Err (index, error)) means = rests change.Stays tt _ (λ s m sh. meant_is (Err (index, error)) means s m sh) (λ s m. refl) (λ s m now sh. refl)
+
+pub is_new_ok : (is : TheSetup) (k : Known) (ts : Tickets) (c : Caller) (w : Work) (db : Database) → (c.xid.0 == 0) ≡ false → 1 ≤ c.call → done_for k c w ≡ None
+    → is_some (option_map ticket_of (find (is_for c.xid.0 c.call) ts.opens)) ≡ false → db ≡ k.tables
+    → (result : Result Answer NoMemory) → IfOk result (λ a. a ≡ new_call is.number ts c w (meaning db w)) → IfOk result (λ a. (resource : ℕ) → Hears is k ts (message.Call c.xid c.manager resource c.call w) a)
+is_new_ok is k ts c w db one counted undone closed same (Ok a) given = λ resource from.
+    is_new is k ts c w resource from one counted undone closed (meaning k.tables w) refl a (given ∙ ap (λ (t : Database). new_call is.number ts c w (meaning t w)) same)
+is_new_ok is k ts c w db one counted undone closed same (Err n) given = tt

@@ -1,0 +1,246 @@
+-- The coordinator's answers for open tickets of calls: by what was looked up they are the rules'.
+use Rattle.std.proofs.Common.{◌≡◌, ◌∙◌, ◌==◌, ◌+◌, ◌-◌, ◌≤◌, ◌<◌, ◌^◌, ℕ, Bool, true, false, List, length, Option, Some, None, option_map, is_none, Result, Ok, Err, refl, sym, ap, subst, arith}
+use Rattle.std.specs.Prelude.{nat_le, min, if◌then◌else◌, IfOk}
+use Rattle.std.proofs.lemmas.Bool.{and_from, leb-true, le-leb}
+use Rattle.std.proofs.lemmas.Bool.Decides.{nat_tests}
+use Rattle.seata_types.specs.declared.acts.Act.TheVariants as act
+use Rattle.seata_types.specs.declared.acts.Durable.TheVariants as durable
+use Rattle.seata_types.specs.declared.copies.NoMemory.{NoMemory}
+use Rattle.seata_types.specs.declared.errors.StmtError.{StmtError}
+use Rattle.seata_types.specs.declared.errors.Why.{Why}
+use Rattle.seata_types.specs.declared.errors.Why.TheVariants as why
+use Rattle.seata_types.specs.declared.ids.BranchId.{BranchId}
+use Rattle.seata_types.specs.declared.ids.Leg.{Leg}
+use Rattle.seata_types.specs.declared.ids.Place.{Place}
+use Rattle.seata_types.specs.declared.ids.Ticket.{Ticket}
+use Rattle.seata_types.specs.declared.ids.Xid.{Xid}
+use Rattle.seata_types.specs.declared.limits.TheConstants.{FIELD_ITEMS}
+use Rattle.seata_types.specs.declared.messages.Input.{Input}
+use Rattle.seata_types.specs.declared.messages.Input.TheVariants as input
+use Rattle.seata_types.specs.declared.messages.Message.TheVariants as message
+use Rattle.seata_types.specs.declared.messages.Registered.{Registered}
+use Rattle.seata_types.specs.declared.messages.Registered.TheVariants as registered
+use Rattle.seata_types.specs.declared.rows.RowKey.{RowKey}
+use Rattle.seata_types.specs.declared.statements.Action.{Action}
+use Rattle.seata_types.specs.declared.statements.Stmt.{Stmt}
+use Rattle.seata_types.specs.declared.statements.Work.{Work}
+use Rattle.seata_types.specs.declared.statements.Work.TheVariants as work
+use Rattle.local_tables.specs.Calls.{effect}
+use Rattle.local_tables.specs.Rows.{AreRows, Database}
+use Rattle.local_tables.specs.declared.schemas.Effect.{Effect}
+use Rattle.durable_records.specs.declared.resources.ResourceRecord.TheVariants as log
+use Rattle.durable_records.specs.Fences.{FenceAnswer, Runs, WasDone, Suspends, Refuses, on_try}
+use Rattle.durable_records.specs.RowsKept.{tables}
+use Rattle.durable_records.specs.UndoRecords.{Undo, undo_of, is_marked}
+use Rattle.undo_log.specs.Entries.{entry_at}
+use Rattle.undo_log.specs.declared.records.UndoEntry.{UndoEntry}
+use Rattle.undo_log.specs.declared.records.UndoEntry.TheVariants as entry
+use Rattle.tcc_fence.specs.Meanings.{fence_at}
+use Rattle.local_txn.specs.OpenTickets.{Owner, OfCall, OfLocal, Open, open_at}
+use Rattle.local_txn.specs.Answers.{Tickets, counted, open_of, raised}
+use Rattle.local_txn.specs.declared.transactions.OpenTxn.{OpenTxn}
+use Rattle.local_txn.proofs.OpenLaws.{found_ticket}
+use Rattle.history_rules.specs.Own.{still}
+use Rattle.history_rules.specs.ResourceMemory.{Setup, Memory, call_of, committed_of, effect_on, next_ticket, opening_tables, or_none, tried_of, tries_of}
+use Rattle.history_rules.specs.ResourceRules as rules
+use Rattle.history_rules.specs.ResourceRules.{resource_answer, untouched}
+use Rattle.resource_log.specs.Records.{leg_of}
+use Rattle.resource_memory.specs.Changes.{runs}
+use Rattle.resource_memory.specs.Known.{Known}
+use Rattle.resource_rules.specs.Answers.{Answers, GrantPlaces, Hears, IsOpenOn, Shows, ignored}
+use Rattle.resource_rules.specs.Grants.{IsCountedTry, answered, at_granted, conflicted, counts, dropped, granted, tcc_granted, try_meant, try_touched}
+use Rattle.resource_rules.specs.declared.answers.Answer.{Answer}
+use Rattle.resource_rules.specs.declared.answers.Change.TheVariants as change
+use Rattle.resource_rules.specs.declared.setups.Setup.{Setup as TheSetup}
+use Rattle.resource_rules.proofs.AnswerLaws.{rests, asks}
+use Rattle.resource_rules.proofs.Ends.{finished_by, none_by, normal_by}
+use Rattle.resource_rules.proofs.Owners.{owner_is, owner_none}
+use Rattle.resource_rules.proofs.Seen.{entry_seen, fence_seen, opens_seen, tables_seen}
+use Rattle.resource_rules.proofs.TccEnds.{images_fit}
+
+abbrev Meaning : Type 0
+Meaning = Result Effect (ℕ × StmtError)
+
+abbrev pub answer_input : Ticket → Xid → Place → Registered → Input
+answer_input t xid from answer = input.Message from (message.RegisterAnswer t xid answer)
+
+-- the statements of the Try of an open ticket are counted
+pub counted_try : (db : Database) (txn : OpenTxn) → (txn.xid.0 == 0) ≡ false → IsOpenOn db (open_of txn) → (w : Work) → txn.work ≡ w → IsCountedTry w
+counted_try db txn one open_on (work.At stmts) e = tt
+counted_try db txn one open_on (work.Tcc action) e =
+    subst (λ (w : Owner). length (tries_of w) ≤ FIELD_ITEMS) (owner_is txn.xid.0 txn.manager txn.call txn.work one ∙ ap (OfCall txn.manager txn.xid.0 txn.call) e) open_on.tries
+
+-- the count of a ticket that waits on is exact, and it has tries left
+not_last : (tries n : ℕ) → tries < 2 ^ 32 → nat_le tries (min (n + 1) (2 ^ 32 - 1)) ≡ false → (min (n + 1) (2 ^ 32 - 1) ≡ n + 1) × (nat_le tries (n + 1) ≡ false)
+not_last tries n small e =
+    let least : min (n + 1) (2 ^ 32 - 1) < tries = grind (arith, nat_tests) in
+    let exact : min (n + 1) (2 ^ 32 - 1) ≡ n + 1 = omega (arith, small, least) in
+    (exact, ap (nat_le tries) (sym exact) ∙ e)
+
+last_too : (tries n : ℕ) → nat_le tries (min (n + 1) (2 ^ 32 - 1)) ≡ true → nat_le tries (n + 1) ≡ true
+last_too tries n e = let most = leb-true tries (min (n + 1) (2 ^ 32 - 1)) e in le-leb tries (n + 1) (omega (arith, most))
+
+module _ (is : TheSetup) (k : Known) (ts : Tickets) (t : Ticket) (xid : Xid) (from : Place) where
+  -- the ticket isn't open
+  pub unopened : (answer : Registered) → open_at ts.opens t ≡ None → (a : Answer) → a ≡ ignored → Answers is k ts (answer_input t xid from answer) a
+  unopened answer none = rests change.Stays tt _
+      (λ s m sh. sym (ap (λ (p : Option Open). rules.on_registered s m.left.records m.opens (next_ticket m) p answer) (ap (λ (os : List Open). open_at os t) (sym (opens_seen s m sh)) ∙ none)))
+      (λ s m. refl) (λ s m now sh. refl)
+
+  module _ (txn : OpenTxn) (here : open_at ts.opens t ≡ Some (open_of txn)) where
+    here_at : (s : Setup) (m : Memory) → Shows is k ts s m → open_at m.opens t ≡ Some (open_of txn)
+    here_at s m sh = ap (λ (os : List Open). open_at os t) (sym (opens_seen s m sh)) ∙ here
+
+    -- also under the ticket that it names
+    own_at : (s : Setup) (m : Memory) → Shows is k ts s m → open_at m.opens txn.ticket ≡ Some (open_of txn)
+    own_at s m sh = ap (open_at m.opens) (found_ticket ts.opens t (open_of txn) here) ∙ here_at s m sh
+
+    ticket_is : (w : Owner) → (open_of txn).owner ≡ w → (answer : Registered) (s : Setup) (m : Memory) → Shows is k ts s m
+        → rules.ticket_answer s m.left.records m.opens (next_ticket m) (open_of txn) w answer ≡ resource_answer s m (answer_input t xid from answer)
+    ticket_is w owner answer s m sh =
+        sym (ap (λ (p : Option Open). rules.on_registered s m.left.records m.opens (next_ticket m) p answer) (here_at s m sh)
+        ∙ ap (λ (v : Owner). rules.ticket_answer s m.left.records m.opens (next_ticket m) (open_of txn) v answer) owner)
+
+    -- it is of no call
+    of_local : (answer : Registered) (s : Setup) (m : Memory) (n : ℕ) → still act.Ignored ≡ rules.ticket_answer s m.left.records m.opens (next_ticket m) (open_of txn) (OfLocal n) answer
+    of_local (registered.Granted b) s m n = refl
+    of_local (registered.Conflict key holder rolling) s m n = refl
+    of_local (registered.Closed status) s m n = refl
+    of_local registered.Late s m n = refl
+
+    pub of_none : (answer : Registered) → (txn.xid.0 == 0) ≡ true → (a : Answer) → a ≡ ignored → Answers is k ts (answer_input t xid from answer) a
+    of_none answer e = rests change.Stays tt _
+        (λ s m sh. of_local answer s m txn.call ∙ ticket_is (OfLocal txn.call) (owner_none txn.xid.0 txn.manager txn.call txn.work e) answer s m sh)
+        (λ s m. refl) (λ s m now sh. refl)
+
+    module _ (one : (txn.xid.0 == 0) ≡ false) where
+      owner : (w : Work) → txn.work ≡ w → (open_of txn).owner ≡ OfCall txn.manager txn.xid.0 txn.call w
+      owner w e = owner_is txn.xid.0 txn.manager txn.call txn.work one ∙ ap (OfCall txn.manager txn.xid.0 txn.call) e
+
+      answers_as : (answer : Registered) (s : Setup) (m : Memory) → Shows is k ts s m
+          → rules.ticket_answer s m.left.records m.opens (next_ticket m) (open_of txn) (OfCall txn.manager txn.xid.0 txn.call txn.work) answer ≡ resource_answer s m (answer_input t xid from answer)
+      answers_as answer s m sh = ticket_is (OfCall txn.manager txn.xid.0 txn.call txn.work) (owner txn.work refl) answer s m sh
+
+      -- it is dropped
+      drops : (answer : Registered) (cause : Why)
+          → ((s : Setup) (m : Memory) → Shows is k ts s m → (dropped txn cause).step ≡ rules.ticket_answer s m.left.records m.opens (next_ticket m) (open_of txn) (OfCall txn.manager txn.xid.0 txn.call txn.work) answer)
+          → (a : Answer) → a ≡ dropped txn cause → Answers is k ts (answer_input t xid from answer) a
+      drops answer cause rule = rests (change.Closes txn.ticket) tt _ (λ s m sh. rule s m sh ∙ answers_as answer s m sh) (λ s m. refl) (λ s m now sh. refl)
+
+      -- ---- a conflict
+
+      module _ (key : RowKey) (holder : Xid) (small : is.tries < 2 ^ 32) where
+        meets : (b : Bool) → nat_le is.tries (txn.conflicts + 1) ≡ b → (s : Setup) (m : Memory) → Shows is k ts s m
+            → (if b then (dropped txn why.Tries).step else still (act.Conflicted txn.ticket (txn.conflicts + 1))) ≡ rules.conflict_answer s m.left.records m.opens (next_ticket m) (open_of txn) txn.manager txn.xid.0 txn.call holder false
+        meets b e s m sh =
+            ap (λ (c : Bool). if c then (dropped txn why.Tries).step else still (act.Conflicted txn.ticket (txn.conflicts + 1))) (sym e ∙ ap (λ (n : ℕ). nat_le n (txn.conflicts + 1)) (sym sh.setup.tries))
+
+        counts_as : (b : Bool) → nat_le is.tries (raised (open_of txn)) ≡ b → (a : Answer) → a ≡ (if b then dropped txn why.Tries else counts txn) → Answers is k ts (answer_input t xid from (registered.Conflict key holder false)) a
+        counts_as true e = drops (registered.Conflict key holder false) why.Tries (meets true (last_too is.tries txn.conflicts e))
+        counts_as false e =
+            let left = not_last is.tries txn.conflicts small e in
+            rests (change.Counts txn.ticket) tt _
+            (λ s m sh. ap (λ (n : ℕ). still (act.Conflicted txn.ticket n)) left.0 ∙ meets false left.1 s m sh ∙ answers_as (registered.Conflict key holder false) s m sh)
+            (λ s m. refl)
+            (λ s m now sh. ap (λ (o : Option Open). record m { opens = counted o txn.ticket m.opens }) (sym (own_at s m sh)))
+
+        pub conflicts : (rolling : Bool) (a : Answer) → a ≡ conflicted is.tries txn holder rolling → Answers is k ts (answer_input t xid from (registered.Conflict key holder rolling)) a
+        conflicts true = drops (registered.Conflict key holder true) (why.Rolling holder) (λ s m sh. refl)
+        conflicts false = counts_as (nat_le is.tries (raised (open_of txn))) refl
+
+      -- ---- a grant
+
+      module _ (b : BranchId) (open_on : IsOpenOn k.tables (open_of txn)) where
+        abbrev leg : Leg
+        leg = leg_of txn.xid b
+
+        granted_as : (w : Work) → txn.work ≡ w → (s : Setup) (m : Memory) → Shows is k ts s m
+            → rules.granted_answer s m.left.records m.opens (next_ticket m) (open_of txn) (OfCall txn.manager txn.xid.0 txn.call w) b.0 ≡ resource_answer s m (answer_input t xid from (registered.Granted b))
+        granted_as w e s m sh = ticket_is (OfCall txn.manager txn.xid.0 txn.call w) (owner w e) (registered.Granted b) s m sh
+
+        places_as : (w : Work) → txn.work ≡ w → ((o : Open) → open_at ts.opens t ≡ Some o → GrantPlaces k.tables b o o.owner) → GrantPlaces k.tables b (open_of txn) (OfCall txn.manager txn.xid.0 txn.call w)
+        places_as w e places = subst (GrantPlaces k.tables b (open_of txn)) (owner w e) (places (open_of txn) here)
+
+        -- of an AT branch
+        module _ (stmts : List Stmt) (e : txn.work ≡ work.At stmts) where
+          at_as : (u : Option Undo) (marked : Bool) (s : Setup) (m : Memory) → Shows is k ts s m → undo_of m.left.records txn.xid.0 b.0 ≡ u → is_marked m.left.records txn.xid.0 b.0 ≡ marked
+              → rules.at_granted s m.left.records m.opens (next_ticket m) (open_of txn) txn.manager txn.xid.0 txn.call b.0 u marked ≡ resource_answer s m (answer_input t xid from (registered.Granted b))
+          at_as u marked s m sh eu em =
+              sym (λ i. rules.at_granted s m.left.records m.opens (next_ticket m) (open_of txn) txn.manager txn.xid.0 txn.call b.0 (eu i) (em i)) ∙ granted_as (work.At stmts) e s m sh
+
+          committed_as : (s : Setup) (m : Memory) → Shows is k ts s m → Some (log.Committed txn.xid b txn.call txn.images txn.reads) ≡ option_map (committed_of txn.xid b) (open_at m.opens txn.ticket)
+          committed_as s m sh =
+              sym (ap (option_map (committed_of txn.xid b)) (own_at s m sh) ∙ ap (λ (w : Owner). Some (log.Committed txn.xid b (call_of w) txn.images txn.reads)) (owner (work.At stmts) e))
+
+          at_by : (found : Option UndoEntry) → entry_at k.undo_log leg ≡ found → (a : Answer) → a ≡ at_granted txn b found → Answers is k ts (answer_input t xid from (registered.Granted b)) a
+          at_by (Some (entry.Normal r)) is_r = rests change.Stays tt _
+              (λ s m sh. let v = normal_by (undo_of m.left.records txn.xid.0 b.0) (is_marked m.left.records txn.xid.0 b.0) r (sym (entry_seen s m sh leg) ∙ is_r) in
+              at_as (Some v.0) (is_marked m.left.records txn.xid.0 b.0) s m sh v.1 refl)
+              (λ s m. refl) (λ s m now sh. refl)
+          at_by (Some entry.Finished) is_f = rests (change.Closes txn.ticket) tt _
+              (λ s m sh. let v = finished_by (undo_of m.left.records txn.xid.0 b.0) (is_marked m.left.records txn.xid.0 b.0) (sym (entry_seen s m sh leg) ∙ is_f) in at_as None true s m sh v.0 v.1)
+              (λ s m. refl) (λ s m now sh. refl)
+          at_by None none = asks (change.Closes txn.ticket) (log.Committed txn.xid b txn.call txn.images txn.reads) tt (durable.Committed txn.xid b txn.ticket) _
+              (λ s m sh. let v = none_by (undo_of m.left.records txn.xid.0 b.0) (is_marked m.left.records txn.xid.0 b.0) (sym (entry_seen s m sh leg) ∙ none) in at_as None false s m sh v.0 v.1)
+              committed_as (λ s m. refl) (λ n. refl)
+              (record { allowed = and_from _ _ (ap is_none none) open_on.rows; runs = refl; placed = places_as (work.At stmts) e })
+
+        -- of a TCC branch
+        module _ (action : Action) (e : txn.work ≡ work.Tcc action) (rows : AreRows k.tables) where
+          meant : (r : Meaning) → effect k.tables action.tries ≡ r → (s : Setup) (m : Memory) → Shows is k ts s m → effect (tables (opening_tables s) m.left.records) action.tries ≡ r
+          meant r is_r s m sh = ap (λ (db : Database). effect db action.tries) (sym (tables_seen s m sh)) ∙ is_r
+
+          tcc_as : (f : FenceAnswer) → on_try (fence_at k.fences leg) ≡ f → (s : Setup) (m : Memory) → Shows is k ts s m
+              → rules.tcc_granted s m.left.records m.opens (next_ticket m) (open_of txn) txn.manager txn.xid.0 txn.call b.0 action f ≡ resource_answer s m (answer_input t xid from (registered.Granted b))
+          tcc_as f is_f s m sh =
+              sym (ap (rules.tcc_granted s m.left.records m.opens (next_ticket m) (open_of txn) txn.manager txn.xid.0 txn.call b.0 action) (ap on_try (sym (fence_seen s m sh leg)) ∙ is_f)) ∙ granted_as (work.Tcc action) e s m sh
+
+          tried_as : (images : Effect) → effect k.tables action.tries ≡ Ok images → (s : Setup) (m : Memory) → Shows is k ts s m
+              → Some (log.Tried txn.xid b txn.call images.images) ≡ option_map (tried_of txn.xid b (tables (opening_tables s) m.left.records)) (open_at m.opens txn.ticket)
+          tried_as images is_e s m sh =
+              sym (ap (option_map (tried_of txn.xid b (tables (opening_tables s) m.left.records))) (own_at s m sh)
+              ∙ ap (λ (w : Owner). Some (log.Tried txn.xid b (call_of w) (effect_on (tables (opening_tables s) m.left.records) (tries_of w)).images)) (owner (work.Tcc action) e)
+              ∙ ap (λ (q : Meaning). Some (log.Tried txn.xid b txn.call (or_none q).images)) (meant (Ok images) is_e s m sh))
+
+          module _ (ran : on_try (fence_at k.fences leg) ≡ Runs) where
+            meant_as : (r : Meaning) → effect k.tables action.tries ≡ r → (s : Setup) (m : Memory) → Shows is k ts s m
+                → rules.try_meant s m.left.records m.opens (next_ticket m) (open_of txn) txn.manager txn.xid.0 txn.call b.0 r ≡ resource_answer s m (answer_input t xid from (registered.Granted b))
+            meant_as r is_r s m sh =
+                sym (ap (rules.try_meant s m.left.records m.opens (next_ticket m) (open_of txn) txn.manager txn.xid.0 txn.call b.0) (meant r is_r s m sh)) ∙ tcc_as Runs ran s m sh
+
+            touches : (x : Effect) → effect k.tables action.tries ≡ Ok x → (index : Option ℕ) → untouched 1 x.touched ≡ index → (a : Answer) → a ≡ try_touched txn b x.images index → Answers is k ts (answer_input t xid from (registered.Granted b)) a
+            touches x is_x (Some index) first = rests (change.Closes txn.ticket) tt _
+                (λ s m sh. sym (ap (rules.try_touched s m.left.records m.opens (next_ticket m) (open_of txn) txn.manager txn.xid.0 txn.call b.0) first) ∙ meant_as (Ok x) is_x s m sh)
+                (λ s m. refl) (λ s m now sh. refl)
+            touches x is_x None first = asks (change.Closes txn.ticket) (log.Tried txn.xid b txn.call x.images) tt (durable.Tried txn.xid b txn.ticket) _
+                (λ s m sh. sym (ap (rules.try_touched s m.left.records m.opens (next_ticket m) (open_of txn) txn.manager txn.xid.0 txn.call b.0) first) ∙ meant_as (Ok x) is_x s m sh)
+                (tried_as x is_x) (λ s m. refl) (λ n. refl)
+                (record { allowed = and_from _ _ (ap runs ran) (images_fit k.tables action.tries x rows is_x); runs = refl; placed = λ places. places_as (work.Tcc action) e places x is_x })
+
+            means : (r : Meaning) → effect k.tables action.tries ≡ r → (a : Answer) → a ≡ try_meant txn b r → Answers is k ts (answer_input t xid from (registered.Granted b)) a
+            means (Ok x) is_x = touches x is_x (untouched 1 x.touched) refl
+            means (Err (index, error)) is_r = rests (change.Closes txn.ticket) tt _ (λ s m sh. meant_as (Err (index, error)) is_r s m sh) (λ s m. refl) (λ s m now sh. refl)
+
+          tcc_by : (f : FenceAnswer) → on_try (fence_at k.fences leg) ≡ f → (a : Answer) → a ≡ tcc_granted txn b (effect k.tables action.tries) f → Answers is k ts (answer_input t xid from (registered.Granted b)) a
+          tcc_by Runs is_f = means is_f (effect k.tables action.tries) refl
+          tcc_by WasDone is_f = rests (change.Closes txn.ticket) tt _ (λ s m sh. tcc_as WasDone is_f s m sh) (λ s m. refl) (λ s m now sh. refl)
+          tcc_by Suspends is_f = rests (change.Closes txn.ticket) tt _ (λ s m sh. tcc_as Suspends is_f s m sh) (λ s m. refl) (λ s m now sh. refl)
+          tcc_by Refuses is_f = rests (change.Closes txn.ticket) tt _ (λ s m sh. tcc_as Refuses is_f s m sh) (λ s m. refl) (λ s m now sh. refl)
+
+        grants : AreRows k.tables → (w : Work) → txn.work ≡ w → (a : Answer) → a ≡ granted k txn b w → Answers is k ts (answer_input t xid from (registered.Granted b)) a
+        grants rows (work.At stmts) e = at_by stmts e (entry_at k.undo_log leg) refl
+        grants rows (work.Tcc action) e = tcc_by action e rows (on_try (fence_at k.fences leg)) refl
+
+      -- ---- all
+
+      pub answers : IsOpenOn k.tables (open_of txn) → AreRows k.tables → is.tries < 2 ^ 32 → (answer : Registered) (a : Answer) → a ≡ answered is.tries k txn answer → Answers is k ts (answer_input t xid from answer) a
+      answers open_on rows small (registered.Granted b) = grants b open_on rows txn.work refl
+      answers open_on rows small (registered.Conflict key holder rolling) = conflicts key holder small rolling
+      answers open_on rows small (registered.Closed status) = drops (registered.Closed status) (why.Closed status) (λ s m sh. refl)
+      answers open_on rows small registered.Late = drops registered.Late why.Late (λ s m sh. refl)
+
+-- where there is memory for it
+pub answers_ok : (is : TheSetup) (k : Known) (ts : Tickets) (t : Ticket) (txn : OpenTxn) (answer : Registered) → open_at ts.opens t ≡ Some (open_of txn) → (txn.xid.0 == 0) ≡ false → IsOpenOn k.tables (open_of txn)
+    → AreRows k.tables → is.tries < 2 ^ 32 → (result : Result Answer NoMemory) → IfOk result (λ a. a ≡ answered is.tries k txn answer) → IfOk result (λ a. (xid : Xid) → Hears is k ts (message.RegisterAnswer t xid answer) a)
+answers_ok is k ts t txn answer here one open_on rows small (Ok a) given = λ xid from. answers is k ts t xid from txn here one open_on rows small answer a given
+answers_ok is k ts t txn answer here one open_on rows small (Err n) given = tt

@@ -1,0 +1,177 @@
+-- Guarded local transactions and outside writes: by what was looked up the answers are the rules'.
+use Rattle.std.proofs.Common.{◌≡◌, ◌∙◌, ◌==◌, ℕ, ◌+◌, true, false, List, ◌∷◌, is_some, Option, Some, None, option_map, Result, Ok, Err, refl, sym, ap, ap₂, subst}
+use Rattle.std.specs.Prelude.{find, IfOk}
+use Rattle.seata_types.specs.declared.acts.Act.TheVariants as act
+use Rattle.seata_types.specs.declared.acts.Durable.TheVariants as durable
+use Rattle.seata_types.specs.declared.copies.NoMemory.{NoMemory}
+use Rattle.seata_types.specs.declared.errors.StmtError.{StmtError}
+use Rattle.seata_types.specs.declared.ids.Place.{Place}
+use Rattle.seata_types.specs.declared.ids.Ticket.{Ticket}
+use Rattle.seata_types.specs.declared.ids.Xid.{Xid}
+use Rattle.seata_types.specs.declared.messages.Input.{Input}
+use Rattle.seata_types.specs.declared.messages.Input.TheVariants as input
+use Rattle.seata_types.specs.declared.messages.Message.TheVariants as message
+use Rattle.seata_types.specs.declared.rows.RowKey.{RowKey}
+use Rattle.seata_types.specs.declared.statements.Stmt.{Stmt}
+use Rattle.local_tables.specs.Calls.{effect}
+use Rattle.local_tables.specs.Rows.{AreRows, Database}
+use Rattle.local_tables.specs.declared.schemas.Effect.{Effect}
+use Rattle.durable_records.specs.declared.resources.ResourceRecord.TheVariants as log
+use Rattle.durable_records.specs.RowsKept.{tables}
+use Rattle.local_txn.specs.OpenTickets.{Owner, OfCall, OfLocal, Open, busy_row, open_at, opening_of}
+use Rattle.local_txn.specs.Answers.{Tickets, is_for, new_ticket, open_of, ticket_of}
+use Rattle.local_txn.specs.declared.transactions.OpenTxn.{OpenTxn}
+use Rattle.local_txn.proofs.OpenLaws.{found_ticket}
+use Rattle.history_rules.specs.Own.{still}
+use Rattle.history_rules.specs.ResourceMemory.{Setup, Memory, effect_on, local_committed_of, local_in, local_of, next_ticket, opening_tables, or_empty, or_none}
+use Rattle.history_rules.specs.ResourceRules as rules
+use Rattle.history_rules.specs.ResourceRules.{requests, resource_answer}
+use Rattle.resource_memory.specs.Known.{Known}
+use Rattle.resource_rules.specs.Answers.{Answers, Hears, IsOpenOn, LocalPlace, Shows, answer, ignored}
+use Rattle.resource_rules.specs.Locals.{local_free, local_meant, lock_answered, opening, outside_free, outside_meant}
+use Rattle.resource_rules.specs.declared.answers.Answer.{Answer}
+use Rattle.resource_rules.specs.declared.answers.Change.TheVariants as change
+use Rattle.resource_rules.specs.declared.setups.Setup.{Setup as TheSetup}
+use Rattle.resource_rules.proofs.AnswerLaws.{rests, asks}
+use Rattle.resource_rules.proofs.CallAnswers.{found_none, found_open, some_ticket}
+use Rattle.resource_rules.proofs.Owners.{owner_is, owner_none}
+use Rattle.resource_rules.proofs.Seen.{local_seen, next_seen, opens_seen, tables_seen}
+use Rattle.resource_rules.proofs.TccEnds.{fit_alone, images_fit}
+
+abbrev Meaning : Type 0
+Meaning = Result Effect (ℕ × StmtError)
+
+-- ---- the answer to a lock query
+
+module _ (is : TheSetup) (k : Known) (ts : Tickets) (t : Ticket) (from : Place) (held : Option (RowKey × Xid)) where
+  abbrev lock_input : Input
+  lock_input = input.Message from (message.LockAnswer t held)
+
+  pub lock_unopened : open_at ts.opens t ≡ None → (a : Answer) → a ≡ ignored → Answers is k ts lock_input a
+  lock_unopened none = rests change.Stays tt _
+      (λ s m sh. sym (ap (λ (p : Option Open). rules.on_lock_answer s m.left.records m.opens (next_ticket m) p held) (ap (λ (os : List Open). open_at os t) (sym (opens_seen s m sh)) ∙ none)))
+      (λ s m. refl) (λ s m now sh. refl)
+
+  module _ (txn : OpenTxn) (here : open_at ts.opens t ≡ Some (open_of txn)) where
+    lock_as : (w : Owner) → (open_of txn).owner ≡ w → (s : Setup) (m : Memory) → Shows is k ts s m
+        → rules.lock_answer s m.left.records m.opens (next_ticket m) (open_of txn) w held ≡ resource_answer s m lock_input
+    lock_as w owner s m sh =
+        sym (ap (λ (p : Option Open). rules.on_lock_answer s m.left.records m.opens (next_ticket m) p held) (ap (λ (os : List Open). open_at os t) (sym (opens_seen s m sh)) ∙ here)
+        ∙ ap (λ (v : Owner). rules.lock_answer s m.left.records m.opens (next_ticket m) (open_of txn) v held) owner)
+
+    pub lock_of_call : (txn.xid.0 == 0) ≡ false → (a : Answer) → a ≡ ignored → Answers is k ts lock_input a
+    lock_of_call e = rests change.Stays tt _
+        (λ s m sh. lock_as (OfCall txn.manager txn.xid.0 txn.call txn.work) (owner_is txn.xid.0 txn.manager txn.call txn.work e) s m sh) (λ s m. refl) (λ s m now sh. refl)
+
+module _ (is : TheSetup) (k : Known) (ts : Tickets) (t : Ticket) (from : Place) (txn : OpenTxn) (here : open_at ts.opens t ≡ Some (open_of txn)) (none : (txn.xid.0 == 0) ≡ true) where
+  owner : (open_of txn).owner ≡ OfLocal txn.call
+  owner = owner_none txn.xid.0 txn.manager txn.call txn.work none
+
+  commits_as : (s : Setup) (m : Memory) → Shows is k ts s m → Some (log.LocalCommitted txn.call txn.images) ≡ option_map (local_committed_of txn.call) (open_at m.opens txn.ticket)
+  commits_as s m sh =
+      sym (ap (option_map (local_committed_of txn.call)) (ap (open_at m.opens) (found_ticket ts.opens t (open_of txn) here) ∙ ap (λ (os : List Open). open_at os t) (sym (opens_seen s m sh)) ∙ here))
+
+  pub lock_answers : IsOpenOn k.tables (open_of txn) → (held : Option (RowKey × Xid)) (a : Answer) → a ≡ lock_answered txn held → Answers is k ts (lock_input is k ts t from held) a
+  lock_answers open_on (Some (key, holder)) = rests (change.Closes txn.ticket) tt _
+      (λ s m sh. lock_as is k ts t from (Some (key, holder)) txn here (OfLocal txn.call) owner s m sh) (λ s m. refl) (λ s m now sh. refl)
+  lock_answers open_on None = asks (change.Closes txn.ticket) (log.LocalCommitted txn.call txn.images) tt (durable.LocalCommitted txn.call txn.ticket) _
+      (λ s m sh. lock_as is k ts t from None txn here (OfLocal txn.call) owner s m sh)
+      commits_as (λ s m. refl) (λ n. refl)
+      (record { allowed = fit_alone k.tables txn.images txn.reads open_on.rows; runs = refl; placed = λ places. subst (LocalPlace (open_of txn)) owner (places (open_of txn) here) })
+
+pub lock_ok : (k : Known) (ts : Tickets) (t : Ticket) (txn : OpenTxn) (held : Option (RowKey × Xid)) → open_at ts.opens t ≡ Some (open_of txn) → (txn.xid.0 == 0) ≡ true → IsOpenOn k.tables (open_of txn)
+    → (result : Result Answer NoMemory) → IfOk result (λ a. a ≡ lock_answered txn held) → IfOk result (λ a. (is : TheSetup) → Hears is k ts (message.LockAnswer t held) a)
+lock_ok k ts t txn held here none open_on (Ok a) given = λ is from. lock_answers is k ts t from txn here none open_on held a given
+lock_ok k ts t txn held here none open_on (Err n) given = tt
+
+-- ---- outside writes
+
+module _ (is : TheSetup) (k : Known) (ts : Tickets) (n : ℕ) where
+  pub outside_unknown : local_in n is.locals ≡ None → (a : Answer) → a ≡ ignored → Answers is k ts (input.Outside n) a
+  outside_unknown none = rests change.Stays tt _
+      (λ s m sh. sym (ap (rules.on_outside s m.left.records m.opens (next_ticket m) n) (sym (local_seen s m sh n) ∙ none))) (λ s m. refl) (λ s m now sh. refl)
+
+  module _ (stmts : List Stmt) (here : local_in n is.locals ≡ Some stmts) (rows : AreRows k.tables) where
+    means_as : (r : Meaning) → effect k.tables stmts ≡ r → (s : Setup) (m : Memory) → Shows is k ts s m
+        → rules.outside_meant s m.left.records m.opens (next_ticket m) n r ≡ resource_answer s m (input.Outside n)
+    means_as r e s m sh =
+        sym (ap (rules.on_outside s m.left.records m.opens (next_ticket m) n) (sym (local_seen s m sh n) ∙ here)
+        ∙ ap (rules.outside_meant s m.left.records m.opens (next_ticket m) n) (ap (λ (db : Database). effect db stmts) (sym (tables_seen s m sh)) ∙ e))
+
+    rows_as : (e : Effect) → effect k.tables stmts ≡ Ok e → (b : Option (RowKey × Ticket)) → busy_row ts.opens e ≡ b → (s : Setup) (m : Memory) → Shows is k ts s m
+        → rules.outside_free s m.left.records m.opens (next_ticket m) n b ≡ resource_answer s m (input.Outside n)
+    rows_as e means b is_b s m sh =
+        sym (ap (rules.outside_free s m.left.records m.opens (next_ticket m) n) (ap (λ (os : List Open). busy_row os e) (sym (opens_seen s m sh)) ∙ is_b)) ∙ means_as (Ok e) means s m sh
+
+    written_as : (e : Effect) → effect k.tables stmts ≡ Ok e → (s : Setup) (m : Memory) → Shows is k ts s m
+        → Some (log.Outside n e.images) ≡ Some (log.Outside n (effect_on (tables (opening_tables s) m.left.records) (or_empty (local_of s n))).images)
+    written_as e means s m sh =
+        sym (ap (λ (o : Option (List Stmt)). Some (log.Outside n (effect_on (tables (opening_tables s) m.left.records) (or_empty o)).images)) (sym (local_seen s m sh n) ∙ here)
+        ∙ ap (λ (q : Meaning). Some (log.Outside n (or_none q).images)) (ap (λ (db : Database). effect db stmts) (sym (tables_seen s m sh)) ∙ means))
+
+    writes : (e : Effect) → effect k.tables stmts ≡ Ok e → (b : Option (RowKey × Ticket)) → busy_row ts.opens e ≡ b → (a : Answer) → a ≡ outside_free n e b → Answers is k ts (input.Outside n) a
+    writes e means (Some (key, by)) is_b = rests change.Stays tt _ (λ s m sh. rows_as e means (Some (key, by)) is_b s m sh) (λ s m. refl) (λ s m now sh. refl)
+    writes e means None is_b = asks change.Stays (log.Outside n e.images) tt (durable.Outside n) _
+        (λ s m sh. rows_as e means None is_b s m sh) (written_as e means) (λ s m. refl) (λ c. refl)
+        (record { allowed = images_fit k.tables stmts e rows means; runs = refl; placed = λ places. places stmts here e means })
+
+    pub outsides : (r : Meaning) → effect k.tables stmts ≡ r → (a : Answer) → a ≡ outside_meant ts.opens n r → Answers is k ts (input.Outside n) a
+    outsides (Ok e) means = writes e means (busy_row ts.opens e) refl
+    outsides (Err (index, error)) means = rests change.Stays tt _ (λ s m sh. means_as (Err (index, error)) means s m sh) (λ s m. refl) (λ s m now sh. refl)
+
+pub outside_ok : (is : TheSetup) (k : Known) (ts : Tickets) (n : ℕ) (stmts : List Stmt) (db : Database) (ss : List Stmt) → local_in n is.locals ≡ Some stmts → AreRows k.tables → db ≡ k.tables → ss ≡ stmts
+    → (result : Result Answer NoMemory) → IfOk result (λ a. a ≡ outside_meant ts.opens n (effect db ss)) → IfOk result (Answers is k ts (input.Outside n))
+outside_ok is k ts n stmts db ss here rows same of (Ok a) given =
+    outsides is k ts n stmts here rows (effect k.tables stmts) refl a (given ∙ ap₂ (λ (t : Database) (l : List Stmt). outside_meant ts.opens n (effect t l)) same of)
+outside_ok is k ts n stmts db ss here rows same of (Err e) given = tt
+
+-- ---- openings
+
+module _ (is : TheSetup) (k : Known) (ts : Tickets) (n : ℕ) where
+  pub local_unknown : local_in n is.locals ≡ None → (a : Answer) → a ≡ ignored → Answers is k ts (input.Local n) a
+  local_unknown none = rests change.Stays tt _
+      (λ s m sh. sym (ap (rules.on_local s m.left.records m.opens (next_ticket m) n) (sym (local_seen s m sh n) ∙ none))) (λ s m. refl) (λ s m now sh. refl)
+
+  module _ (stmts : List Stmt) (here : local_in n is.locals ≡ Some stmts) where
+    local_is : (o : Option Open) → find (is_for 0 n) ts.opens ≡ o → (s : Setup) (m : Memory) → Shows is k ts s m
+        → rules.local_answer s m.left.records m.opens (next_ticket m) n stmts o ≡ resource_answer s m (input.Local n)
+    local_is o e s m sh =
+        sym (ap (rules.on_local s m.left.records m.opens (next_ticket m) n) (sym (local_seen s m sh n) ∙ here)
+        ∙ ap (rules.local_answer s m.left.records m.opens (next_ticket m) n stmts) (ap (λ (os : List Open). find (is_for 0 n) os) (sym (opens_seen s m sh)) ∙ e))
+
+    pub local_waits : is_some (option_map ticket_of (find (is_for 0 n) ts.opens)) ≡ true → (a : Answer) → a ≡ answer None (still (act.WaitingLocal n)) → Answers is k ts (input.Local n) a
+    local_waits open_is =
+        let there = found_open (find (is_for 0 n) ts.opens) (sym (some_ticket (find (is_for 0 n) ts.opens)) ∙ open_is) in
+        rests change.Stays tt _ (λ s m sh. local_is (Some there.0) there.1 s m sh) (λ s m. refl) (λ s m now sh. refl)
+
+    module _ (closed : is_some (option_map ticket_of (find (is_for 0 n) ts.opens)) ≡ false) where
+      local_means : (r : Meaning) → effect k.tables stmts ≡ r → (s : Setup) (m : Memory) → Shows is k ts s m
+          → rules.local_meant s m.left.records m.opens (next_ticket m) n r ≡ resource_answer s m (input.Local n)
+      local_means r e s m sh =
+          sym (ap (rules.local_meant s m.left.records m.opens (next_ticket m) n) (ap (λ (db : Database). effect db stmts) (sym (tables_seen s m sh)) ∙ e))
+          ∙ local_is None (found_none (find (is_for 0 n) ts.opens) (sym (some_ticket (find (is_for 0 n) ts.opens)) ∙ closed)) s m sh
+
+      local_rows : (e : Effect) → effect k.tables stmts ≡ Ok e → (b : Option (RowKey × Ticket)) → busy_row ts.opens e ≡ b → (s : Setup) (m : Memory) → Shows is k ts s m
+          → rules.local_free s m.left.records m.opens (next_ticket m) n e b ≡ resource_answer s m (input.Local n)
+      local_rows e means b is_b s m sh =
+          sym (ap (rules.local_free s m.left.records m.opens (next_ticket m) n e) (ap (λ (os : List Open). busy_row os e) (sym (opens_seen s m sh)) ∙ is_b)) ∙ local_means (Ok e) means s m sh
+
+      local_opens : (e : Effect) → effect k.tables stmts ≡ Ok e → (b : Option (RowKey × Ticket)) → busy_row ts.opens e ≡ b → (a : Answer) → a ≡ local_free is.number ts n stmts e b → Answers is k ts (input.Local n) a
+      local_opens e means (Some (key, by)) is_b = rests change.Stays tt _ (λ s m sh. local_rows e means (Some (key, by)) is_b s m sh) (λ s m. refl) (λ s m now sh. refl)
+      local_opens e means None is_b =
+          rests (change.Opens (opening ts n stmts e)) (record { named = refl; free = is_b }, refl) _
+          (λ s m sh. (λ i. requests (sym sh.setup.number i) (act.OpenedLocal n (next_seen s m sh i)) (opening_of (next_seen s m sh i) (OfLocal n) e)) ∙ local_rows e means None is_b s m sh)
+          (λ s m. refl)
+          (λ s m now sh. ap (λ (x : Effect). record m { opens = opening_of (new_ticket ts) (OfLocal n) x ∷ m.opens; opened = m.opened + 1 })
+          (ap (λ (o : Option (List Stmt)). effect_on (tables (opening_tables s) m.left.records) (or_empty o)) (sym (local_seen s m sh n) ∙ here)
+          ∙ ap or_none (ap (λ (db : Database). effect db stmts) (sym (tables_seen s m sh)) ∙ means)))
+
+      pub local_is_new : (r : Meaning) → effect k.tables stmts ≡ r → (a : Answer) → a ≡ local_meant is.number ts n stmts r → Answers is k ts (input.Local n) a
+      local_is_new (Ok e) means = local_opens e means (busy_row ts.opens e) refl
+      local_is_new (Err (index, error)) means = rests change.Stays tt _ (λ s m sh. local_means (Err (index, error)) means s m sh) (λ s m. refl) (λ s m now sh. refl)
+
+pub local_ok : (is : TheSetup) (k : Known) (ts : Tickets) (n : ℕ) (stmts : List Stmt) (db : Database) → local_in n is.locals ≡ Some stmts → is_some (option_map ticket_of (find (is_for 0 n) ts.opens)) ≡ false → db ≡ k.tables
+    → (result : Result Answer NoMemory) → IfOk result (λ a. a ≡ local_meant is.number ts n stmts (effect db stmts)) → IfOk result (Answers is k ts (input.Local n))
+local_ok is k ts n stmts db here closed same (Ok a) given =
+    local_is_new is k ts n stmts here closed (effect k.tables stmts) refl a (given ∙ ap (λ (t : Database). local_meant is.number ts n stmts (effect t stmts)) same)
+local_ok is k ts n stmts db here closed same (Err e) given = tt

@@ -1,0 +1,11 @@
+pub mod Setups
+pub mod Meanings
+pub mod Answers
+pub mod Ends
+pub mod Grants
+pub mod Locals
+pub mod Asked
+pub mod Openings
+pub mod Calls
+pub mod Serving
+pub mod Laws

@@ -1,0 +1,266 @@
+//! The coordinator's answers to registrations.
+ghost use Rattle.std.specs.Prelude.{◌≡◌, ◌≤◌, length, Ok, IfOk};
+ghost use Rattle.std.specs.Option.{option_copied};
+ghost use Rattle.seata_types.specs.declared.ids.Xid.{Xid as TheXid};
+ghost use Rattle.seata_types.specs.declared.limits.TheConstants.{FIELD_ITEMS};
+ghost use Rattle.seata_types.specs.declared.messages.Message.TheVariants as message;
+ghost use Rattle.local_tables.specs.Calls.{effect};
+ghost use Rattle.tcc_fence.specs.Meanings.{answer_of};
+ghost use Rattle.resource_rules.specs.Answers.{AreOpenOn, Hears};
+ghost use Rattle.resource_rules.specs.Grants as looked;
+
+use crate::answers::{Answer, Change};
+use crate::lookups::entry;
+use crate::meanings::{meaning, untouched};
+use crate::setups::Setup;
+use crate::telling::{ignored, in_word, is_nobody, tells};
+use durable_records::ResourceRecord;
+use local_tables::{Effect, Tables};
+use local_txn::{LocalTxns, OpenTxn};
+use resource_memory::Memory;
+use seata_types::{
+    Act, BranchId, CallAnswer, Duplicate, Durable, Leg, NoMemory, Registered, Step, Stmt, Ticket,
+    Why, Work, Xid,
+};
+use std::alloc::Global;
+use tcc_fence::FenceAnswer;
+use undo_log::UndoEntry;
+
+/// What the coordinator says to the registration of a ticket; ignored unless a call has it open.
+pub(crate) fn registered(
+    alloc: Global,
+    memory: &Memory,
+    setup: &Setup,
+    txns: &LocalTxns,
+    ticket: Ticket,
+    answer: &Registered,
+) -> Result<Answer, NoMemory>
+    requires { AreOpenOn memory.now txns.now }
+    ensures { IfOk result (λ a. (xid : TheXid) →
+        Hears setup.now memory.now txns.now (message.RegisterAnswer ticket xid answer.now) a) }
+{
+    let Some(txn) = txns.find(ticket) else {
+        return Ok(ignored());
+    };
+    if is_nobody(txn.xid) {
+        return Ok(ignored());
+    }
+    in_word(setup.tries);
+    let known = memory.kept();
+    answered(alloc, known, setup.tries, txn, answer)
+}
+
+// The same for an open ticket of a call.
+fn answered(
+    alloc: Global,
+    memory: &Memory,
+    tries: u32,
+    txn: &OpenTxn,
+    answer: &Registered,
+) -> Result<Answer, NoMemory>
+    requires { looked.IsCountedTry txn.now.work }
+    ensures { IfOk result (λ a. a ≡ looked.answered tries memory.now txn.now answer.now) }
+{
+    match answer {
+        Registered::Granted { branch } => granted(alloc, memory, txn, *branch),
+        Registered::Conflict {
+            key: _,
+            holder,
+            rolling,
+        } => conflicted(alloc, tries, txn, *holder, *rolling),
+        Registered::Closed { status } => dropped(alloc, txn, Why::Closed { status: *status }),
+        Registered::Late => dropped(alloc, txn, Why::Late),
+    }
+}
+
+// The branch of a ticket was granted.
+fn granted(
+    alloc: Global,
+    memory: &Memory,
+    txn: &OpenTxn,
+    branch: BranchId,
+) -> Result<Answer, NoMemory>
+    requires { looked.IsCountedTry txn.now.work }
+    ensures { IfOk result (λ a. a ≡ looked.granted memory.now txn.now branch txn.now.work) }
+{
+    let leg = Leg {
+        xid: txn.xid,
+        branch,
+    };
+    match &txn.work {
+        Work::At(_) => at_granted(alloc, txn, branch, entry(memory, leg)),
+        Work::Tcc(action) => {
+            let fence = memory.fence().on_try(leg);
+            let stmts = action.get().tries.as_slice();
+            tcc_granted(alloc, memory.tables(), txn, branch, fence, stmts)
+        }
+    }
+}
+
+// An AT branch commits locally, where it has neither an undo record nor a marker.
+fn at_granted(
+    alloc: Global,
+    txn: &OpenTxn,
+    branch: BranchId,
+    found: Option<&UndoEntry>,
+) -> Result<Answer, NoMemory>
+    ensures { IfOk result (λ a. a ≡ looked.at_granted txn.now branch (option_copied found.entry)) }
+{
+    match found {
+        Some(UndoEntry::Normal(_)) => Ok(ignored()),
+        Some(UndoEntry::Finished) => dropped(alloc, txn, Why::Marker),
+        None => {
+            let item = ResourceRecord::Committed {
+                xid: txn.xid,
+                branch,
+                call: txn.call,
+                images: txn.images.copy(alloc)?,
+                reads: txn.reads.copy(alloc)?,
+            };
+            let asked = Durable::Committed {
+                xid: txn.xid,
+                branch,
+                ticket: txn.ticket,
+            };
+            Ok(done(txn, branch, asked, item))
+        }
+    }
+}
+
+// The Try of a TCC branch runs, where the fence lets it.
+fn tcc_granted(
+    alloc: Global,
+    tables: &Tables,
+    txn: &OpenTxn,
+    branch: BranchId,
+    fence: FenceAnswer,
+    stmts: &[Stmt],
+) -> Result<Answer, NoMemory>
+    requires { length stmts.now ≤ FIELD_ITEMS }
+    ensures { IfOk result (λ a. a ≡ looked.tcc_granted txn.now branch (effect tables.now stmts.now) (answer_of fence)) }
+{
+    match fence {
+        FenceAnswer::Run => run_try(alloc, tables, txn, branch, stmts),
+        FenceAnswer::Already => dropped(alloc, txn, Why::Fence),
+        FenceAnswer::Suspend => dropped(alloc, txn, Why::Fence),
+        FenceAnswer::Refuse => dropped(alloc, txn, Why::Fence),
+    }
+}
+
+// The Try of a branch runs, where each statement has a meaning and touches a row.
+fn run_try(
+    alloc: Global,
+    tables: &Tables,
+    txn: &OpenTxn,
+    branch: BranchId,
+    stmts: &[Stmt],
+) -> Result<Answer, NoMemory>
+    requires { length stmts.now ≤ FIELD_ITEMS }
+    ensures { IfOk result (λ a. a ≡ looked.try_meant txn.now branch (effect tables.now stmts.now)) }
+{
+    match meaning(alloc, tables, stmts)? {
+        Ok(effect) => tried(alloc, txn, branch, effect),
+        Err((index, why)) => dropped(alloc, txn, Why::Stmt { index, why }),
+    }
+}
+
+fn tried(alloc: Global, txn: &OpenTxn, branch: BranchId, effect: Effect) -> Result<Answer, NoMemory>
+    requires { length effect.touched ≤ FIELD_ITEMS }
+    ensures { IfOk result (λ a. a ≡ looked.try_meant txn.now branch (Ok effect)) }
+{
+    let Effect {
+        images,
+        touched,
+        ..
+    } = effect;
+    if let Some(index) = untouched(touched.as_slice()) {
+        return dropped(alloc, txn, Why::NoRow { index });
+    }
+    let item = ResourceRecord::Tried {
+        xid: txn.xid,
+        branch,
+        call: txn.call,
+        images,
+    };
+    let asked = Durable::Tried {
+        xid: txn.xid,
+        branch,
+        ticket: txn.ticket,
+    };
+    Ok(done(txn, branch, asked, item))
+}
+
+// Another transaction holds a row that a ticket asks for.
+fn conflicted(
+    alloc: Global,
+    tries: u32,
+    txn: &OpenTxn,
+    holder: Xid,
+    rolling: bool,
+) -> Result<Answer, NoMemory>
+    ensures { IfOk result (λ a. a ≡ looked.conflicted tries txn.now holder rolling) }
+{
+    if rolling {
+        return dropped(alloc, txn, Why::Rolling { holder });
+    }
+    let count = txn.conflicts.saturating_add(1);
+    if count >= tries {
+        return dropped(alloc, txn, Why::Tries);
+    }
+    Ok(Answer {
+        step: Step {
+            act: Act::Conflicted {
+                ticket: txn.ticket,
+                count,
+            },
+            sent: None,
+        },
+        asked: None,
+        change: Change::Counts(txn.ticket),
+    })
+}
+
+// The ticket of a call is dropped.
+fn dropped(alloc: Global, txn: &OpenTxn, cause: Why) -> Result<Answer, NoMemory>
+    ensures { IfOk result (λ a. a ≡ looked.dropped txn.now cause) }
+{
+    let Ok(told) = cause.copy(alloc) else {
+        drop(cause);
+        return Err(NoMemory);
+    };
+    let act = Act::Dropped {
+        xid: txn.xid,
+        call: txn.call,
+        ticket: txn.ticket,
+        why: cause,
+    };
+    Ok(Answer {
+        step: tells(
+            txn.manager,
+            txn.xid,
+            txn.call,
+            act,
+            CallAnswer::Failed { why: told },
+        ),
+        asked: None,
+        change: Change::Closes(txn.ticket),
+    })
+}
+
+// The work of a call is done as this branch.
+fn done(txn: &OpenTxn, branch: BranchId, asked: Durable, item: ResourceRecord) -> Answer
+    ensures { result ≡ looked.done txn.now branch asked item }
+{
+    let act = Act::Durable(asked);
+    Answer {
+        step: tells(
+            txn.manager,
+            txn.xid,
+            txn.call,
+            act,
+            CallAnswer::Done { branch },
+        ),
+        asked: Some(item),
+        change: Change::Closes(txn.ticket),
+    }
+}

@@ -1,0 +1,26 @@
+//! The rules of a resource as pure functions: what it is, what it knows and the local transactions that it has open give the step
+//! that it answers with, the record that this asks for, and what becomes of its open tickets.
+#![tactic(auto)]
+
+mod answers;
+mod asked;
+mod at_ends;
+mod callers;
+mod calls;
+mod grants;
+pub mod laws;
+mod locals;
+mod lookups;
+mod meanings;
+mod requests;
+mod rows;
+mod ruling;
+mod setups;
+mod tcc_ends;
+mod telling;
+mod turns;
+
+pub use answers::{Answer, Change};
+pub use ruling::answer;
+pub use setups::Setup;
+pub use telling::durable_of;

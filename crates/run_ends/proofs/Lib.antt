@@ -1,0 +1,5 @@
+mod Lists
+mod Giving
+mod Walking
+pub mod Nodes
+mod OneHistory

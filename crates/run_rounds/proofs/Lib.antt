@@ -1,0 +1,3 @@
+mod Ended
+mod Passes
+pub mod Places

@@ -1,0 +1,39 @@
+use Rattle.std.proofs.Common.{◌≡◌, ◌∙◌, ◌+◌, ◌-◌, ap, subst, sym, refl, arith, Some, length, slice_get}
+use Rattle.std.proofs.lemmas.Option.{slice_get_read}
+use Rattle.scenario_nodes.specs.Nodes.{IsNewManager}
+use Rattle.thread_runner.proofs.Managers.{all_made, none_made, one_made}
+use Rattle.thread_runner.proofs.openings.new_managers.Goals as goal
+
+pub loop-k-init : goal.loop-k-init
+loop-k-init c = none_made (IsNewManager c.args.scenario.now) c.args.scenario.now.managers c.new-made.result.items c.new-made.ensures.items
+
+pub overflow_cast-k : goal.overflow_cast-k
+overflow_cast-k c = let few = c.requires.few in let size = ap length c.as_slice-def-items.ensures in let below = c.loop-k-test.true in omega (arith, few, size, below)
+
+pub overflow_add-k : goal.overflow_add-k
+overflow_add-k c = let few = c.requires.few in let size = ap length c.as_slice-def-items.ensures in let below = c.loop-k-test.true in omega (arith, few, size, below)
+
+pub new_manager-requires-clause-counted : goal.new_manager-requires-clause-counted
+new_manager-requires-clause-counted c =
+    let size = ap length c.as_slice-def-items.ensures in
+    let below = c.loop-k-test.true in
+    (omega arith, omega (arith, size, below))
+
+pub new_manager-requires-clause-there : goal.new_manager-requires-clause-there
+new_manager-requires-clause-there c =
+    ap (slice_get c.args.scenario.now.managers) (let same : c.loop-k.k + 1 - 1 ≡ c.loop-k.k = omega arith in same)
+    ∙ subst (λ ds. slice_get ds c.loop-k.k ≡ Some c.def-item.result) c.as_slice-def-items.ensures
+    (slice_get_read c.as_slice-def-items.result.now _ c.loop-k.k _ refl c.loop-k-test.true c.def-item.is)
+
+pub loop-k-preserved : goal.loop-k-preserved
+loop-k-preserved c =
+    one_made (IsNewManager c.args.scenario.now) c.args.scenario.now.managers c.loop-k.made.items c.put.new.made.items c.loop-k.k c.def-item.result c.in_ok-manager.manager c.loop-k.invariant
+    (subst (λ ds. slice_get ds c.loop-k.k ≡ Some c.def-item.result) c.as_slice-def-items.ensures
+    (slice_get_read c.as_slice-def-items.result.now _ c.loop-k.k _ refl c.loop-k-test.true c.def-item.is)) c.in_ok-manager.ensures c.in_ok-put.ensures
+
+pub returns : goal.returns
+returns c =
+    let past = c.loop-k-test.false in
+    let end = c.loop-k.auto.k-end in
+    let size = ap length c.as_slice-def-items.ensures in
+    all_made (IsNewManager c.args.scenario.now) c.args.scenario.now.managers c.loop-k.made.items c.loop-k.k c.loop-k.invariant (omega (arith, past, end, size))

@@ -1,0 +1,5 @@
+pub mod Running
+pub mod Seats
+pub mod Ready
+pub mod Ending
+pub mod Shown
