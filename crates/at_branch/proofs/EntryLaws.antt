@@ -1,11 +1,10 @@
 -- What stands in the undo log at a branch against what the records say of it, and so each answer.
-use Rattle.std.proofs.Common.{◌≡◌, ◌∙◌, ℕ, zero, suc, Bool, true, false, List, Option, Some, None, is_some, Result, refl, sym, ap, subst, true≢false}
+use Rattle.std.proofs.Common.{◌≡◌, ◌∙◌, ℕ, zero, suc, Bool, true, false, List, Option, Some, None, Result, refl, sym, ap, subst, true≢false}
 use Rattle.std.specs.Prelude.{IfOk, IfSome}
 use Rattle.disk_model.specs.Disk.{DiskState}
 use Rattle.seata_types.specs.declared.errors.StoreError.{StoreError}
 use Rattle.seata_types.specs.declared.ids.Leg.{Leg}
 use Rattle.seata_types.specs.declared.statements.Work.{Work}
-use Rattle.local_tables.specs.Rows.{Database}
 use Rattle.durable_records.specs.declared.resources.ResourceRecord.{ResourceRecord}
 use Rattle.durable_records.specs.declared.resources.ResourceRecord.TheVariants as log
 use Rattle.durable_records.specs.UndoRecords.{Undo, undo_of, is_marked}
@@ -18,20 +17,15 @@ use Rattle.local_txn.specs.declared.transactions.OpenTxn.{OpenTxn}
 use Rattle.history_rules.specs.ResourceMemory.{call_of, committed_of}
 use Rattle.resource_memory.specs.Known.{Known}
 use Rattle.resource_memory.specs.Lookups.{entry_by}
-use Rattle.resource_memory.specs.Changes.{has_no_entry, has_undo_record}
-use Rattle.resource_memory.proofs.RecordLaws.{unmarked}
+use Rattle.resource_memory.specs.Changes.{has_no_entry}
 use Rattle.resource_store.specs.declared.store.Store.{Store}
-use Rattle.resource_store.specs.Meaning.{opening_of}
 use Rattle.resource_store.specs.Keeping.{setting_of, known, KeepsRecords, Changes, IsTaken}
 use Rattle.resource_store.specs.Answers.{Answer, outcome, Gives, GivesBy, tables_now}
-use Rattle.resource_store.proofs.AnswerLaws.{entry_of, tables_of, committed_taken}
+use Rattle.resource_store.proofs.AnswerLaws.{entry_of, committed_taken}
 use Rattle.at_branch.specs.Grants.{at_granted, granted, is_at_call, MayCommit}
-use Rattle.at_branch.specs.SecondPhase.{at_commit, committed, at_rollback, rolling, rolled_back}
-use Rattle.at_branch.specs.UndoEntries.{standing, standing_of, grant_at, commit_at, rolled_with}
-use Rattle.at_branch.specs.declared.answers.Committed.{Committed}
+use Rattle.at_branch.specs.UndoEntries.{standing, standing_of, grant_at}
 use Rattle.at_branch.specs.declared.answers.Granted.{Granted}
 use Rattle.at_branch.specs.declared.answers.Granted.TheVariants as grant
-use Rattle.at_branch.specs.declared.answers.Rolled.{Rolled}
 use Rattle.at_branch.specs.declared.standing.Standing.{Standing}
 use Rattle.at_branch.specs.declared.standing.Standing.TheVariants as stands
 
@@ -42,27 +36,7 @@ grant_is leg o (Some u) m = refl
 grant_is leg o None true = refl
 grant_is leg o None false = refl
 
-commit_is : (leg : Leg) (u : Option Undo) (m : Bool) → at_commit leg u ≡ commit_at leg (standing (entry_by u m))
-commit_is leg (Some u) m = refl
-commit_is leg None true = refl
-commit_is leg None false = refl
-
--- a branch with an undo record isn't marked
-rollback_is : (db : Database) (opens : List Open) (u : Option Undo) (m : Bool) → (is_some u ≡ true → m ≡ false) → at_rollback db opens m u ≡ rolled_with db opens (entry_by u m)
-rollback_is db opens (Some u) true un = absurd (true≢false (un refl))
-rollback_is db opens (Some u) false un = refl
-rollback_is db opens None true un = refl
-rollback_is db opens None false un = refl
-
--- ---- a marker or an undo record, by its test
-
-pub record_stands : (k : Known) (leg : Leg) → standing (entry_at k.undo_log leg) ≡ stands.Record → has_undo_record k leg ≡ true
-record_stands k leg e = by (entry_at k.undo_log leg) refl e
-  where
-    by : (o : Option UndoEntry) → entry_at k.undo_log leg ≡ o → standing o ≡ stands.Record → has_undo_record k leg ≡ true
-    by (Some (entry.Normal r)) is s = rw is refl
-    by (Some entry.Finished) is s = absurd cc
-    by None is s = absurd cc
+-- ---- nothing stands there, by its test
 
 pub nothing_stands : (k : Known) (leg : Leg) → standing (entry_at k.undo_log leg) ≡ stands.Nothing → has_no_entry k leg ≡ true
 nothing_stands k leg e = by (entry_at k.undo_log leg) refl e
@@ -114,12 +88,6 @@ module _ {D : Type 0} (state : D → DiskState) (old new : Store D) (leg : Leg) 
     stands_as : standing (entry_at (known old).undo_log leg) ≡ standing (entry_by undo mark)
     stands_as = ap standing (entry_of state (setting_of old) rs old k leg)
 
-    rolls_as : (opens : List Open) → rolled_with (known old).tables opens (entry_at (known old).undo_log leg) ≡ at_rollback (tables_now (setting_of old) rs) opens mark undo
-    rolls_as opens =
-        ap (λ (db : Database). rolled_with db opens (entry_at (known old).undo_log leg)) (tables_of state (setting_of old) rs old k)
-        ∙ ap (rolled_with (tables_now (setting_of old) rs) opens) (entry_of state (setting_of old) rs old k leg)
-        ∙ sym (rollback_is (tables_now (setting_of old) rs) opens undo mark (unmarked (opening_of (setting_of old)) rs k.list.made.allowed leg.xid.0 leg.branch.0))
-
   -- a grant for an open ticket
   pub grants : (found : Option Open) (o : Open) (result : Result Granted StoreError) → found ≡ Some o → Gives state (grant_at leg o (standing_of (known old) leg)) result old new →
       GivesBy state (granted leg found) result old new
@@ -135,16 +103,3 @@ module _ {D : Type 0} (state : D → DiskState) (old new : Store D) (leg : Leg) 
   commit_gives txn result kind at told changes =
       subst (λ (s : Standing). Gives state (grant_at leg (open_of txn) s) result old new) at
       (record { told = told; does = subst (λ (r : ResourceRecord). Changes state r (outcome result) old new) (commits_as leg txn kind) changes })
-
-  -- a commit
-  pub commits_branch : (s : Standing) (result : Result Committed StoreError) → s ≡ standing_of (known old) leg →
-      Gives state (commit_at leg s) result old new → GivesBy state (committed leg) result old new
-  commits_branch s result at gives = λ rs k.
-      let path : commit_at leg s ≡ at_commit leg (undo rs k) = ap (commit_at leg) (at ∙ stands_as rs k) ∙ sym (commit_is leg (undo rs k) (mark rs k)) in
-      subst (λ (a : Answer Committed). Gives state a result old new) path gives
-
-  -- a rollback
-  pub rolls : (opens : List Open) (answer : Rolled) (result : Result Rolled StoreError) → answer ≡ rolled_with (known old).tables opens (entry_at (known old).undo_log leg) →
-      Gives state (rolling leg answer) result old new → GivesBy state (rolled_back leg opens) result old new
-  rolls opens answer result is gives = λ rs k.
-      subst (λ (a : Answer Rolled). Gives state a result old new) (ap (rolling leg) (is ∙ rolls_as rs k opens)) gives

@@ -1,5 +1,3 @@
-pub mod RowTests
 pub mod EntryLaws
 pub mod ConflictLaws
-pub mod BusyLaws
 pub mod StepLaws

@@ -1,4 +1,4 @@
--- The act and the message that each answer stands for, and that they are those of a resource's rules.
+-- The act and the message that each answer of the first phase stands for, and that they are those of a resource's rules.
 use Rattle.std.specs.Prelude.{◌≡◌, ℕ, Bool, List, Option}
 use Rattle.seata_types.specs.declared.acts.Act.TheVariants as act
 use Rattle.seata_types.specs.declared.acts.Durable.TheVariants as durable
@@ -9,25 +9,18 @@ use Rattle.seata_types.specs.declared.ids.Xid.{Xid}
 use Rattle.seata_types.specs.declared.messages.CallAnswer.TheVariants as called
 use Rattle.seata_types.specs.declared.messages.Message.TheVariants as message
 use Rattle.seata_types.specs.declared.messages.Step.{Step}
-use Rattle.seata_types.specs.declared.statuses.BranchStatus.TheVariants as status
 use Rattle.durable_records.specs.declared.resources.ResourceRecord.{ResourceRecord}
-use Rattle.durable_records.specs.RowsKept.{tables}
 use Rattle.durable_records.specs.UndoRecords.{Undo}
 use Rattle.undo_log.specs.Entries.{leg_at}
 use Rattle.local_txn.specs.OpenTickets.{Open}
 use Rattle.history_rules.specs.Own.{still, sends}
 use Rattle.history_rules.specs.CoordinatorRules.{xid_of, branch_of}
-use Rattle.history_rules.specs.ResourceMemory.{Setup, opening_tables}
+use Rattle.history_rules.specs.ResourceMemory.{Setup}
 use Rattle.history_rules.specs.ResourceRules as rules
 use Rattle.at_branch.specs.Grants.{at_granted}
 use Rattle.at_branch.specs.Conflicts.{Conflict, Ignores, Counts, GivesUp, met}
-use Rattle.at_branch.specs.SecondPhase.{at_commit, at_rollback}
-use Rattle.at_branch.specs.declared.answers.Committed.{Committed}
-use Rattle.at_branch.specs.declared.answers.Committed.TheVariants as commits
 use Rattle.at_branch.specs.declared.answers.Granted.{Granted}
 use Rattle.at_branch.specs.declared.answers.Granted.TheVariants as grant
-use Rattle.at_branch.specs.declared.answers.Rolled.{Rolled}
-use Rattle.at_branch.specs.declared.answers.Rolled.TheVariants as rolled
 
 -- of a grant to a ticket of call c of x, told to its manager m
 abbrev pub granted_step : (m x c b : ℕ) → Ticket → Granted → Step
@@ -43,27 +36,9 @@ conflict_step m x c t Ignores = still act.Ignored
 conflict_step m x c t (Counts n) = still (act.Conflicted t n)
 conflict_step m x c t (GivesUp o cause) = sends (act.Dropped (xid_of x) c t cause) (place.Man m) (message.Answer (xid_of x) c (called.Failed cause))
 
--- of a commit, told to the coordinator
-abbrev pub commit_step : (x b : ℕ) → Committed → Step
-commit_step x b commits.Cleared =
-    sends (act.Durable (durable.Cleared (xid_of x) (branch_of b))) place.Tc (message.BranchCommitted (xid_of x) (branch_of b) status.PhaseTwoCommitted 0)
-commit_step x b commits.Empty = sends (act.Empty (xid_of x) (branch_of b)) place.Tc (message.BranchCommitted (xid_of x) (branch_of b) status.PhaseTwoCommitted 0)
-
--- of a rollback, told to the coordinator
-abbrev pub rollback_step : (x b : ℕ) → Rolled → Step
-rollback_step x b rolled.Undone =
-    sends (act.Durable (durable.Undone (xid_of x) (branch_of b))) place.Tc (message.BranchRollbacked (xid_of x) (branch_of b) status.PhaseTwoRollbacked 0)
-rollback_step x b rolled.Marked =
-    sends (act.Durable (durable.Marked (xid_of x) (branch_of b))) place.Tc (message.BranchRollbacked (xid_of x) (branch_of b) status.PhaseTwoRollbacked 0)
-rollback_step x b rolled.Again = sends (act.Remarked (xid_of x) (branch_of b)) place.Tc (message.BranchRollbacked (xid_of x) (branch_of b) status.PhaseTwoRollbacked 0)
-rollback_step x b (rolled.Busy key by) =
-    sends (act.Blocked (xid_of x) (branch_of b) key by) place.Tc (message.BranchRollbacked (xid_of x) (branch_of b) status.PhaseTwoRollbackFailedRetryable 0)
-rollback_step x b (rolled.Dirty key after present) =
-    sends (act.Dirty (xid_of x) (branch_of b) key after present) place.Tc (message.BranchRollbacked (xid_of x) (branch_of b) status.PhaseTwoRollbackFailedUnretryable 0)
-
 -- ---- by the rules
 
--- a grant, a conflict, a commit and a rollback of any branch of any resource
+-- a grant and a conflict of any branch of any resource
 abbrev pub GrantsByRules : Type 0
 GrantsByRules = (s : Setup) (rs : List ResourceRecord) (opens : List Open) (next : Ticket) (o : Open) (m x c b : ℕ) (u : Option Undo) (marked : Bool) →
     rules.at_granted s rs opens next o m x c b u marked ≡ granted_step m x c b o.ticket (at_granted (leg_at x b) o u marked).told
@@ -71,11 +46,3 @@ GrantsByRules = (s : Setup) (rs : List ResourceRecord) (opens : List Open) (next
 abbrev pub MeetsByRules : Type 0
 MeetsByRules = (s : Setup) (rs : List ResourceRecord) (opens : List Open) (next : Ticket) (o : Open) (m x c : ℕ) (holder : Xid) (rolling : Bool) →
     rules.conflict_answer s rs opens next o m x c holder rolling ≡ conflict_step m x c o.ticket (met s.tries holder rolling o)
-
-abbrev pub CommitsByRules : Type 0
-CommitsByRules = (s : Setup) (rs : List ResourceRecord) (opens : List Open) (next : Ticket) (x b : ℕ) (u : Option Undo) →
-    rules.at_commit s rs opens next x b u ≡ commit_step x b (at_commit (leg_at x b) u).told
-
-abbrev pub RollsByRules : Type 0
-RollsByRules = (s : Setup) (rs : List ResourceRecord) (opens : List Open) (next : Ticket) (x b : ℕ) (marked : Bool) (u : Option Undo) →
-    rules.at_rollback s rs opens next x b marked u ≡ rollback_step x b (at_rollback (tables (opening_tables s) rs) opens marked u)

@@ -6,7 +6,6 @@
 pub mod answers;
 mod first_phase;
 pub mod laws;
-mod rows;
 mod second_phase;
 mod standing;
 mod undo_entries;

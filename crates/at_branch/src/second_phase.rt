@@ -1,28 +1,18 @@
 //! The second phase of AT branches.
-ghost use Rattle.std.specs.Prelude.{◌≡◌, true, false, IfOk};
-ghost use Rattle.undo_log.specs.Entries.{entry_at};
-ghost use Rattle.local_tables.specs.Rows.{row_at};
-ghost use Rattle.local_txn.specs.OpenTickets.{busy_in};
-ghost use Rattle.durable_records.specs.ResourceOrder.{image_keys};
-ghost use Rattle.resource_memory.specs.Changes.{has_no_entry, has_undo_record};
-ghost use Rattle.resource_store.specs.Keeping.{known, is_down};
-ghost use Rattle.resource_store.specs.Answers.{Gives, GivesBy, Leaves};
-ghost use Rattle.at_branch.specs.SecondPhase.{committed, at_record, rolling, rolled_back};
-ghost use Rattle.at_branch.specs.UndoEntries.{commit_at, rolled_with, MayFollow};
-ghost use Rattle.at_branch.specs.declared.answers.Rolled.TheVariants as rolled;
-ghost use Rattle.at_branch.specs.declared.standing.Standing.TheVariants as stands;
+ghost use Rattle.std.specs.Prelude.{◌≡◌, false, []};
+ghost use Rattle.resource_store.specs.Answers.{Leaves};
+ghost use Rattle.resource_store.specs.Keeping.{is_down};
+ghost use Rattle.rule_calls.specs.Calls.{GivesAs, bare};
+ghost use Rattle.at_branch.specs.SecondPhase.{committed_by, committing, rolled_by, rolling};
 
 use crate::answers::{Committed, Rolled};
-use crate::rows;
-use crate::standing::Standing;
-use crate::undo_entries::{in_range, standing};
 use disk_model::Disk;
-use local_tables::Tables;
 use local_txn::LocalTxns;
+use resource_rules::{at_commit, at_rollback};
 use resource_store::Store;
-use seata_types::{Duplicate, Image, Leg, NoMemory, StoreError};
+use rule_calls::carry_out;
+use seata_types::{Act, Durable, Leg, NoMemory, StoreError};
 use std::alloc::Global;
-use undo_log::UndoEntry;
 
 /// Commits a branch: its undo record is taken out, if it has one.
 pub fn commit<D: Disk>(
@@ -31,26 +21,12 @@ pub fn commit<D: Disk>(
     leg: Leg,
 ) -> Result<Committed, StoreError>
     requires { is_down store.old ≡ false }
-    ensures answer { GivesBy D.state (committed leg) result store.old store.new }
+    ensures answer { GivesAs D.state committed_by bare (committing leg) [] result store.old store.new }
     ensures leaves { Leaves D.state result store.old store.new }
 {
-    match standing(store, leg) {
-        Standing::Record => clear(alloc, store, leg),
-        Standing::Marker => Ok(Committed::Empty),
-        Standing::Nothing => Ok(Committed::Empty),
-    }
-}
-
-// Takes the undo record of a branch out.
-fn clear<D: Disk>(alloc: Global, store: &mut Store<D>, leg: Leg) -> Result<Committed, StoreError>
-    requires up { is_down store.old ≡ false }
-    requires has { has_undo_record (known store.old) leg ≡ true }
-    ensures gives { Gives D.state (commit_at leg stands.Record) result store.old store.new }
-    ensures leaves { Leaves D.state result store.old store.new }
-{
-    in_range(leg.xid.0, leg.branch.0);
-    match store.clear(alloc, leg) {
-        Ok(()) => Ok(Committed::Cleared),
+    let answer = at_commit(store.memory(), leg);
+    match carry_out(alloc, store, answer) {
+        Ok(act) => Ok(committed_by(&act)),
         Err(error) => Err(error),
     }
 }
@@ -65,112 +41,42 @@ pub fn rollback<D: Disk>(
     leg: Leg,
 ) -> Result<Rolled, StoreError>
     requires { is_down store.old ≡ false }
-    ensures answer { GivesBy D.state (rolled_back leg txns.now.opens) result store.old store.new }
+    ensures answer { GivesAs D.state rolled_by bare (rolling leg) txns.now.opens result store.old store.new }
     ensures leaves { Leaves D.state result store.old store.new }
 {
-    match judge(alloc, store, txns, leg) {
-        Ok(answer) => settle(alloc, store, leg, answer),
+    match at_rollback(alloc, store.memory(), txns, leg) {
+        Ok(answer) => match carry_out(alloc, store, answer) {
+            Ok(act) => Ok(rolled_by(act)),
+            Err(error) => Err(error),
+        },
         Err(NoMemory) => Err(StoreError::NoMemory),
     }
 }
 
-// What a rollback is to answer.
-fn judge<D: Disk>(
-    alloc: Global,
-    store: &Store<D>,
-    txns: &LocalTxns,
-    leg: Leg,
-) -> Result<Rolled, NoMemory>
-    ensures answer { IfOk result (λ answer. answer ≡ rolled_with (known store.now).tables txns.now.opens (entry_at (known store.now).undo_log leg)) }
-    ensures may { IfOk result (MayFollow (known store.now) leg) }
+// What the act of a commit tells.
+fn committed_by(act: &Act) -> Committed
+    ensures { result ≡ committed_by act.now }
 {
-    match store.undo_log().find(leg) {
-        Some(UndoEntry::Normal(record)) => judge_rows(
-            alloc,
-            store.tables(),
-            txns,
-            record.images.as_slice(),
-        ),
-        Some(UndoEntry::Finished) => Ok(Rolled::Again),
-        None => Ok(Rolled::Marked),
+    match act {
+        Act::Durable(_) => Committed::Cleared,
+        _ => Committed::Empty,
     }
 }
 
-// What the rollback of these rows is to answer.
-fn judge_rows(
-    alloc: Global,
-    tables: &Tables,
-    txns: &LocalTxns,
-    images: &[Image],
-) -> Result<Rolled, NoMemory>
-    ensures { IfOk result (λ answer. answer ≡ at_record tables.now images.now (busy_in txns.now.opens (image_keys images.now))) }
+// What the act of a rollback tells.
+fn rolled_by(act: Act) -> Rolled
+    ensures { result ≡ rolled_by act }
 {
-    if let Some((key, by)) = rows::first_open(txns, images) {
-        let key = key.copy(alloc)?;
-        return Ok(Rolled::Busy { key, by });
-    }
-    match rows::first_dirty(tables, images) {
-        Some(image) => dirty(alloc, tables, image),
-        None => Ok(Rolled::Undone),
-    }
-}
-
-// The row of this image isn't its after.
-fn dirty(alloc: Global, tables: &Tables, image: &Image) -> Result<Rolled, NoMemory>
-    ensures { IfOk result (λ answer. answer ≡ rolled.Dirty image.now.key image.now.after (row_at tables.now.rows image.now.key)) }
-{
-    Ok(Rolled::Dirty {
-        key: image.key.copy(alloc)?,
-        after: image.after.copy(alloc)?,
-        now: rows::present(alloc, tables, &image.key)?,
-    })
-}
-
-// Makes the record of an answer.
-fn settle<D: Disk>(
-    alloc: Global,
-    store: &mut Store<D>,
-    leg: Leg,
-    answer: Rolled,
-) -> Result<Rolled, StoreError>
-    requires up { is_down store.old ≡ false }
-    requires may { MayFollow (known store.old) leg answer }
-    ensures gives { Gives D.state (rolling leg answer) result store.old store.new }
-    ensures leaves { Leaves D.state result store.old store.new }
-{
-    match answer {
-        Rolled::Undone => undo(alloc, store, leg),
-        Rolled::Marked => mark(alloc, store, leg),
-        Rolled::Again => Ok(Rolled::Again),
-        Rolled::Busy { key, by } => Ok(Rolled::Busy { key, by }),
-        Rolled::Dirty { key, after, now } => Ok(Rolled::Dirty { key, after, now }),
-    }
-}
-
-// Puts the rows of a branch's undo record back.
-fn undo<D: Disk>(alloc: Global, store: &mut Store<D>, leg: Leg) -> Result<Rolled, StoreError>
-    requires up { is_down store.old ≡ false }
-    requires has { has_undo_record (known store.old) leg ≡ true }
-    ensures gives { Gives D.state (rolling leg rolled.Undone) result store.old store.new }
-    ensures leaves { Leaves D.state result store.old store.new }
-{
-    in_range(leg.xid.0, leg.branch.0);
-    match store.undo(alloc, leg) {
-        Ok(()) => Ok(Rolled::Undone),
-        Err(error) => Err(error),
-    }
-}
-
-// Marks a branch without an undo record.
-fn mark<D: Disk>(alloc: Global, store: &mut Store<D>, leg: Leg) -> Result<Rolled, StoreError>
-    requires up { is_down store.old ≡ false }
-    requires none { has_no_entry (known store.old) leg ≡ true }
-    ensures gives { Gives D.state (rolling leg rolled.Marked) result store.old store.new }
-    ensures leaves { Leaves D.state result store.old store.new }
-{
-    in_range(leg.xid.0, leg.branch.0);
-    match store.mark(alloc, leg) {
-        Ok(()) => Ok(Rolled::Marked),
-        Err(error) => Err(error),
+    match act {
+        Act::Durable(Durable::Undone { .. }) => Rolled::Undone,
+        Act::Durable(_) => Rolled::Marked,
+        Act::Blocked { key, by, .. } => Rolled::Busy { key, by },
+        Act::Dirty {
+            key,
+            after,
+            now,
+            ..
+        } => Rolled::Dirty { key, after, now },
+        _ => Rolled::Again,
     }
 }

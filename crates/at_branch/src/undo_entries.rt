@@ -1,5 +1,5 @@
 //! Branches in the undo log of a store.
-ghost use Rattle.std.specs.Prelude.{◌≡◌, ◌<◌, ◌^◌};
+ghost use Rattle.std.specs.Prelude.{◌≡◌};
 ghost use Rattle.resource_store.specs.Keeping.{known};
 ghost use Rattle.at_branch.specs.UndoEntries.{standing_of};
 
@@ -19,9 +19,3 @@ pub(crate) fn standing<D: Disk>(store: &Store<D>, leg: Leg) -> Standing
         None => Standing::Nothing,
     }
 }
-
-// The numbers of a branch have 64 bits.
-pub(crate) fn in_range(xid: u64, branch: u64)
-    ensures xid { xid < 2 ^ 64 }
-    ensures branch { branch < 2 ^ 64 }
-{}

@@ -1,2 +1,4 @@
 pub mod Saving
 pub mod Accounts
+pub mod Deletions
+pub mod Taking

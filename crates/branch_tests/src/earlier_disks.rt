@@ -1,128 +1,13 @@
 //! A resource with the table acc and the row (1, 1000) at its opening, on disks that earlier programs left with a branch, and on
 //! disks with a record that may not come.
-ghost use Rattle.std.specs.Prelude.{◌≡◌, false, IfOk};
-ghost use Rattle.durable_records.specs.declared.resources.ResourceRecord.TheVariants as log;
-ghost use Rattle.resource_log.specs.Records.{FitsRecord};
-ghost use Rattle.resource_store.specs.Keeping.{is_down, IsTaken};
-ghost use Rattle.branch_tests.specs.Accounts.{accounts, account_rows};
-
-use crate::samples::{Fail, IMAGES, LEG, OLD_IMAGES, accounts, joined, key, leg, so, text};
+use crate::changes::takes;
+use crate::samples::{Fail, IMAGES, IMAGES_BACK, LEG, OLD_IMAGES, accounts, leg, so};
+use crate::stores::{FIRST_BOOT, Resource, amount, disks, opened, opening, read};
 use at_branch::Rolled;
-use disk_model::{Disk, MemDisk};
-use durable_records::ResourceRecord;
-use local_tables::Schema;
 use local_txn::LocalTxns;
-use resource_log::{read_record, write_record};
-use resource_store::Store;
-use seata_types::limits::BODY_BYTES;
-use seata_types::{Duplicate, Leg, List, OpenError, Row, StoreError, Text, Value, Xid};
+use seata_types::Xid;
 use std::alloc::Global;
 use tcc_fence::FenceStatus;
-
-type Resource = Store<MemDisk>;
-
-/// The row of the opening.
-fn opening(alloc: Global) -> Result<List<(Text, Row)>, Fail>
-    ensures { IfOk result (λ rows. rows ≡ account_rows) }
-{
-    let cells = Vec::from_array(alloc, [Value::Int(1), Value::Int(1000)])?;
-    let named = (text(alloc, "acc")?, Row(List::of(cells)));
-    Ok(List::of(Vec::from_array(alloc, [named])?))
-}
-
-/// Writes bytes to the front of a disk, where they fit.
-fn begin_with(disk: &mut MemDisk, bytes: &[u8]) -> bool {
-    bytes.len() as u64 <= disk.size() && disk.write_at(0, bytes).is_ok() && disk.sync().is_ok()
-}
-
-/// A disk of 4,096 bytes that begins with these.
-fn disk(alloc: Global, bytes: &[u8]) -> Result<MemDisk, Fail> {
-    let Ok(mut disk) = MemDisk::new(alloc, 4_096) else {
-        return Err(Fail::NoMemory);
-    };
-    if !begin_with(&mut disk, bytes) {
-        return Err(Fail::Failed);
-    }
-    Ok(disk)
-}
-
-fn fail_of(error: OpenError) -> Fail {
-    match error {
-        OpenError::Damaged { .. } => Fail::Damaged,
-        OpenError::NoMemory => Fail::NoMemory,
-        OpenError::Failed | OpenError::Full(_) => Fail::Failed,
-    }
-}
-
-/// The resource's store on two disks, which come back after a crash.
-fn open(
-    alloc: Global,
-    disks: (MemDisk, MemDisk),
-    schema: Schema,
-    opening: List<(Text, Row)>,
-) -> Result<Resource, Fail>
-    requires schema { schema ≡ accounts }
-    requires opening { opening ≡ account_rows }
-{
-    let (mut first, mut second) = disks;
-    if first.restart(0).is_err() || second.restart(0).is_err() {
-        return Err(Fail::Failed);
-    }
-    match Store::open(alloc, first, second, 1, schema, opening) {
-        Ok(store) => Ok(store),
-        Err((error, _, _)) => Err(fail_of(error)),
-    }
-}
-
-/// The same, of disks that are read and not changed.
-fn read(
-    alloc: Global,
-    disks: (MemDisk, MemDisk),
-    schema: Schema,
-    opening: List<(Text, Row)>,
-) -> Result<Resource, Fail>
-    requires schema { schema ≡ accounts }
-    requires opening { opening ≡ account_rows }
-{
-    let (mut first, mut second) = disks;
-    if first.restart(0).is_err() || second.restart(0).is_err() {
-        return Err(Fail::Failed);
-    }
-    match Store::read(alloc, first, second, 1, schema, opening) {
-        Ok(store) => Ok(store),
-        Err((error, _, _)) => Err(fail_of(error)),
-    }
-}
-
-/// Two disks of which the first begins with these parts, and the second is blank.
-fn disks(alloc: Global, parts: &[&[u8]]) -> Result<(MemDisk, MemDisk), Fail> {
-    let bytes = joined(alloc, parts)?;
-    let first = disk(alloc, &bytes)?;
-    let second = disk(alloc, &[])?;
-    Ok((first, second))
-}
-
-fn opened(alloc: Global, parts: &[&[u8]]) -> Result<Resource, Fail> {
-    let schema = accounts(alloc)?;
-    let opening = opening(alloc)?;
-    let disks = disks(alloc, parts)?;
-    open(alloc, disks, schema, opening)
-}
-
-/// What row 1 has beside its key.
-fn amount(alloc: Global, store: &Resource) -> Result<Option<i64>, Fail> {
-    let key = key(alloc, 1)?;
-    match store.tables().get(&key) {
-        Some(row) => match row.0.as_slice() {
-            [_, Value::Int(amount)] => Ok(Some(*amount)),
-            _ => Ok(None),
-        },
-        None => Ok(None),
-    }
-}
-
-/// No snapshot, and the record of the first opening.
-const FIRST_BOOT: [u8; 19] = [0, 0, 0, 0, 0, 0, 0, 0, 0, 1, 0, 0, 0, 5, 1, 0, 0, 0, 1];
 
 /// The gate and the length of the record of a local commit, and its tag.
 const COMMITTED: [u8; 6] = [1, 0, 0, 0, 82, 18];
@@ -206,60 +91,9 @@ fn a_local_commit_of_earlier_programs(rt: HostRuntime) -> Result<(), Fail> {
     is_undone(rt.alloc())
 }
 
-/// The row with key 1 was (1, 900) and is (1, 1000).
-const CANCELLED: [u8; 61] = [
-    0, 1, 0, 1, 0, 3, 97, 99, 99, 1, 0, 0, 0, 0, 0, 0, 0, 0, 1, 1, 0, 2, 0, 0, 0, 0, 0, 0, 0, 0, 1,
-    0, 0, 0, 0, 0, 0, 0, 3, 132, 1, 0, 2, 0, 0, 0, 0, 0, 0, 0, 0, 1, 0, 0, 0, 0, 0, 0, 0, 3, 232,
-];
-
-/// Makes the change that the record of a Cancel is.
-fn cancel(alloc: Global, store: &mut Resource, item: &ResourceRecord) -> Result<(), StoreError>
-    requires up { is_down store.old ≡ false }
-    requires taken { IsTaken item.now store.old }
-{
-    match *item {
-        ResourceRecord::Cancelled {
-            xid,
-            branch,
-            ref images,
-        } => {
-            let Ok(images) = images.copy(alloc) else {
-                return Err(StoreError::NoMemory);
-            };
-            store.cancelled(alloc, Leg { xid, branch }, images)
-        }
-        _ => Err(StoreError::Failed),
-    }
-}
-
-/// Whether the record of a Cancel may come, whose change is then made.
-fn is_cancelled(alloc: Global, store: &mut Resource, item: &ResourceRecord) -> Result<bool, Fail>
-    requires { FitsRecord item.now }
-{
-    match write_record(alloc, item) {
-        Ok(body) => {
-            if body.len() > BODY_BYTES || store.is_down() || !store.allows(item) {
-                return Ok(false);
-            }
-            Ok(cancel(alloc, store, item) == Ok(()))
-        }
-        Err(_) => Err(Fail::NoMemory),
-    }
-}
-
-fn is_cancelled_own(alloc: Global, store: &mut Resource, item: ResourceRecord) -> Result<bool, Fail>
-    requires { FitsRecord item }
-{
-    is_cancelled(alloc, store, &item)
-}
-
 /// Whether a Cancel of branch 1 may come, which is then kept.
 fn takes_cancel(alloc: Global, store: &mut Resource) -> Result<bool, Fail> {
-    let bytes = joined(alloc, &[&[24], &LEG, &CANCELLED])?;
-    match read_record(alloc, &bytes) {
-        Ok(item) => is_cancelled_own(alloc, store, item),
-        Err(_) => Err(Fail::Failed),
-    }
+    takes(alloc, store, &[&[24], &LEG, &IMAGES_BACK])
 }
 
 /// Whether row 1 has this beside its key, and branch 1 has this fence.

@@ -3,6 +3,10 @@
 #![tactic(auto)]
 
 #[cfg(test)]
+mod called;
+#[cfg(test)]
+mod changes;
+#[cfg(test)]
 mod earlier_disks;
 #[cfg(test)]
 mod kept_records;
@@ -12,5 +16,7 @@ mod kept_snapshots;
 mod local_txns;
 #[cfg(test)]
 mod samples;
+#[cfg(test)]
+mod stores;
 #[cfg(test)]
 mod undo_logs;

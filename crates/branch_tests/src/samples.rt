@@ -58,7 +58,13 @@ pub const IMAGES: [u8; 61] = [
     0, 0, 0, 0, 0, 0, 0, 3, 232, 1, 0, 2, 0, 0, 0, 0, 0, 0, 0, 0, 1, 0, 0, 0, 0, 0, 0, 0, 3, 132,
 ];
 
-/// The same as earlier programs wrote it, whose keys have no count of their values.
+/// The row with key 1 was (1, 900) and is (1, 1000).
+pub const IMAGES_BACK: [u8; 61] = [
+    0, 1, 0, 1, 0, 3, 97, 99, 99, 1, 0, 0, 0, 0, 0, 0, 0, 0, 1, 1, 0, 2, 0, 0, 0, 0, 0, 0, 0, 0, 1,
+    0, 0, 0, 0, 0, 0, 0, 3, 132, 1, 0, 2, 0, 0, 0, 0, 0, 0, 0, 0, 1, 0, 0, 0, 0, 0, 0, 0, 3, 232,
+];
+
+/// The first as earlier programs wrote it, whose keys have no count of their values.
 pub const OLD_IMAGES: [u8; 60] = [
     0, 1, 0, 1, 0, 3, 97, 99, 99, 0, 0, 0, 0, 0, 0, 0, 0, 1, 1, 0, 2, 0, 0, 0, 0, 0, 0, 0, 0, 1, 0,
     0, 0, 0, 0, 0, 0, 3, 232, 1, 0, 2, 0, 0, 0, 0, 0, 0, 0, 0, 1, 0, 0, 0, 0, 0, 0, 0, 3, 132,

@@ -11,4 +11,5 @@ few_state shelf = record {
   tells = false;
   has_place = λ name. Unit {0};
   given_back = λ name disk. ⊥;
+  gives = λ name. 0;
 }

@@ -2,7 +2,7 @@
 ghost use Rattle.std.specs.Prelude.{◌≡◌, ◌≤◌};
 ghost use Rattle.disk_model.specs.Disk.{Rose};
 
-use disk_model::{MemDisk, MemShelf, Shelf, ShelfError};
+use disk_model::{MemDisk, Shelf, ShelfError};
 use lab_calls::{Failed, MemSink, MemSource, Sink, Source};
 use std::alloc::Global;
 use std::io;
@@ -42,11 +42,10 @@ impl Write for Writer {
     }
 }
 
-/// A shelf that gives so many disks, and at each later call fails, or refuses memory. It counts those that are given back, and
+/// A shelf that gives so many new disks, and at each later call fails, or refuses memory. It counts those that are given back, and
 /// keeps none.
 #[derive(Drop)]
 pub struct FewDisks {
-    shelf: MemShelf,
     disks: u32,
     refuses: bool,
     pub back: u32,
@@ -55,9 +54,8 @@ pub struct FewDisks {
 
 impl FewDisks {
     /// A shelf that gave no disk yet.
-    pub fn new(alloc: Global, disks: u32, refuses: bool) -> FewDisks {
+    pub fn new(disks: u32, refuses: bool) -> FewDisks {
         FewDisks {
-            shelf: MemShelf::new(alloc),
             disks,
             refuses,
             back: 0,
@@ -85,15 +83,13 @@ impl Shelf for FewDisks {
 
     ghost state = { few_state };
 
-    fn take(&mut self, alloc: Global, name: &str, size: u64) -> Result<MemDisk, ShelfError> {
+    fn take(&mut self, alloc: Global, _name: &str, size: u64) -> Result<MemDisk, ShelfError> {
         if self.disks == 0 {
             return Err(self.refusal());
         }
         self.disks -= 1;
-        match self.shelf.take(alloc, name, size) {
-            Ok(disk) => Ok(disk),
-            Err(_) => Err(ShelfError::NoMemory),
-        }
+        let disk = MemDisk::new(alloc, size)?;
+        Ok(disk)
     }
 
     fn give(&mut self, _name: &str, _disk: MemDisk) {

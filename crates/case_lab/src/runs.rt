@@ -25,7 +25,7 @@ pub fn run<R: Threads + Wait + Sync>(
     }
     let disks = case.number("disks", u32::MAX);
     if disks < u32::MAX {
-        let mut shelf = FewDisks::new(alloc, disks, case.number("refuses", 0) > 0);
+        let mut shelf = FewDisks::new(disks, case.number("refuses", 0) > 0);
         return over_disks(rt, alloc, case, &mut source, &mut sink, &mut shelf);
     }
     if case.number("meet", 0) > 0 {

@@ -161,6 +161,7 @@ module _ {D : Type 0} (state : D → DiskState) (law : (d : Stoppable D) → IsL
       managers_are = managers_are;
       resources_are = resources_are;
       steps = steps;
+      early = let at = starts_at in omega (arith, at);
       up = up;
     }
 

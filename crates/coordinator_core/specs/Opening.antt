@@ -15,8 +15,8 @@ use Rattle.session_store.specs.Meaning.{meaning_of}
 use Rattle.session_store.specs.Standing.{StandsForSessions}
 use Rattle.session_store.specs.Keeping.{GoesOnAs, IsNoDamage, store_of, twin}
 use Rattle.coordinator_core.specs.declared.nodes.Coordinator.{Coordinator}
-use Rattle.seata_types.specs.declared.limits.TheConstants.{NODE_STEPS}
-use Rattle.coordinator_core.specs.Standing.{StandsOver, LiesOver, is_down, managers, resources, sessions_of, steps_left}
+use Rattle.seata_types.specs.declared.limits.TheConstants.{LATEST_START, NODE_STEPS}
+use Rattle.coordinator_core.specs.Standing.{StandsOver, LiesOver, is_down, managers, resources, sessions_of, start_of, steps_left}
 
 -- what an opening leaves of a disk: its size, what it tells and its last pick; its faults don't become fewer
 pub record IsOpenedDisk (old new : DiskState) : Type 0 where
@@ -58,6 +58,8 @@ pub record IsOpened {D : Type 0} (state : D → DiskState) (first second : D) (m
   pub managers_are : managers c ≡ manager_count
   pub resources_are : resources c ≡ resource_count
   pub steps : steps_left c ≡ NODE_STEPS
+  -- its clock starts early, whatever its disks tell
+  pub early : start_of c ≤ LATEST_START
   pub up : is_down c ≡ false
 
 -- an error and the two disks: bytes that stand for records are never damaged, a damage is where the bytes have it, and a

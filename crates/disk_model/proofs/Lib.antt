@@ -9,3 +9,4 @@ mod Picked
 pub mod Put
 mod Sides
 mod Stored
+pub mod Taken

@@ -4,7 +4,9 @@ ghost use Rattle.disk_model.specs.declared.disk.TheConstants.{LAST_PICK};
 
 use crate::samples::{Fail, blank, so};
 use disk_journal::write_through;
-use disk_model::{Disk, MemDisk, MemShelf, Shelf, Stoppable, TracedDisk, append, zeros};
+use disk_model::{
+    Disk, MemDisk, MemShelf, Shelf, ShelfError, Stoppable, TracedDisk, append, zeros,
+};
 use std::alloc::Global;
 
 // Whether a range is there, and is written over.
@@ -250,23 +252,41 @@ fn ranges_at_both_ends(rt: HostRuntime) -> Result<(), Fail> {
     writes_at_both_ends(rt.alloc())
 }
 
-// Whether a disk of a shelf is new, which is written and given back.
-fn is_new(alloc: Global, shelf: &mut MemShelf) -> Result<bool, Fail> {
-    let mut disk = shelf.take(alloc, "tc", 5)?;
-    let is_new = read(&mut disk) == Some([0; 5]) && write(&mut disk, 0, &[1]);
-    shelf.give("tc", disk);
-    Ok(is_new)
+// The bytes of a disk of five on a shelf. One is then written, with no sync, and the disk is given back.
+fn through(alloc: Global, shelf: &mut MemShelf, name: &str) -> Result<Option<[u8; 5]>, Fail> {
+    let mut disk = shelf.take(alloc, name, 5)?;
+    let bytes = read(&mut disk);
+    let is_written = write(&mut disk, 1, &[7]);
+    shelf.give(name, disk);
+    so(is_written, "a byte on the disk")?;
+    Ok(bytes)
 }
 
-fn are_new(alloc: Global, shelf: &mut MemShelf) -> Result<(), Fail> {
-    so(is_new(alloc, shelf)?, "the first disk")?;
-    so(is_new(alloc, shelf)?, "the second disk")
+// Whether a disk of six bytes is refused, since the one that is there has another size.
+fn is_refused(alloc: Global, shelf: &mut MemShelf, name: &str) -> bool {
+    match shelf.take(alloc, name, 6) {
+        Ok(disk) => {
+            shelf.give(name, disk);
+            false
+        }
+        Err(error) => error == ShelfError::Failed,
+    }
+}
+
+// A disk that is given back is there again under its name alone, and with its size alone.
+fn keeps_disks(alloc: Global, shelf: &mut MemShelf) -> Result<(), Fail> {
+    let new = Some([0; 5]);
+    let again = Some([0, 7, 0, 0, 0]);
+    so(through(alloc, shelf, "tc")? == new, "a new disk")?;
+    so(through(alloc, shelf, "A")? == new, "another disk")?;
+    so(is_refused(alloc, shelf, "tc"), "another size")?;
+    so(through(alloc, shelf, "tc")? == again, "a disk again")
 }
 
 #[test]
-fn a_shelf_gives_new_disks(rt: HostRuntime) -> Result<(), Fail> {
+fn a_shelf_keeps_its_disks(rt: HostRuntime) -> Result<(), Fail> {
     let mut shelf = MemShelf::new(rt.alloc());
-    are_new(rt.alloc(), &mut shelf)
+    keeps_disks(rt.alloc(), &mut shelf)
 }
 
 fn appends(alloc: Global) -> Result<(), Fail> {

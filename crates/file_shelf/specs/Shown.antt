@@ -60,4 +60,5 @@ shelf_state shelf = record {
   tells = false;
   has_place = λ name. Unit {0};
   given_back = λ name disk. ⊥;
+  gives = λ name. 0;
 }

@@ -1,7 +1,7 @@
 -- The histories of a scenario, and the entries that are printed of one.
 use Rattle.std.specs.Prelude.{List, [], ◌∷◌, ◌++◌, option_map}
 use Rattle.scenario_form.specs.declared.scenarios.Scenario.{Scenario}
-use Rattle.history_rules.specs.Nodes.{no_past}
+use Rattle.history_rules.specs.Nodes.{Past}
 use Rattle.history_rules.specs.Histories.{Moment, Turn, Deliver, Missing, Wait, Stop, Crash, Restart, Local, Outside}
 use Rattle.history_rules.specs.Histories.{Cause as Reason}
 use Rattle.history_rules.specs.Schedules.{IsRun as IsRunBy}
@@ -39,6 +39,6 @@ abbrev pub entries : List Moment → List Entry
 entries [] = []
 entries (m ∷ ms) = entries ms ++ entry_of m ∷ []
 
--- a history of the whole schedule of a scenario, legal by the rules of all its nodes, on disks without records
-abbrev pub IsRun : Scenario → List Moment → Type 0
-IsRun s ms = IsRunBy (world_of s) no_past (items_of s) ms
+-- a history of the whole schedule of a scenario, legal by the rules of all its nodes, over the records that their disks had before
+abbrev pub IsRun : Scenario → Past → List Moment → Type 0
+IsRun s past ms = IsRunBy (world_of s) past (items_of s) ms

@@ -12,7 +12,7 @@ use Rattle.scenario_form.specs.declared.scenarios.ManagerDef.{ManagerDef}
 use Rattle.scenario_form.specs.declared.scenarios.ResourceDef.{ResourceDef}
 use Rattle.scenario_form.specs.declared.scenarios.Scenario.{Scenario}
 use Rattle.history_rules.specs.CoordinatorRules.{xid_of, branch_of}
-use Rattle.history_rules.specs.Nodes.{no_past}
+use Rattle.history_rules.specs.Nodes.{Past}
 use Rattle.history_rules.specs.Histories.{Moment}
 use Rattle.history_rules.specs.Reports.{Report, SessionLine, ReadLine}
 use Rattle.history_rules.specs.Reports.{report as report_of}
@@ -112,6 +112,6 @@ sections_text names r =
 unfoldable pub report_text : Names → List Entry → Report → List ℕ
 report_text names es r = line (codes "entries") ++ (lines (entry_text names) es ++ sections_text names r)
 
--- the report of a history of a scenario
-unfoldable pub report : Scenario → List Moment → List ℕ
-report s ms = report_text (names_of s) (entries ms) (report_of (world_of s) no_past ms)
+-- the report of a history of a scenario, over the records that the disks of its nodes had before
+unfoldable pub report : Scenario → Past → List Moment → List ℕ
+report s past ms = report_text (names_of s) (entries ms) (report_of (world_of s) past ms)

@@ -1,17 +1,20 @@
 -- The status of a replay or a run where no device fails.
-use Rattle.std.proofs.Common.{◌≡◌, ◌⊎◌, inl, inr, ◌||◌, ℕ, nat_eq, Bool, true, false, List, [], Some, Result, Ok, Err, refl, ap, sym, subst, ◌∙◌, arith}
+use Rattle.std.proofs.Common.{◌≡◌, ◌⊎◌, inl, inr, ◌||◌, ℕ, nat_eq, Bool, true, false, List, [], ◌∷◌, Some, Result, Ok, Err, refl, ap, sym, subst, ◌∙◌, arith}
 use Rattle.std.proofs.lemmas.Bool.Decides.{nat_tests}
 use Rattle.std.proofs.lemmas.Option.{same_Some}
 use Rattle.disk_model.specs.Disk.{DiskState}
 use Rattle.disk_model.specs.Shelf.{ShelfState}
+use Rattle.std.specs.List.{AllByRecursion}
+use Rattle.history_rules.specs.Nodes.{Role, Coordinator, Resource, Manager}
 use Rattle.scenario_reader.specs.declared.errors.ScenarioError.{ScenarioError}
 use Rattle.scenario_form.specs.declared.scenarios.Scenario.{Scenario}
 use Rattle.scenario_reader.specs.Form.{scenario_of}
-use Rattle.scenario_reader.specs.Reading.{IsJson, IsScenario, IsScenarioOf}
+use Rattle.scenario_reader.specs.Reading.{IsJson, IsScenario, IsScenarioOf, with_base}
 use Rattle.history_text.specs.declared.entries.Entry.{Entry}
 use Rattle.node_seat.specs.declared.faults.RunFault.{RunFault}
 use Rattle.node_seat.specs.declared.faults.RunFault.TheVariants as run_fault
-use Rattle.scenario_nodes.specs.Nodes.{server_names}
+use Rattle.scenario_nodes.specs.Nodes.{Held, HoldAll, Holds, Server, StandAs, server_names, servers_of}
+use Rattle.scenario_nodes.specs.Shelves.{AreNext}
 use Rattle.scenario_nodes.specs.Together.{IsOfOne}
 use Rattle.replay_runner.specs.Leaving.{IsCalmEnd, IsCalmShelf, Showing, UsesShelf}
 use Rattle.replay_runner.proofs.Calm.{NeverDamaged, ends_calmly}
@@ -20,23 +23,55 @@ use Rattle.lab_calls.specs.Streams.{Devices, IsCalm}
 
 -- ---- an input is no other scenario, but for the text under which it is kept
 
-names_in : Result Scenario ScenarioError → List (List ℕ)
-names_in (Ok s) = server_names s
-names_in (Err e) = []
+abbrev scenario_in : (other : Scenario) → Result Scenario ScenarioError → Scenario
+scenario_in other (Ok s) = s
+scenario_in other (Err e) = other
 
-same_servers : (input : List ℕ) (r s : Scenario) → IsScenario input r → IsScenario input s → server_names r ≡ server_names s
-unfolding IsScenario IsScenarioOf IsJson names_in
-same_servers input r s a b =
+pub same_form : (input : List ℕ) (r s : Scenario) → IsScenario input r → IsScenario input s → with_base [] r ≡ with_base [] s
+unfolding IsScenario IsScenarioOf IsJson
+same_form input r s a b =
     let known : a.1 ≡ b.1 = same_Some a.1 b.1 (sym a.2.1 ∙ b.2.1) in
-    ap names_in (sym a.3.0 ∙ ap scenario_of known ∙ b.3.0)
+    ap (scenario_in r) (sym a.3.0 ∙ ap scenario_of known ∙ b.3.0)
 
-calm_of : {D : Type 0} (state : D → DiskState) (before after : ShelfState D) (r s : Scenario) → server_names r ≡ server_names s → IsCalmShelf state s before after → IsCalmShelf state r before after
+pub calm_of : {D : Type 0} (state : D → DiskState) (before after : ShelfState D) (r s : Scenario) → with_base [] r ≡ with_base [] s → IsCalmShelf state s before after → IsCalmShelf state r before after
 calm_of state before after r s same calm = record {
   tells = calm.tells;
   told = calm.told;
   shelf = calm.shelf;
-  disks = λ name disk is given. calm.disks name disk (subst (λ (names : List (List ℕ)). IsOfOne names name) same is) given;
+  disks = λ name disk is given. calm.disks name disk (subst (λ (v : Scenario). IsOfOne (server_names v) name) same is) given;
 }
+
+-- what disks hold says nothing of that text
+module _ {D : Type 0} (state : D → DiskState) (shelf : ShelfState D) where
+  stand_with : (s : Scenario) (text : List ℕ) (v : Server) (a b : List ℕ) → StandAs s v.role v.start a b → StandAs (with_base text s) v.role v.start a b
+  stand_with s text v a b = by v.role
+    where
+      by : (role : Role) → StandAs s role v.start a b → StandAs (with_base text s) role v.start a b
+      by (Coordinator times past) stand = stand
+      by (Resource setup past) stand = stand
+      by (Manager settings) stand = tt
+
+  stand_without : (s : Scenario) (text : List ℕ) (v : Server) (a b : List ℕ) → StandAs (with_base text s) v.role v.start a b → StandAs s v.role v.start a b
+  stand_without s text v a b = by v.role
+    where
+      by : (role : Role) → StandAs (with_base text s) role v.start a b → StandAs s role v.start a b
+      by (Coordinator times past) stand = stand
+      by (Resource setup past) stand = stand
+      by (Manager settings) stand = tt
+
+  holds_each : (r s : Scenario) → r.disk ≡ s.disk → ((v : Server) (a b : List ℕ) → StandAs r v.role v.start a b → StandAs s v.role v.start a b) → (servers : List Server)
+      → AllByRecursion (Holds state shelf r) servers → AllByRecursion (Holds state shelf s) servers
+  holds_each r s same to [] all = tt
+  holds_each r s same to (v ∷ servers) all = (
+    record { first = all.0.first; second = all.0.second; next = subst (λ n. AreNext state shelf n v.name all.0.first all.0.second) same all.0.next; stand = to v all.0.first all.0.second all.0.stand },
+    holds_each r s same to servers all.1,
+  )
+
+  pub holds_of : (held : Held) (r s : Scenario) → with_base [] r ≡ with_base [] s → HoldAll state shelf s held → HoldAll state shelf r held
+  holds_of held r s same holds =
+      holds_each (with_base [] r) r refl (stand_without r []) (servers_of r held)
+      (subst (λ v. HoldAll state shelf v held) (sym same)
+      (holds_each s (with_base [] s) refl (stand_with s []) (servers_of s held) holds))
 
 -- the status of such an end
 calm_text : (s : Scenario) (ended : Result (List Entry) RunFault) (text : List ℕ) (n : ℕ) → IsCalmEnd ended → IsEndText s ended text n → is_calm_end n ≡ true
@@ -47,17 +82,18 @@ calm_text s (Err (run_fault.Store at)) text n calm t = absurd calm
 calm_text s (Err (run_fault.Damaged at second offset)) text n calm t = absurd calm
 calm_text s (Err run_fault.Other) text n calm t = absurd calm
 
-module _ {D : Type 0} (Shows : Scenario → Showing) (never : (s : Scenario) → NeverDamaged (Shows s)) (state : D → DiskState) (before after : ShelfState D) (same_tells : after.tells ≡ before.tells)
+module _ {D : Type 0} (Shows : Scenario → Held → Showing) (never : (s : Scenario) (held : Held) → NeverDamaged (Shows s held)) (state : D → DiskState) (before after : ShelfState D) (same_tells : after.tells ≡ before.tells)
     (result : ℕ) (old new : Devices) (input : List ℕ) (told : old.source.left ≡ Some input) (s : Scenario) (is : IsScenario input s)
-    {IsDone : Scenario → List ℕ → Type 0} (said : TellsPlay (λ v r. UsesShelf (Shows v) state before after v r) IsDone result old new) where
+    (held : Held) (holds : HoldAll state before s held) {IsDone : Scenario → List ℕ → Type 0} (said : TellsPlay (λ v r. UsesShelf (Shows v) state before after v r) IsDone result old new) where
   abbrev Played : ℕ → Type 0
   Played n = Plays (λ v r. UsesShelf (Shows v) state before after v r) n input old new
 
   of_play : (n : ℕ) → Played n → IsCalmShelf state s before after → is_calm_end n ≡ true
   of_play n r calm =
       let v = r.scenario in
+      let same = same_form input v s r.is_scenario is in
       calm_text v r.is_play.ended r.text n
-      (ends_calmly (Shows v) (never v) state v before after r.is_play.ended same_tells r.is_play.has_ended (calm_of state before after v s (same_servers input v s r.is_scenario is) calm)) r.is_play.is_text
+      (ends_calmly (Shows v) state v before after held (never v held) (holds_of state before held v s same holds) r.is_play.ended same_tells r.is_play.has_ended (calm_of state before after v s same calm)) r.is_play.is_text
 
   pub calm_status : IsCalm old new → IsCalmShelf state s before after → is_calm_end result ≡ true
   calm_status still calm = by (said.complete input s told is still)

@@ -11,3 +11,4 @@ mod Made
 mod Played
 mod Replayed
 mod Shelved
+mod Stressed

@@ -11,12 +11,13 @@ use Rattle.seata_types.specs.declared.errors.Full.{Full}
 use Rattle.seata_types.specs.declared.ids.Place.{Place}
 use Rattle.node_seat.specs.declared.faults.RunFault.{RunFault}
 use Rattle.node_seat.specs.declared.faults.RunFault.TheVariants as run_fault
+use Rattle.scenario_nodes.specs.Nodes.{Held, HoldAll}
 use Rattle.scenario_nodes.specs.Shelves.{AllTell, pair_of}
 use Rattle.replay_runner.specs.Leaving.{AreAllBack, AreAllLaid, AreLeft, HavePlaces, HaveSizes, disks_in}
 use Rattle.report_text.specs.Following.{AreCounted, Reports}
-use Rattle.history_rules.specs.Nodes.{Role, no_past, role_at}
+use Rattle.history_rules.specs.Nodes.{Past, Role, no_past, role_at}
 use Rattle.history_rules.specs.Histories.{Moment, own}
-use Rattle.history_law.specs.Safety.{IsSafeHistory}
+use Rattle.history_law.specs.ChainSafety.{IsSafeAfterChains}
 use Rattle.history_text.specs.declared.entries.Entry.{Entry}
 use Rattle.history_text.specs.declared.entries.Names.{Names}
 use Rattle.history_text.specs.Lines.{place_text}
@@ -133,19 +134,22 @@ IsAnswerTo ends bytes text status =
 abbrev pub replay_statuses : List ℕ
 replay_statuses = 0 ∷ 3 ∷ 7 ∷ 8 ∷ 9 ∷ []
 
--- Where the shelf's disks tell their bytes: a safe history, which `IsHistory` says is the scenario's,
--- has this report, and the disks of each node that were given back, of the scenario's size, show it.
--- Each record of it had a place, and the journals end where its entries leave them.
-pub record Reported {D : Type 0} (IsHistory : Scenario → List Moment → Type 0)
-    (state : D → DiskState) (s : Scenario) (disks : List (D × D)) (text : List ℕ) : Type 0 where
+-- Where the shelf's disks tell their bytes, and held these records: a history over them, which
+-- `IsHistory` says is the scenario's, is safe behind each chain that the records may follow, and the
+-- disks of each node that were given back, of the scenario's size, show it. Each record of it had a
+-- place, and the journals end where its entries leave them. Over disks that held no record, the text is
+-- its report.
+pub record Reported {D : Type 0} (IsHistory : Scenario → Past → List Moment → Type 0)
+    (state : D → DiskState) (s : Scenario) (held : Held) (disks : List (D × D)) (text : List ℕ)
+    : Type 0 where
   pub history : List Moment
-  pub is_run : IsHistory s history
-  pub is_safe : IsSafeHistory (world_of s) no_past history
-  pub is_report : text ≡ report s history
-  pub fits : HavePlaces s history
-  pub device : (p : Place) (role : Role) → role_at (world_of s) no_past p ≡ Some role
+  pub is_run : IsHistory s held.past history
+  pub is_safe : IsSafeAfterChains (world_of s) held.past history
+  pub is_report : held.past ≡ no_past → text ≡ report s no_past history
+  pub fits : HavePlaces s held history
+  pub device : (p : Place) (role : Role) → role_at (world_of s) held.past p ≡ Some role
       → AreLeft role (own p history) (disks_in (map (pair_of state) disks) p)
-  pub laid : AreAllLaid s history (map (pair_of state) disks)
+  pub laid : AreAllLaid s held history (map (pair_of state) disks)
   pub sized : HaveSizes s (map (pair_of state) disks)
 
 -- what a replay or a run tells: its input was read to its end and is a scenario; its disks were
@@ -158,13 +162,14 @@ pub record Plays (ends : Ending) (status : ℕ) (input : List ℕ) (old new : De
   pub is_play : IsPlayOf ends scenario text status
   pub printed : Appends old.sink.written new.sink.written text
 
--- at status 0 besides: the disks of all nodes were given back, and where they tell their bytes the
--- text is the report of a safe history
-pub record Done {D : Type 0} (IsHistory : Scenario → List Moment → Type 0) (state : D → DiskState)
-    (shelf : ShelfState D) (s : Scenario) (text : List ℕ) : Type 0 where
+-- at status 0 besides: the disks of all nodes were given back in this call, and where they tell their
+-- bytes, there is a safe history over whatever they held before
+pub record Done {D : Type 0} (IsHistory : Scenario → Past → List Moment → Type 0)
+    (state : D → DiskState) (had has : ShelfState D) (s : Scenario) (text : List ℕ) : Type 0 where
   pub disks : List (D × D)
-  pub back : AreAllBack shelf s disks
-  pub reported : AllTell state → Reported IsHistory state s disks text
+  pub back : AreAllBack had has s disks
+  pub reported : AllTell state → (held : Held) → HoldAll state had s held
+      → Reported IsHistory state s held disks text
 
 -- at status 3: the source was read as far as inputs are, and the sink got the line of what keeps
 -- the input from being a scenario

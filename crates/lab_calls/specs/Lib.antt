@@ -4,6 +4,7 @@ pub mod Listings
 pub mod Answers
 pub mod Steps
 pub mod Making
+pub mod Stressing
 pub mod Tasks
 pub mod Once
 pub mod MemStreams

@@ -19,7 +19,7 @@ task_by (Some order.Replay) folder = task_without folder task.Replay
 task_by (Some order.Frames) folder = task.Frames
 task_by (Some (order.Run workers)) folder = task_without folder (task.Run workers)
 task_by (Some (order.Make n size)) folder = task.Make n size
-task_by (Some (order.Stress n size workers)) folder = task.Usage
+task_by (Some (order.Stress n size workers)) folder = task.Stress n size workers
 task_by (Some order.Audit) folder = task.Usage
 task_by (Some order.Show) folder = task.Usage
 
@@ -31,12 +31,15 @@ task_of words = task_by (order_of words) (folder_of words)
 abbrev pub uses_shelf : Task → Bool
 uses_shelf task.Replay = true
 uses_shelf (task.Run workers) = true
+uses_shelf (task.Stress n size workers) = true
 uses_shelf _ = false
 
 -- whether a task has an input
 abbrev pub reads_source : Task → Bool
+reads_source task.Replay = true
+reads_source (task.Run workers) = true
 reads_source task.Frames = true
-reads_source t = uses_shelf t
+reads_source _ = false
 
 -- the threads of a run and the size of a made scenario are in their ranges
 abbrev pub IsSized : Task → Type 0
@@ -44,4 +47,5 @@ IsSized task.Replay = Unit {0}
 IsSized (task.Run workers) = (1 ≤ workers) × (workers ≤ 16)
 IsSized task.Frames = Unit {0}
 IsSized (task.Make n size) = (1 ≤ size) × (size ≤ 256)
+IsSized (task.Stress n size workers) = ((1 ≤ size) × (size ≤ 256)) × ((1 ≤ workers) × (workers ≤ 16))
 IsSized task.Usage = Unit {0}

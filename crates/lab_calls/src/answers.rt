@@ -84,7 +84,7 @@ pub fn refused(alloc: Global, error: &ScenarioError) -> Result<Answer, u8>
 }
 
 /// Whether memory was refused.
-fn is_memory(error: &ScenarioError) -> bool
+pub fn is_memory(error: &ScenarioError) -> bool
     ensures memory { result ≡ true → error.now ≡ ScenarioError.NoMemory }
     ensures other { result ≡ false → error.now ≢ ScenarioError.NoMemory }
 {
@@ -177,7 +177,7 @@ fn end_status(fault: RunFault) -> u8
 }
 
 /// The answer to a replay or a run that ended early.
-fn ended(alloc: Global, scenario: &Scenario, fault: RunFault) -> Result<Answer, NoMemory>
+pub fn ended(alloc: Global, scenario: &Scenario, fault: RunFault) -> Result<Answer, NoMemory>
     requires { fault ≢ RunFault.NoMemory }
     ensures { IfOk result (λ answer.
         IsEndText scenario.now (Err fault) (string_bytes answer.text) answer.status) }
@@ -191,7 +191,7 @@ fn ended(alloc: Global, scenario: &Scenario, fault: RunFault) -> Result<Answer, 
 }
 
 /// Whether memory was refused.
-fn is_out_of_memory(fault: RunFault) -> bool
+pub fn is_out_of_memory(fault: RunFault) -> bool
     ensures memory { result ≡ true → fault ≡ RunFault.NoMemory }
     ensures other { result ≡ false → fault ≢ RunFault.NoMemory }
 {
@@ -199,7 +199,7 @@ fn is_out_of_memory(fault: RunFault) -> bool
 }
 
 /// Whether the entries are so few that a report counts them, which does so in 32 bits for each node.
-fn are_counted(history: &[Entry]) -> bool
+pub fn are_counted(history: &[Entry]) -> bool
     ensures { result ≡ true → AreCounted history.now }
 {
     history.len() < u32::MAX as usize

@@ -7,6 +7,7 @@ ghost use Rattle.lab_calls.specs.Answers.{IsFramesAnswer, TellsFaults, TellsUsag
 ghost use Rattle.lab_calls.specs.Making.{MakesOnce};
 ghost use Rattle.lab_calls.specs.Once.{ListsOnce, ReplaysOnce, RunsOnce};
 ghost use Rattle.lab_calls.specs.Steps.{AnswersInput, PlaysInput, ReadsScenario, WritesAnswer, WritesText};
+ghost use Rattle.lab_calls.specs.Stressing.{StressesMade, StressesOnce};
 ghost use Rattle.lab_calls.specs.Streams.{devices};
 ghost use Rattle.lab_calls.specs.Tasks.{reads_source, task_of, uses_shelf};
 
@@ -15,6 +16,7 @@ use crate::frames::list_frames;
 use crate::making::answer_made;
 use crate::statuses::{MEMORY, SINK, SOURCE, WORDS};
 use crate::streams::{Failed, Sink, Source};
+use crate::stressing::{made_scenario, stressed};
 use crate::tasks::Task;
 use crate::transfer::{ReadFault, read_all, write_all};
 use crate::words::task_of;
@@ -102,6 +104,28 @@ fn run_input<S: Source, H: Shelf, G: Gate, R: Threads + Wait + Sync>(
     }
 }
 
+/// Runs a made scenario: the text of its numbers with its status, or the status of want of memory.
+fn stress_made<H: Shelf, G: Gate, R: Threads + Wait + Sync>(
+    rt: &R,
+    alloc: Global,
+    number: u64,
+    size: u32,
+    workers: u32,
+    shelf: &mut H,
+    gate: &G,
+) -> Result<Answer, u8>
+    requires size { (1 ≤ size) × (size ≤ 256) }
+    requires workers { (1 ≤ workers) × (workers ≤ 16) }
+    ensures { StressesMade H.D.state (H.state shelf.old) (H.state shelf.new)
+        (shelf.new ≡ shelf.old) number size result }
+{
+    let Ok(scenario) = made_scenario(alloc, number, size) else {
+        return Err(MEMORY);
+    };
+    let end = run(rt, alloc, &scenario, workers, shelf, gate);
+    stressed(alloc, &scenario, end)
+}
+
 /// Reads an input and lists its frames, likewise.
 fn list_input<S: Source>(alloc: Global, source: &mut S) -> Result<Answer, u8>
     ensures { AnswersInput IsFramesAnswer frames_statuses
@@ -129,8 +153,9 @@ fn write_answer<K: Sink>(sink: &mut K, answer: Result<Answer, u8>) -> u8
 /// be had or its opening or restart failed, 8 where a node's next record would pass the end of its disk, and 9 where a disk has
 /// bytes that are no journal. At each status the disks that were taken are given back: where the shelf tells of them, each name
 /// that has a place there had one before or has a disk that was given back to it, and a name that had such a disk still has
-/// one. Where a shelf had no place for any node before, its places say of how many nodes the disks were taken. Where nothing
-/// fails, and the shelf and its disks tell, the status of a scenario is 0, 6 or 8.
+/// one. Where a shelf had no place for any node before, its places say of how many nodes the disks were taken. What is said of
+/// the history is said over whatever records the disks held before, but for its report, which is told over none. Where nothing
+/// fails, the shelf and its disks tell, and these held records of the nodes, the status of a scenario is 0, 6 or 8.
 pub fn replay_once<S: Source, K: Sink, H: Shelf>(
     alloc: Global,
     source: &mut S,
@@ -188,15 +213,40 @@ pub fn make_once<K: Sink>(alloc: Global, number: u64, size: u32, sink: &mut K) -
     write_answer(sink, answer_made(alloc, number, size))
 }
 
+/// Runs the scenario that is made of a number for so many managers, on worker threads, and writes four lines of the numbers of
+/// its history: how many transactions began and how many of these are finished or failed, the sum of all `acc.m`, the sum of
+/// all `stock.held`, and how many rows are held. Its other statuses are those of `run_once` but 4, since there is no input, and
+/// so is what they say of the disks. It may wait, and where messages are lost for good it may never return.
+pub fn stress_once<K: Sink, H: Shelf, G: Gate, R: Threads + Wait + Sync>(
+    rt: &R,
+    alloc: Global,
+    number: u64,
+    size: u32,
+    workers: u32,
+    sink: &mut K,
+    shelf: &mut H,
+    gate: &G,
+) -> u8
+    requires size { (1 ≤ size) × (size ≤ 256) }
+    requires workers { (1 ≤ workers) × (workers ≤ 16) }
+    ensures { StressesOnce H.D.state (H.state shelf.old) (H.state shelf.new)
+        (shelf.new ≡ shelf.old) number size result (K.state sink.old) (K.state sink.new) }
+{
+    write_answer(
+        sink,
+        stress_made(rt, alloc, number, size, workers, shelf, gate),
+    )
+}
+
 /// The usage line.
 const USAGE: &str = "usage: seata_lab replay | run | make | stress | frames | audit | show\n";
 
 /// Does what the words ask for: `replay` replays the scenario of the source and writes the report, `run` runs it on as many
-/// worker threads as its option says and writes the report, `frames` writes a line for each frame of the source, and `make`
-/// writes the scenario that is made of its number, for as many managers as its size. Words outside the grammar are answered
-/// with the usage line and status 2. So are those of the grammar whose task isn't built: `stress`, `audit`, `show`, and
-/// `replay` and `run` with `--store`. What `replay_once` says of the disks that were taken holds whatever the words and the
-/// status. Only a run may wait.
+/// worker threads as its option says and writes the report, `frames` writes a line for each frame of the source, `make` writes
+/// the scenario that is made of its number, for as many managers as its size, and `stress` runs it and writes the numbers of
+/// its history. Words outside the grammar are answered with the usage line and status 2. So are those of the grammar whose task
+/// isn't built: `audit`, `show`, and `replay` and `run` with `--store`. What `replay_once` says of the disks that were taken
+/// holds whatever the words and the status. Only `run` and `stress` may wait.
 pub fn top<S: Source, K: Sink, H: Shelf, G: Gate, R: Threads + Wait + Sync>(
     rt: &R,
     alloc: Global,
@@ -226,6 +276,9 @@ pub fn top<S: Source, K: Sink, H: Shelf, G: Gate, R: Threads + Wait + Sync>(
         (devices (S.state source.new) (K.state sink.new)) }
     ensures make { (number size : ℕ) → task_of words.now ≡ Task.Make number size
         → MakesOnce number size result (K.state sink.old) (K.state sink.new) }
+    ensures stress { (number size workers : ℕ) → task_of words.now ≡ Task.Stress number size workers
+        → StressesOnce H.D.state (H.state shelf.old) (H.state shelf.new) (shelf.new ≡ shelf.old)
+        number size result (K.state sink.old) (K.state sink.new) }
     ensures faults { TellsFaults (2 ∷ with_failures replay_statuses) result
         (devices (S.state source.old) (K.state sink.old))
         (devices (S.state source.new) (K.state sink.new)) }
@@ -235,6 +288,11 @@ pub fn top<S: Source, K: Sink, H: Shelf, G: Gate, R: Threads + Wait + Sync>(
         Task::Run { workers } => run_once(rt, alloc, workers, source, sink, shelf, gate),
         Task::Frames => frames_once(alloc, source, sink),
         Task::Make { number, size } => make_once(alloc, number, size, sink),
+        Task::Stress {
+            number,
+            size,
+            workers,
+        } => { stress_once(rt, alloc, number, size, workers, sink, shelf, gate) }
         Task::Usage => finish(sink, USAGE, WORDS),
     }
 }

@@ -27,6 +27,17 @@ pub fn task_of(words: &[Text]) -> Task
         Some(Order::Run { workers }) => without_folder(words, Task::Run { workers }),
         Some(Order::Frames) => Task::Frames,
         Some(Order::Make { number, size }) => Task::Make { number, size },
-        Some(Order::Stress { .. } | Order::Audit | Order::Show) | None => Task::Usage,
+        Some(
+            Order::Stress {
+                number,
+                size,
+                workers,
+            },
+        ) => Task::Stress {
+            number,
+            size,
+            workers,
+        },
+        Some(Order::Audit | Order::Show) | None => Task::Usage,
     }
 }

@@ -1,4 +1,2 @@
-pub mod Places
-pub mod AskedLaws
 pub mod LocalLaws
 pub mod StepLaws

@@ -25,6 +25,11 @@ use Rattle.local_guard.specs.declared.answers.OutsideError.TheVariants as error
 none_some : {A : Type 0} (a : A) → None ≡ Some a → ⊥
 none_some a e = cc
 
+-- there is nothing, where there can't be something
+pub no_some : {A : Type 0} (o : Option A) → ((i : A) → o ≡ Some i → ⊥) → o ≡ None
+no_some None n = refl
+no_some (Some i) n = absurd (n i refl)
+
 some_same : (a b : ℕ) → Some a ≡ Some b → a ≡ b
 some_same a b e = cc
 

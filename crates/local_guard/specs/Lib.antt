@@ -1,4 +1,3 @@
-pub mod Asked
 pub mod Locals
 pub mod Outside
 pub mod Steps

@@ -4,12 +4,10 @@
 #![tactic(auto)]
 
 pub mod answers;
-mod asked;
 mod guarded;
 pub mod laws;
 mod outside_writes;
 
 pub use answers::OutsideError;
-pub use asked::rows_asked;
 pub use guarded::{on_free, on_held, open_local};
 pub use outside_writes::outside;

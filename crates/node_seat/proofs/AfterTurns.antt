@@ -19,13 +19,12 @@ use Rattle.trace_rules.specs.Stops.{HasBegun, IsByStops, calls_of, is_restart, i
 use Rattle.trace_rules.proofs.LinkOrder.{went-within}
 use Rattle.trace_rules.proofs.Order.{same_place-false, same_place-refl}
 use Rattle.node_steps.specs.Nodes.{IsLawful, NodeState, place_of}
-use Rattle.node_steps.specs.Promises.{AreTold}
 use Rattle.history_text.specs.declared.entries.Cause.{Cause}
 use Rattle.history_text.specs.declared.entries.Cause.TheVariants as cause
 use Rattle.history_text.specs.History.{cause_of}
 use Rattle.node_seat.specs.Ends.{ComeApart, EachBecomes, NoneFrom, NoneTook, TookAt, TookIf}
 use Rattle.node_seat.specs.Entering.{event_by}
-use Rattle.node_seat.specs.Keeping.{Keeps, have_disks}
+use Rattle.node_seat.specs.Keeping.{Keeps}
 use Rattle.node_seat.specs.Naming.{Run}
 use Rattle.node_seat.specs.Running.{CanGoOn, Came, HasCounted, may_hear, HeardAll, IsCauseOf, IsRunning, IsSeat, KeepsRun, KeepsSome, LAST, MayLose, PushedAll, TookLast}
 use Rattle.node_seat.specs.Seating.{Seated}
@@ -37,7 +36,7 @@ use Rattle.node_seat.specs.declared.turned.Turned.TheVariants as turned
 use Rattle.node_seat.proofs.Changed.{below_length, none_yet, stands_below}
 use Rattle.node_seat.proofs.Entries.{Comes, IsStop, keeps_after}
 use Rattle.node_seat.proofs.Going.{can_deliver, can_rest, can_restart, counting, error_of, running_entry, stamp_after-ends, stamp_after-le, with_entry, with_fault}
-use Rattle.node_seat.proofs.Kept.{has_begun, reason_of, stops_there, told_back, told_for}
+use Rattle.node_seat.proofs.Kept.{has_begun, reason_of, stops_there, told_for}
 
 -- ---- ends that were asked
 
@@ -220,7 +219,7 @@ module _ {N : Type 0} (state : N → NodeState) (law : (node : N) → IsLawful (
   module _ (a : Seated N) (is : IsRunning (state a.node) past run a) (calm : a.fault ≡ None) (stamp turned again : ℕ) (later : a.stamp < stamp) (small : stamp ≤ LAST) (more : a.turns ≤ turned)
       (few : turned ≤ stamp) (rare : again ≤ turned) (why : Cause) (given : Option Input) (event : Event) (is_event : event_by why given ≡ Some event)
       (can : CanMake state (counting a stamp turned again) why given) (has : given ≡ None → (state a.node).stops ≡ true) (role : Role) (named : role_at w past (place_of role) ≡ Some role)
-      (known : (have_disks (state a.node).place ≡ true → AreTold (state a.node).disks) → (ms : List Moment) × Keeps (state a.node) a.trace role ms
+      (known : run.tells → (ms : List Moment) × Keeps (state a.node) a.trace role ms
       × Comes (state a.node) (start past.sessions) run role (counting a stamp turned again) ms (reason_of why) event)
       (new : Seated N) (result : Result (Unit {0}) RunFault) (m : MakesEntry state (counting a stamp turned again) new why given result) where
     abbrev s : Seated N
@@ -231,15 +230,13 @@ module _ {N : Type 0} (state : N → NodeState) (law : (node : N) → IsLawful (
       role,
       named,
       λ told.
-          let was : have_disks (state a.node).place ≡ true → AreTold (state a.node).disks =
-          λ h. told_back (state a.node).disks (state new.node).disks (m.entered.same.first.tells_images, m.entered.same.second.tells_images) (told (ap have_disks m.entered.same.same_place ∙ h)) in
-          let (ms, k, c) = known was in
+          let (ms, k, c) = known told in
           let tells = (law a.node).tells in
           let owns = own (place_of role) ms in
           let at = tells.places role owns k.stands in
           let after = keeps_after state s new.node new.trace new.senders why given event is_event can.may.next role at ms k
-          (told_for (state a.node).disks why given event is_event (λ none. was (stops_there (state a.node) (law a.node) role owns k.stands (has none)))) (start past.sessions)
-          (λ tc. is.of_run.starts (at ∙ tc)) run c m.packet (m.entered.entered event is_event) m.out m.entered.same.same_place in
+          (told_for (state a.node).disks why given event is_event (λ none. is.of_run.told told (stops_there (state a.node) (law a.node) role owns k.stands (has none)))) (start past.sessions)
+          (λ tc. is.of_run.starts told (at ∙ tc)) run c m.packet (m.entered.entered event is_event) m.out m.entered.same.same_place in
           (after.0, after.1, λ runs. after.2),
     )
 
@@ -247,7 +244,7 @@ module _ {N : Type 0} (state : N → NodeState) (law : (node : N) → IsLawful (
     entry_seat =
         let fault_is : new.fault ≡ None = ap (λ (x : Seated N). x.fault) m.rest ∙ calm in
         let running = running_entry state past run a is stamp turned again later small more few rare new.node new.trace new.senders _ why given event is_event m.packet m.entered m.out in
-        let core : IsSeat (state new.node) w past run (with_fault (with_entry s new.node new.trace new.senders) (error_of m.packet)) = record { runs = λ runs. running; keeps = keeps } in
+        let core : IsSeat (state new.node) w past run (with_fault (with_entry s new.node new.trace new.senders) (error_of m.packet)) = record { runs = λ runs. running; keeps = λ runs. keeps } in
         subst (IsSeat (state new.node) w past run) (noted_same new fault_is result)
         (subst (λ x. IsSeat (state new.node) w past run (with_fault x (error_of result))) (sym m.rest)
         (subst (λ f. IsSeat (state new.node) w past run (with_fault (with_entry s new.node new.trace new.senders) f)) (error_same result m.packet m.is) core))
@@ -262,14 +259,14 @@ module _ {N : Type 0} (state : N → NodeState) (law : (node : N) → IsLawful (
     goes = running.goes
 
     abbrev role : Role
-    role = is.keeps.0
+    role = (is.keeps may.runs).0
 
     -- the moments of the node, with its links
     abbrev Kept : Type 0
     Kept = (ms : List Moment) × Keeps (state old.node) old.trace role ms × KeepsRun (state old.node) (start past.sessions) run role old ms
 
-    kept : (have_disks (state old.node).place ≡ true → AreTold (state old.node).disks) → Kept
-    kept told = let (ms, k, r) = is.keeps.2 told in (ms, k, r may.runs)
+    kept : run.tells → Kept
+    kept told = let (ms, k, r) = (is.keeps may.runs).2 told in (ms, k, r may.runs)
 
     begun : (ms : List Moment) → Keeps (state old.node) old.trace role ms → HasBegun old.plan.stops ms
     begun ms k = has_begun old.trace old.plan.stops ms k.printed may.begun
@@ -286,7 +283,7 @@ module _ {N : Type 0} (state : N → NodeState) (law : (node : N) → IsLawful (
         let event = Restarted (pick_of (slice_get old.plan.stops old.restarts)) (option_map calls_of (slice_get old.plan.stops (old.restarts + 1))) in
         let same = none_lines old.takers old.takers (none_yet old.takers) in
         entry_seat old running calm (old.stamp + 1) (old.turns + 1) (old.restarts + 1) (omega arith) (omega (arith, below)) (omega arith) (omega (arith, few)) (omega (arith, rare)) why None event refl
-        (can_restart state old goes able (law old.node) r.down) (λ none. (law old.node).falls r.down) role is.keeps.1
+        (can_restart state old goes able (law old.node) r.down) (λ none. (law old.node).falls r.down) role (is.keeps may.runs).1
         (λ told.
         let (ms, k, l) = kept told in
         let counts = l.calm calm in (
@@ -309,7 +306,7 @@ module _ {N : Type 0} (state : N → NodeState) (law : (node : N) → IsLawful (
         let at = asking old r.takers old.next in
         let on = asked_running (state old.node) past run old r.takers old.next running lines (omega (arith, within, size)) in
         entry_seat at on calm (old.stamp + 1) (old.turns + 1) old.restarts (omega arith) (omega (arith, below)) (omega arith) (omega (arith, few)) (omega (arith, rare)) cause.Turn (Some input.Turn) (Given input.Turn) refl
-        (can_rest state at on.goes (record { stamps = able.stamps; steps = able.steps })) (λ none. absurd (let no : Some input.Turn ≡ None = none in cc)) role is.keeps.1
+        (can_rest state at on.goes (record { stamps = able.stamps; steps = able.steps })) (λ none. absurd (let no : Some input.Turn ≡ None = none in cc)) role (is.keeps may.runs).1
         (λ told.
         let (ms, k, l) = kept told in
         let counts = l.calm calm in (
@@ -346,7 +343,7 @@ module _ {N : Type 0} (state : N → NodeState) (law : (node : N) → IsLawful (
           entry_seat asked on calm (stamp_after old.stamp packet.stamp) (old.turns + 1) old.restarts above small (omega arith) (omega (arith, few, above)) (omega (arith, rare)) why
           (Some (input.Message took.end.line.from packet.message)) heard refl
           (can_deliver state asked on.goes (record { stamps = able.stamps; steps = able.steps }) took.end.line.from packet.message packet.stamp d.early framable answers)
-          (λ none. absurd (let no : Some (input.Message took.end.line.from packet.message) ≡ None = none in cc)) role is.keeps.1
+          (λ none. absurd (let no : Some (input.Message took.end.line.from packet.message) ≡ None = none in cc)) role (is.keeps may.runs).1
           (λ told.
           let (ms, k', l) = kept told in
           let counts = l.calm calm in (
@@ -391,9 +388,9 @@ module _ {N : Type 0} (state : N → NodeState) (law : (node : N) → IsLawful (
           of_run = on.of_run;
           counted = on.counted;
         };
-        keeps = (
+        keeps = λ runs. (
           role,
-          is.keeps.1,
+          (is.keeps may.runs).1,
           λ told.
               let (ms, k', l) = kept told in (
                 ms,
@@ -442,9 +439,9 @@ module _ {N : Type 0} (state : N → NodeState) (law : (node : N) → IsLawful (
           of_run = on.of_run;
           counted = lost_counts missed why;
         };
-        keeps = (
+        keeps = λ runs. (
           role,
-          is.keeps.1,
+          (is.keeps may.runs).1,
           λ told.
               let (ms, k', l) = kept told in (
                 ms,

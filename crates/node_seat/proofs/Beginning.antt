@@ -16,7 +16,6 @@ use Rattle.history_text.specs.declared.entries.Cause.TheVariants as cause
 use Rattle.history_text.specs.declared.entries.Entry.{Entry}
 use Rattle.history_text.specs.History.{entries, entry_of}
 use Rattle.node_seat.specs.Entering.{IsEntered, entry_at, event_by}
-use Rattle.node_seat.specs.Keeping.{IsFresh}
 use Rattle.node_seat.specs.Naming.{Run}
 use Rattle.node_seat.specs.Running.{AreApart, AreUnused, CanServe, IsFreshIn, IsOfRun, IsSeat}
 use Rattle.node_seat.specs.Seating.{Seated, new_seat, traced_of}
@@ -31,13 +30,8 @@ use Rattle.node_seat.proofs.Going.{can_stop, trace_more}
 
 module _ {N : Type 0} (state : N → NodeState) (w : World) (past : Past) (run : Run) (node : N) (plan : Plan) (takers : List Taking) (senders : List Sending) where
   -- a seat of a replay
-  pub new_keeps : IsFresh w past (state node) → (s : Seated N) → s ≡ new_seat false node plan takers senders → IsSeat (state s.node) w past run s
-  new_keeps fresh s is =
-      let (role, named, stands) = fresh in
-      subst (λ (x : Seated N). IsSeat (state x.node) w past run x) (sym is) (record {
-        runs = λ runs. absurd (true≢false (sym runs));
-        keeps = (role, named, λ told. ([], record { printed = refl; alone = tt; stands = stands told }, λ runs. absurd (true≢false (sym runs))));
-      })
+  pub new_keeps : (s : Seated N) → s ≡ new_seat false node plan takers senders → IsSeat (state s.node) w past run s
+  new_keeps s is = subst (λ (x : Seated N). IsSeat (state x.node) w past run x) (sym is) (record { runs = λ runs. absurd (true≢false (sym runs)); keeps = λ runs. absurd (true≢false (sym runs)) })
 
   -- a seat of a run
   pub linked_keeps : IsFreshIn w past run (state node) → CanServe plan (state node) → IsOfRun past run (state node) plan takers senders → AreApart takers senders → AreUnused takers senders
@@ -59,7 +53,7 @@ module _ {N : Type 0} (state : N → NodeState) (w : World) (past : Past) (run :
           of_run = of_run;
           counted = tt;
         };
-        keeps = (
+        keeps = λ runs. (
           role,
           named,
           λ told. (
@@ -104,11 +98,11 @@ module _ {N : Type 0} (state : N → NodeState) (law : (node : N) → IsLawful (
       let few = running.goes.turned in
       let rare = running.goes.restarted in
       let disks = has (ap is_empty are) in
-      let role = is.keeps.0 in
+      let role = (is.keeps runs).0 in
       entry_seat state law w past run old running calm 1 old.turns old.restarts (omega (arith, none)) (omega arith) (omega arith) (omega (arith, few, none)) (omega (arith, rare)) (cause.Stop (calls_of stop)) None
-      (Stopped (calls_of stop)) refl (can_stop state old running.goes unmoved (calls_of stop) disks) (λ given. disks) role is.keeps.1
+      (Stopped (calls_of stop)) refl (can_stop state old running.goes unmoved (calls_of stop) disks) (λ given. disks) role (is.keeps runs).1
       (λ told.
-      let (ms, k, l) = is.keeps.2 told in
+      let (ms, k, l) = (is.keeps runs).2 told in
       let keeps = l runs in
       let counts = keeps.calm calm in
       let nothing : ms ≡ [] = no_moments ms (sym k.printed ∙ ap (λ (s : Seated N). s.trace) unmoved) in (

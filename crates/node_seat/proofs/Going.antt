@@ -270,7 +270,7 @@ module _ {N : Type 0} (state : N → NodeState) (past : Past) (run : Run) (s : S
   of_run : IsOfRun past run node s.plan s.takers senders
   of_run = record {
     stops = is.of_run.stops ∙ ap run.stops (sym e.same.same_place);
-    starts = λ tc. is.of_run.starts (sym e.same.same_place ∙ tc);
+    starts = λ tells tc. is.of_run.starts tells (sym e.same.same_place ∙ tc);
     to_here = λ k t there. subst (λ p. (t.line.to ≡ p) × (t.line.queue ≡ run.queue t.line.from p)) (sym e.same.same_place) (is.of_run.to_here k t there);
     from_here = λ k end there.
         let m = each.each k end there in

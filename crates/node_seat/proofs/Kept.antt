@@ -10,7 +10,7 @@ use Rattle.seata_types.specs.declared.messages.Step.{Step}
 use Rattle.durable_records.specs.SessionOrder.{is_empty}
 use Rattle.frame_codec.specs.Packets.{Sent}
 use Rattle.history_rules.specs.Own.{Event, Given, Stopped, Crashed, Restarted, Own}
-use Rattle.history_rules.specs.Nodes.{Role, Coordinator, Resource, Manager, World, Past}
+use Rattle.history_rules.specs.Nodes.{Role, Coordinator, Resource, Manager}
 use Rattle.history_rules.specs.Histories.{Moment, Turn, Deliver, Missing, Wait, Stop, Crash, Restart, Local, Outside, ReceivesLater, own, own_if, last_now, same_place}
 use Rattle.history_rules.specs.Histories.{Cause as Reason}
 use Rattle.trace_rules.specs.Stops.{HasBegun, NodeStop}
@@ -25,11 +25,9 @@ use Rattle.history_text.specs.History.{cause_of, entries, entry_of}
 use Rattle.node_seat.specs.declared.faults.RunFault.{RunFault}
 use Rattle.node_seat.specs.declared.faults.RunFault.TheVariants as fault
 use Rattle.node_seat.specs.Faults.{LiesFor}
-use Rattle.node_seat.specs.Entering.{CanReact, Enters, IsEntered, IsTold, Stays, entry_at, event_by}
+use Rattle.node_seat.specs.Entering.{Enters, IsEntered, IsTold, Stays, entry_at, event_by}
 use Rattle.node_seat.specs.Keeping.{Keeps, IsBehind, IsInputOf, IsNext, have_disks}
-use Rattle.node_seat.specs.Naming.{Run}
-use Rattle.node_seat.specs.Running.{KeepsSome}
-use Rattle.node_seat.specs.Seating.{Seated, Traced, traced_of}
+use Rattle.node_seat.specs.Seating.{Traced}
 
 -- ---- causes
 
@@ -130,9 +128,6 @@ has_begun trace (stop ∷ stops) (m ∷ ms) printed begun none = absurd (let no 
 abbrev pub SameTelling : Pair → Pair → Type 0
 SameTelling old new = (is_some new.first.content ≡ is_some old.first.content) × (is_some new.second.content ≡ is_some old.second.content)
 
-pub told_back : (old new : Pair) → SameTelling old new → AreTold new → AreTold old
-told_back old new same told = record { first = sym same.0 ∙ told.first; second = sym same.1 ∙ told.second }
-
 pub told_all : (disks : Pair) (event : Event) → AreTold disks → IsTold disks event
 told_all disks (Given given) told = tt
 told_all disks (Stopped calls) told = tt
@@ -199,40 +194,3 @@ module _ {N : Type 0} (state : N → NodeState) (old new : Traced N) (stamp now 
     kept (Ok packet) (step, e) = (moment step ∷ ms, entered step (Ok packet) e)
     kept (Err missed) (inl e) = (ms, stayed missed e)
     kept (Err missed) (inr (is, step, e)) = (moment step ∷ ms, entered step (Err missed) e)
-
--- a seat keeps some moments after an entry of a replay
-module _ {N : Type 0} (state : N → NodeState) (law : (node : N) → IsLawful (state node)) (w : World) (past : Past) (run : Run) where
-  pub keeps_some : (old new : Seated N) (stamp now : ℕ) (why : Cause) (given : Option Input) (event : Event) → event_by why given ≡ Some event → IsNext old.trace stamp now why given
-      → (given ≡ None → (state old.node).stops ≡ true) → (state new.node).place ≡ (state old.node).place → SameTelling (state old.node).disks (state new.node).disks → new.runs ≡ false
-      → (r : Result (Option Sent) RunFault) → IsEntered state (traced_of old) (traced_of new) stamp now why event r → KeepsSome (state old.node) w past run old → KeepsSome (state new.node) w past run new
-  keeps_some old new stamp now why given event is_event next has there same replays r e (role, named, some) = (
-    role,
-    named,
-    λ told.
-        let disks = (state old.node).disks in
-        let was : have_disks (state old.node).place ≡ true → AreTold disks = λ h. told_back disks (state new.node).disks same (told (ap have_disks there ∙ h)) in
-        let (ms, k, links) = some was in
-        let tells = (law old.node).tells in
-        let owns = own (place_of role) ms in
-        let more = kept state (traced_of old) (traced_of new) stamp now why given event is_event next role (tells.places role owns k.stands) ms k
-        (told_for disks why given event is_event (λ none. was (stops_there (state old.node) (law old.node) role owns k.stands (has none)))) r e in
-        (more.0, more.1, λ runs. absurd (true≢false (sym runs ∙ replays))),
-  )
-
--- with an input or an event of disks something happens
-pub event_there : (stamp : ℕ) (c : Cause) (given : Option Input) → IsInputOf stamp c given → (event : Event) × (event_by c given ≡ Some event)
-event_there stamp c (Some given) is = (Given given, refl)
-event_there stamp (cause.Stop calls) None is = (Stopped calls, refl)
-event_there stamp cause.Crash None is = (Crashed, refl)
-event_there stamp (cause.Restart pick calls) None is = (Restarted pick calls, refl)
-event_there stamp cause.Turn None is = absurd is
-event_there stamp (cause.Deliver sent from) None is = absurd is
-event_there stamp (cause.Missing sent) None is = absurd is
-event_there stamp (cause.Wait ticks) None is = absurd is
-event_there stamp (cause.Local number) None is = absurd is
-event_there stamp (cause.Outside number) None is = absurd is
-
--- without an input the disks are meant
-pub given_or_disks : (node : NodeState) (c : Cause) (given : Option Input) → CanReact node c given → given ≡ None → node.stops ≡ true
-given_or_disks node c (Some given) can e = absurd (let no : Some given ≡ None = e in cc)
-given_or_disks node c None can e = can.0

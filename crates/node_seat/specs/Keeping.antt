@@ -1,16 +1,15 @@
 -- A node with its trace: there are moments whose entries the trace is, legal for the node alone, and the node is what they replay to.
-use Rattle.std.specs.Prelude.{◌≡◌, ◌<◌, ◌≤◌, ℕ, Bool, true, false, List, [], All, Option, Some, None, IfSome}
+use Rattle.std.specs.Prelude.{◌≡◌, ◌<◌, ◌≤◌, ℕ, Bool, true, false, List, All, Option, Some, None, IfSome}
 use Rattle.seata_types.specs.declared.ids.Place.{Place}
 use Rattle.seata_types.specs.declared.ids.Place.TheVariants as place
 use Rattle.seata_types.specs.declared.limits.TheConstants.{LATEST_MOMENT}
 use Rattle.seata_types.specs.declared.messages.Input.{Input}
 use Rattle.seata_types.specs.declared.messages.Input.TheVariants as input
-use Rattle.history_rules.specs.Nodes.{Role, World, Past, role_at}
+use Rattle.history_rules.specs.Nodes.{Role}
 use Rattle.history_rules.specs.Histories.{Moment, own}
 use Rattle.trace_rules.specs.Traces.{Alone}
 use Rattle.node_steps.specs.Framing.{ComesFramable}
 use Rattle.node_steps.specs.Nodes.{NodeState, place_of}
-use Rattle.node_steps.specs.Promises.{AreTold}
 use Rattle.history_text.specs.declared.entries.Cause.{Cause}
 use Rattle.history_text.specs.declared.entries.Cause.TheVariants as cause
 use Rattle.history_text.specs.declared.entries.Entry.{Entry}
@@ -57,8 +56,3 @@ abbrev pub have_disks : Place → Bool
 have_disks place.Tc = true
 have_disks (place.Res n) = true
 have_disks p = false
-
--- a node of a run that did nothing yet; where it has disks, this is said where they tell their bytes
-abbrev pub IsFresh : World → Past → NodeState → Type 0
-IsFresh w past node =
-    (role : Role) × (role_at w past (place_of role) ≡ Some role) × ((have_disks node.place ≡ true → AreTold node.disks) → node.stands_for role [])

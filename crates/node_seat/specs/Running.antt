@@ -20,7 +20,7 @@ use Rattle.history_rules.specs.Devices.{last_pick}
 use Rattle.history_rules.specs.Nodes.{Role, World, Past, role_at}
 use Rattle.history_rules.specs.Histories.{Moment, Restart, own}
 use Rattle.node_steps.specs.Durable.{own_faults}
-use Rattle.node_steps.specs.Ends.{EntryFits}
+use Rattle.node_steps.specs.Ends.{EntryFits, Starts}
 use Rattle.node_steps.specs.Framing.{ComesFramable}
 use Rattle.node_steps.specs.Nodes.{NodeState, place_of}
 use Rattle.node_steps.specs.Promises.{AreTold}
@@ -32,7 +32,7 @@ use Rattle.node_seat.specs.Ends.{ComeApart, GoApart, NoneFrom}
 use Rattle.node_seat.specs.Entering.{HaveLast}
 use Rattle.node_seat.specs.Faults.{Blames}
 use Rattle.node_seat.specs.Keeping.{Keeps, have_disks}
-use Rattle.node_seat.specs.Naming.{Run}
+use Rattle.node_seat.specs.Naming.{OverAll, Run}
 use Rattle.node_seat.specs.Seating.{Seated}
 use Rattle.node_seat.specs.declared.faults.RunFault.{RunFault}
 use Rattle.node_seat.specs.declared.faults.RunFault.TheVariants as fault
@@ -103,7 +103,7 @@ HaveBytes bytes disks = (disks.first.size ≡ bytes) × (disks.second.size ≡ b
 -- a node with its plan and the ends of its links is the one that a run names for its place
 pub record IsOfRun (past : Past) (run : Run) (node : NodeState) (plan : Plan) (takers : List Taking) (senders : List Sending) : Type 0 where
   pub stops : plan.stops ≡ run.stops node.place
-  pub starts : node.place ≡ place.Tc → plan.from ≡ start past.sessions
+  pub starts : run.tells → node.place ≡ place.Tc → plan.from ≡ start past.sessions
   pub to_here : (k : ℕ) (t : Taking) → slice_get takers k ≡ Some t → (t.line.to ≡ node.place) × (t.line.queue ≡ run.queue t.line.from node.place)
   pub from_here : (k : ℕ) (s : Sending) → slice_get senders k ≡ Some s → (s.line.from ≡ node.place) × (s.line.queue ≡ run.queue node.place s.line.to)
   pub told : run.tells → have_disks node.place ≡ true → AreTold node.disks
@@ -111,11 +111,11 @@ pub record IsOfRun (past : Past) (run : Run) (node : NodeState) (plan : Plan) (t
   pub managers : plan.managers ≡ run.managers
   pub resources : plan.resources ≡ run.resources
 
--- a node that did nothing yet, whose journal stands where the run says; where it has disks, this is said where they tell their bytes
+-- a node that did nothing yet, whose journal stands where the run says; this is said where the disks tell
 abbrev pub IsFreshIn : World → Past → Run → NodeState → Type 0
 IsFreshIn w past run node =
     (role : Role) × (role_at w past (place_of role) ≡ Some role)
-    × ((have_disks node.place ≡ true → AreTold node.disks) → node.stands_for role [] × node.lies role (run.starts (place_of role)) run.bytes [])
+    × (run.tells → node.stands_for role [] × node.lies role (run.starts (place_of role)) run.bytes [])
 
 -- nothing went over these ends
 pub record AreUnused (takers : List Taking) (senders : List Sending) : Type 0 where
@@ -213,15 +213,17 @@ pub record IsRunning {N : Type 0} (node : NodeState) (past : Past) (run : Run) (
   pub of_run : IsOfRun past run node s.plan s.takers s.senders
   pub counted : IfSome s.fault (HasCounted node)
 
--- A node with its trace has a role, and keeps some moments, in a run with its links; where it has disks, this is said where they tell
--- their bytes.
+-- A node with its trace has a role, and where the disks tell, it keeps some moments, in a run with its links.
 abbrev pub KeepsSome : {N : Type 0} → NodeState → World → Past → Run → Seated N → Type 0
 KeepsSome node w past run s =
     (role : Role) × (role_at w past (place_of role) ≡ Some role)
-    × ((have_disks node.place ≡ true → AreTold node.disks)
-    → (ms : List Moment) × Keeps node s.trace role ms × (s.runs ≡ true → KeepsRun node (start past.sessions) run role s ms))
+    × (run.tells → (ms : List Moment) × Keeps node s.trace role ms × (s.runs ≡ true → KeepsRun node (start past.sessions) run role s ms))
 
--- what the type of a seat keeps
+-- what a seat of a run keeps, over records that its disks had; one of a replay keeps nothing
 pub record IsSeat {N : Type 0} (node : NodeState) (w : World) (past : Past) (run : Run) (s : Seated N) : Type 0 where
   pub runs : s.runs ≡ true → IsRunning node past run s
-  pub keeps : KeepsSome node w past run s
+  pub keeps : s.runs ≡ true → KeepsSome node w past run s
+
+-- what the type of a seat keeps, over all records that the disks may have had
+abbrev pub KeepsSeat : {N : Type 0} → NodeState → World → (held : Past → Starts → Type 0) → Run → Seated N → Type 0
+KeepsSeat node w held run s = OverAll held run (λ past over. IsSeat node w past over s)

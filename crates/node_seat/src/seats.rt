@@ -1,5 +1,5 @@
-//! A seat: a node with its trace and the ends of its links, whose type keeps that the trace is legal for the node alone, that
-//! the node is what it replays to, and in a run, what went over the links and where the node's journal stands.
+//! A seat: a node with its trace and the ends of its links. In a run its type keeps that the trace is legal for the node alone,
+//! that the node is what it replays to, what went over the links and where the node's journal stands.
 use crate::entering::enter;
 use crate::faults::RunFault;
 use crate::names::RunName;
@@ -24,7 +24,7 @@ pub struct Seat<N: Node, K: RunName> {
 
 impl<N: Node, K: RunName> Model for Seat<N, K> {
     ghost use Rattle.node_seat.specs.Seating.{Seated, seated_code, seated_of};
-    ghost use Rattle.node_seat.specs.Running.{IsSeat};
+    ghost use Rattle.node_seat.specs.Running.{KeepsSeat};
 
     ghost Value = { Seated N };
 
@@ -33,20 +33,20 @@ impl<N: Node, K: RunName> Model for Seat<N, K> {
     ghost view = { λ s. seated_of s.station };
 
     ghost invariant = { λ s.
-        IsSeat (N.state s.station.node) K.world K.past K.run (seated_of s.station) };
+        KeepsSeat (N.state s.station.node) K.world K.held K.run (seated_of s.station) };
 }
 
 impl<N: Node, K: RunName> Seat<N, K> {
     ghost use Rattle.std.specs.Prelude.{◌≡◌, [], true, OnOk};
     ghost use Rattle.node_seat.specs.Entering.{HasEntered};
-    ghost use Rattle.node_seat.specs.Keeping.{IsFresh, MayEnter};
-    ghost use Rattle.node_seat.specs.Running.{AreApart, AreUnused, CanServe, IsFreshIn, IsOfRun, IsSeat};
+    ghost use Rattle.node_seat.specs.Keeping.{MayEnter};
+    ghost use Rattle.node_seat.specs.Naming.{OverAll};
+    ghost use Rattle.node_seat.specs.Running.{AreApart, AreUnused, CanServe, IsFreshIn, IsOfRun, KeepsSeat};
     ghost use Rattle.node_seat.specs.Seating.{new_seat, traced_of};
     ghost use Rattle.node_seat.specs.Turns.{AnswersBegin, AnswersTurn, HasDisksToStop, IsUnmoved, MayTurn};
 
     /// A seat for a node of a replay that did nothing yet.
     pub fn new(alloc: Global, node: N) -> Seat<N, K>
-        requires fresh { IsFresh K.world K.past (N.state node) }
         ensures node { result.node ≡ node }
         ensures trace { result.trace ≡ [] }
     {
@@ -72,9 +72,10 @@ impl<N: Node, K: RunName> Seat<N, K> {
         takers: List<TakeSeat>,
         senders: List<SendSeat>,
     ) -> Seat<N, K>
-        requires fresh { IsFreshIn K.world K.past K.run (N.state node) }
+        requires fresh { OverAll K.held K.run (λ past over. IsFreshIn K.world past over (N.state node)) }
         requires serves { CanServe plan (N.state node) }
-        requires of_run { IsOfRun K.past K.run (N.state node) plan takers senders }
+        requires of_run { OverAll K.held K.run
+            (λ past over. IsOfRun past over (N.state node) plan takers senders) }
         requires apart { AreApart takers senders }
         requires unused { AreUnused takers senders }
         ensures { result ≡ new_seat true node plan takers senders }
@@ -162,7 +163,7 @@ impl<N: Node, K: RunName> Seat<N, K> {
         ensures trace { result.1 ≡ self.trace }
         ensures takers { result.2 ≡ self.takers }
         ensures senders { result.3 ≡ self.senders }
-        ensures keeps { IsSeat (N.state self.node) K.world K.past K.run self }
+        ensures keeps { KeepsSeat (N.state self.node) K.world K.held K.run self }
     {
         let Station {
             node,

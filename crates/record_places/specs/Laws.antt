@@ -10,8 +10,7 @@ use Rattle.local_tables.specs.Rows.{Database}
 use Rattle.local_tables.specs.declared.schemas.Effect.{Effect}
 use Rattle.durable_records.specs.declared.resources.ResourceRecord.TheVariants as log
 use Rattle.durable_records.specs.ResourceOrder.{image_keys, read_keys}
-use Rattle.resource_store.specs.Answers.{HasPlace}
-use Rattle.record_places.specs.Within.{AreKeysOf, AreTablesWithin, IsEffectWithin, IsFaultOf, IsStmtWithin}
+use Rattle.record_places.specs.Within.{AreKeysOf, AreTablesWithin, HasPlace, IsEffectWithin, IsFaultOf, IsStmtWithin}
 
 -- an effect of statements, on tables whose values have places
 abbrev pub EffectsHavePlaces : Type 0

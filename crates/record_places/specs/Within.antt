@@ -15,6 +15,8 @@ use Rattle.byte_fields.specs.Layout.{FitsImages, FitsKey, FitsReads, FitsText, F
 use Rattle.local_tables.specs.Rows.{AreRows, Database}
 use Rattle.local_tables.specs.declared.schemas.Effect.{Effect}
 use Rattle.local_tables.specs.declared.schemas.TableDef.{TableDef}
+use Rattle.durable_records.specs.declared.resources.ResourceRecord.{ResourceRecord}
+use Rattle.resource_log.specs.Records.{FitsRecord, record_bytes}
 
 -- ---- tables
 
@@ -61,6 +63,13 @@ pub record IsEffectWithin (e : Effect) : Type 0 where
   pub images : FitsImages e.images
   pub reads : FitsReads e.reads
   pub room : length (images_bytes e.images) + length (reads_bytes e.reads) + 64 ≤ BODY_BYTES
+
+-- ---- records
+
+-- a record has a place in a journal
+pub record HasPlace (r : ResourceRecord) : Type 0 where
+  pub fits : FitsRecord r
+  pub small : length (record_bytes r) ≤ BODY_BYTES
 
 -- ---- keys
 

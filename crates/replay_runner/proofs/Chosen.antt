@@ -33,6 +33,7 @@ short_at state r item ready =
 abbrev pub ready_at : {D K : Type 0} (state : D → DiskState) (r : Run D K) (item : Item) → Ready state r (item ∷ []) → IsAt state r
 ready_at state r item ready = record {
   s = ready.s;
+  held = ready.held;
   runnable = ready.runnable;
   ms = ready.ms;
   plays = ready.plays;
@@ -91,9 +92,9 @@ module _ {D K : Type 0} (state : D → DiskState) (r : Run D K) (n : ℕ) (names
       let under : r.messages.waiting < length ms = omega (arith, below, size) in
       let there = both_true (is_taken (r.messages.waiting + 1) ms) (is_some (the_letter (slice_get (letters ms) r.messages.waiting))) (sym (waits_is r.messages ms names.here.plays.messages r.messages.waiting under) ∙ waiting) in
       let (l, at) = some_letter (the_letter (slice_get (letters ms) r.messages.waiting)) there.1 in
-      let oldest = first_waits (world_of s) (items_of s) ms ms names.here.plays.follows r.messages.waiting under none_before l at there.0 in
+      let oldest = first_waits (world_of s) names.here.held.past (items_of s) ms ms names.here.plays.follows r.messages.waiting under none_before l at there.0 in
       let found : Found (r.messages.waiting + 1) ms (Some l) =
-      subst (λ k. Found k ms (Some l)) (sym (add-one r.messages.waiting)) (subst (Found (suc r.messages.waiting) ms) at (letters_from (world_of s) (items_of s) ms names.here.plays.follows r.messages.waiting)) in
+      subst (λ k. Found k ms (Some l)) (sym (add-one r.messages.waiting)) (subst (Found (suc r.messages.waiting) ms) at (letters_from (world_of s) names.here.held.past (items_of s) ms names.here.plays.follows r.messages.waiting)) in
       ap (or_turn (world_of s) ms) oldest ∙ sym (ap (λ k. named (world_of s) ms (DeliverOf k)) is ∙ ap (delivery (r.messages.waiting + 1)) found.0)
 
   -- the first message that waits is delivered
@@ -104,7 +105,7 @@ module _ {D K : Type 0} (state : D → DiskState) (r : Run D K) (n : ℕ) (names
   pub names_turn : (p : Place) → r.messages.waiting ≡ length r.messages.letters.items → p ≡ earliest ms place.Tc (places (world_of s)) → named (world_of s) ms (Auto n) ≡ named (world_of s) ms (TurnOf p)
   names_turn p all is =
       let size = ap length names.here.plays.messages.sent ∙ length-letters ms in
-      let none = none_waits (world_of s) (items_of s) ms ms names.here.plays.follows (λ k below. none_before k (omega (arith, below, all, size))) in
+      let none = none_waits (world_of s) names.here.held.past (items_of s) ms ms names.here.plays.follows (λ k below. none_before k (omega (arith, below, all, size))) in
       ap (or_turn (world_of s) ms) none ∙ ap (λ q. (q, Turn)) (sym is)
 
   -- where none waits, the node whose last turn is the earliest gets one
@@ -128,6 +129,7 @@ module _ {D K : Type 0} (state : D → DiskState) (old : Run D K) (kept : Messag
   looked = record {
     here = record {
       s = n.here.s;
+      held = n.here.held;
       runnable = n.here.runnable;
       ms = n.here.ms;
       plays = record {
@@ -140,6 +142,7 @@ module _ {D K : Type 0} (state : D → DiskState) (old : Run D K) (kept : Messag
         legal = n.here.plays.legal;
         follows = n.here.plays.follows;
         fits = n.here.plays.fits;
+        named = n.here.plays.named;
       };
       short = n.here.short;
       item = n.here.item;
@@ -160,4 +163,4 @@ module _ {D K : Type 0} (state : D → DiskState) (old : Run D K) (kept : Messag
   -- where none waits a turn is given
   abbrev pub looked_turns : (p : Place) → kept.waiting ≡ length old.messages.letters.items → IsEarliest state old.nodes p → Names state (moved old kept) (TurnOf p)
   looked_turns p all earliest =
-      auto_turns state (moved old kept) 1 looked p (all ∙ ap (λ v. length v.items) (sym sent)) (earliest n.here.s n.here.ms n.here.plays.nodes)
+      auto_turns state (moved old kept) 1 looked p (all ∙ ap (λ v. length v.items) (sym sent)) (earliest n.here.s n.here.held n.here.ms n.here.plays.nodes)

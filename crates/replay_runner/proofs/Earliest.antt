@@ -24,6 +24,7 @@ use Rattle.resource_core.specs.Shown as shown
 use Rattle.manager_core.specs.declared.nodes.Manager.{Manager}
 use Rattle.manager_core.specs.Laws.{lawful as manager_lawful}
 use Rattle.manager_core.specs.Standing as manager
+use Rattle.scenario_nodes.specs.Nodes.{Held}
 use Rattle.replay_runner.specs.declared.members.Member.{Member}
 use Rattle.replay_runner.specs.declared.nodes.Nodes.{Nodes}
 use Rattle.replay_runner.specs.Going.{NodesGo}
@@ -141,7 +142,7 @@ longest_is {D} {K} state n resources managers first second servers users one two
     (two ∙ ap (λ (l : List (Member Manager K)). earliest_of first (turns manager.node_state l)) users
     ∙ ap (λ (t : Place × ℕ). earliest_of t (turns manager.node_state n.managers.items)) (one ∙ ap (λ (l : List (Member (Resource D) K)). earliest_of (stamped_at place.Tc n.coordinator.turned) (turns (resource.node_state state) l)) servers))
 
-module _ {D K : Type 0} (state : D → DiskState) (s : Scenario) (n : Nodes D K) (ms : List Moment) (t : AreNodes state s n ms) where
+module _ {D K : Type 0} (state : D → DiskState) (s : Scenario) (held : Held) (n : Nodes D K) (ms : List Moment) (t : AreNodes state s held n ms) where
   module _ (k : ℕ) (m : Member (Resource D) K) (here : slice_get n.resources.items k ≡ Some m) where
     resource_def : (def : ResourceDef) × (slice_get s.resources k ≡ Some def)
     resource_def = member_at s.resources k (let within = slice_get_within n.resources.items k m here in let count = t.resources in omega (arith, within, count))
@@ -149,11 +150,11 @@ module _ {D K : Type 0} (state : D → DiskState) (s : Scenario) (n : Nodes D K)
     resource_turn : (slice_get (map resource_place (resources_of s)) k ≡ Some (shown.stands_at m.seat.node)) × (m.turned ≡ last_turn ms (shown.stands_at m.seat.node))
     resource_turn =
         let (def, there) = resource_def in
-        let (x, found, is) = t.each (place.Res (k + 1)) (ResourceRole (setup_of s (k + 1) def) []) (role_of_resource s k def there) in
+        let (x, found, is) = t.each (place.Res (k + 1)) (ResourceRole (setup_of s (k + 1) def) (held.past.resource (k + 1))) (role_of_resource s held.past k def there) in
         let same : x ≡ m = same_Some x m (sym found ∙ counted_next n.resources.items k ∙ here) in
         let stands : shown.stands_at m.seat.node ≡ place.Res (k + 1) =
         ap (λ (y : Member (Resource D) K). shown.stands_at y.seat.node) (sym same)
-        ∙ (resource_lawful state x.seat.node).tells.places (ResourceRole (setup_of s (k + 1) def) []) (own (place.Res (k + 1)) ms) is.member.stands in
+        ∙ (resource_lawful state x.seat.node).tells.places (ResourceRole (setup_of s (k + 1) def) (held.past.resource (k + 1))) (own (place.Res (k + 1)) ms) is.member.stands in
         let listed : slice_get (map resource_place (resources_of s)) k ≡ Some (place.Res (k + 1)) =
         get_map resource_place (resources_of s) k ∙ ap (option_map resource_place) (resource_there s k ∙ ap (option_map (setup_of s (k + 1))) there) in
         (listed ∙ ap (λ p. Some p) (sym stands), ap (λ (y : Member (Resource D) K). y.turned) (sym same) ∙ is.member.turned ∙ ap (last_turn ms) (sym stands))
@@ -165,7 +166,7 @@ module _ {D K : Type 0} (state : D → DiskState) (s : Scenario) (n : Nodes D K)
     manager_turn : (slice_get (map manager_place (managers_from s.lock_tries 1 s.managers)) k ≡ Some (manager.node_state m.seat.node).place) × (m.turned ≡ last_turn ms (manager.node_state m.seat.node).place)
     manager_turn =
         let (def, there) = manager_def in
-        let (x, found, is) = t.each (place.Man (k + 1)) (ManagerRole (settings_of s.lock_tries (k + 1) def)) (role_of_manager s k def there) in
+        let (x, found, is) = t.each (place.Man (k + 1)) (ManagerRole (settings_of s.lock_tries (k + 1) def)) (role_of_manager s held.past k def there) in
         let same : x ≡ m = same_Some x m (sym found ∙ counted_next n.managers.items k ∙ here) in
         let stands : (manager.node_state m.seat.node).place ≡ place.Man (k + 1) =
         ap (λ (y : Member Manager K). (manager.node_state y.seat.node).place) (sym same)
@@ -197,7 +198,7 @@ module _ {D K : Type 0} (state : D → DiskState) (s : Scenario) (n : Nodes D K)
       ∙ ap (λ p. earliest ms p (rs ++ users)) (sym (either_is (nat_lt (last_turn ms place.Tc) (last_turn ms place.Tc)) place.Tc))
     where
       coordinator_turned : n.coordinator.turned ≡ last_turn ms place.Tc
-      coordinator_turned = (t.each place.Tc (CoordinatorRole (times_of s) []) refl).member.turned
+      coordinator_turned = (t.each place.Tc (CoordinatorRole (times_of s) held.past.sessions) refl).member.turned
 
 -- it stands at one of the places
 module _ {D K : Type 0} (state : D → DiskState) (n : Nodes D K) (stamp now : ℕ) (g : NodesGo (length n.managers.items) (length n.resources.items) stamp now n) where

@@ -1,7 +1,6 @@
 -- What an entry adds to a history, and how the replay ends where one isn't made.
 use Rattle.std.proofs.Common.{inl, inr, ◌≡◌, ◌⊎◌, ◌+◌, ◌≤◌, ℕ, List, ◌∷◌, length, slice_get, Option, Some, Err, refl, ap, sym, subst, ◌∙◌, arith}
 use Rattle.disk_model.specs.Disk.{DiskState}
-use Rattle.journal_checkpoint.specs.Extents.{blank}
 use Rattle.journal_checkpoint.specs.Images.{Pair}
 use Rattle.seata_types.specs.declared.ids.Place.{Place}
 use Rattle.seata_types.specs.declared.ids.Place.TheVariants as place
@@ -9,7 +8,7 @@ use Rattle.seata_types.specs.declared.messages.Input.{Input}
 use Rattle.seata_types.specs.declared.messages.Step.{Step}
 use Rattle.scenario_form.specs.declared.scenarios.Scenario.{Scenario}
 use Rattle.history_rules.specs.Own.{Event}
-use Rattle.history_rules.specs.Nodes.{Happens, Role, no_past, role_at}
+use Rattle.history_rules.specs.Nodes.{Happens, Role, role_at}
 use Rattle.history_rules.specs.Histories.{Moment, HappensAt, IsDone, ReceivesLater, Stands, brings, own}
 use Rattle.history_rules.specs.Histories.{Cause as Reason}
 use Rattle.history_rules.specs.Schedules.{IsStep, singles}
@@ -20,6 +19,7 @@ use Rattle.history_text.specs.Worlds.{items_of, world_of}
 use Rattle.node_seat.specs.Faults.{Blames}
 use Rattle.node_seat.specs.declared.faults.RunFault.{RunFault}
 use Rattle.node_seat.specs.declared.faults.RunFault.TheVariants as fault
+use Rattle.scenario_nodes.specs.Nodes.{Held}
 use Rattle.replay_runner.specs.declared.runs.Run.{Run}
 use Rattle.replay_runner.specs.Ends.{IsCause, StopsAt}
 use Rattle.replay_runner.specs.Entering.{Comes, Entered, Unmade}
@@ -32,35 +32,35 @@ use Rattle.replay_runner.proofs.Printed.{length-places}
 
 -- ---- one moment more
 
-module _ {D K : Type 0} (state : D → DiskState) (s : Scenario) (r : Run D K) (ms : List Moment) (t : Plays state s r ms) where
+module _ {D K : Type 0} (state : D → DiskState) (s : Scenario) (held : Held) (r : Run D K) (ms : List Moment) (t : Plays state s held r ms) where
   pub rising : (p : Place) (now : ℕ) (why : Reason) (event : Option Event) (step : Step) → r.clock ≤ now
-      → ReceivesLater why (length ms + 1) → event ≡ brings ms p why → IsDone (world_of s) no_past ms (next ms p now why event step) event
-      → Stands (world_of s) no_past ms (next ms p now why event step)
+      → ReceivesLater why (length ms + 1) → event ≡ brings ms p why → IsDone (world_of s) held.past ms (next ms p now why event step) event
+      → Stands (world_of s) held.past ms (next ms p now why event step)
   rising p now why event step later above brought done = record {
-    rises = rises_after (world_of s) (items_of s) ms (next ms p now why event step) t.follows refl;
+    rises = rises_after (world_of s) held.past (items_of s) ms (next ms p now why event step) t.follows refl;
     receives_later = above;
-    clock_rises = λ at. let le = last_now-le (world_of s) (items_of s) place.Tc ms t.follows in let now_is = t.clocked in omega (arith, le, now_is, later);
+    clock_rises = λ at. let le = last_now-le (world_of s) held.past (items_of s) place.Tc ms t.follows in let now_is = t.clocked in omega (arith, le, now_is, later);
     brought = brought;
     done = done;
   }
 
 -- what stands at a place has a place for its record
-fits_at : (s : Scenario) (ms : List Moment) (role : Role) (p : Place) (now : ℕ) (why : Reason) (event : Event) (step : Step) → role_at (world_of s) no_past p ≡ Some role
-    → EntryFits role blank s.disk (own p ms) (own_entry event now step)
-    → MomentFits (role_at (world_of s) no_past p) (Some event) blank s.disk (own p ms) (next ms p now why (Some event) step)
-fits_at s ms role p now why event step there fits = subst (λ (o : Option Role). MomentFits o (Some event) blank s.disk (own p ms) (next ms p now why (Some event) step)) (sym there) fits
+fits_at : (s : Scenario) (held : Held) (ms : List Moment) (role : Role) (p : Place) (now : ℕ) (why : Reason) (event : Event) (step : Step) → role_at (world_of s) held.past p ≡ Some role
+    → EntryFits role (held.starts p) s.disk (own p ms) (own_entry event now step)
+    → MomentFits (role_at (world_of s) held.past p) (Some event) (held.starts p) s.disk (own p ms) (next ms p now why (Some event) step)
+fits_at s held ms role p now why event step there fits = subst (λ (o : Option Role). MomentFits o (Some event) (held.starts p) s.disk (own p ms) (next ms p now why (Some event) step)) (sym there) fits
 
 -- a cause that stops the replay
-cause_is : (s : Scenario) (ms : List Moment) (disks : Place → Pair) (missed : RunFault) → StopsAt s ms disks missed → IsCause s ms disks missed
-cause_is s ms disks fault.NoMemory stops = tt
-cause_is s ms disks (fault.Store q) stops = stops
-cause_is s ms disks (fault.Full q full) stops = stops
-cause_is s ms disks (fault.Damaged q second offset) stops = stops
-cause_is s ms disks fault.Other stops = stops
+cause_is : (s : Scenario) (held : Held) (ms : List Moment) (disks : Place → Pair) (missed : RunFault) → StopsAt s held ms disks missed → IsCause s held ms disks missed
+cause_is s held ms disks fault.NoMemory stops = tt
+cause_is s held ms disks (fault.Store q) stops = stops
+cause_is s held ms disks (fault.Full q full) stops = stops
+cause_is s held ms disks (fault.Damaged q second offset) stops = stops
+cause_is s held ms disks fault.Other stops = stops
 
 -- want of memory is free
-pub memory_ends : (s : Scenario) (ms : List Moment) (disks : Place → Pair) (missed : RunFault) → missed ≡ fault.NoMemory → IsCause s ms disks missed
-memory_ends s ms disks missed is = subst (IsCause s ms disks) (sym is) tt
+pub memory_ends : (s : Scenario) (held : Held) (ms : List Moment) (disks : Place → Pair) (missed : RunFault) → missed ≡ fault.NoMemory → IsCause s held ms disks missed
+memory_ends s held ms disks missed is = subst (IsCause s held ms disks) (sym is) tt
 
 module _ {D K : Type 0} (state : D → DiskState) (r : Run D K) (p : Place) (printed : Cause) (given : Option Input) (b : Brings state r p printed given) where
   abbrev history : List Moment
@@ -69,22 +69,22 @@ module _ {D K : Type 0} (state : D → DiskState) (r : Run D K) (p : Place) (pri
   is_item : slice_get (singles (items_of b.here.s)) (length history) ≡ Some b.here.item
   is_item = drop_first (singles (items_of b.here.s)) (length history) b.here.item b.here.rest b.here.is_next
 
-  pub stands_next : (step : Step) → Happens b.role (own p history) r.clock b.event step → Stands (world_of b.here.s) no_past history (moment_made state r p printed given b step)
+  pub stands_next : (step : Step) → Happens b.role (own p history) r.clock b.event step → Stands (world_of b.here.s) b.here.held.past history (moment_made state r p printed given b step)
   stands_next step happens =
-      rising state b.here.s r history b.here.plays p r.clock b.why (Some b.event) step (omega arith) b.later b.brought
+      rising state b.here.s b.here.held r history b.here.plays p r.clock b.why (Some b.event) step (omega arith) b.later b.brought
       (subst (λ o. HappensAt o (own p history) r.clock b.event step) (sym b.there) happens)
 
-  pub is_step_next : (step : Step) → IsStep (world_of b.here.s) no_past history (moment_made state r p printed given b step) (slice_get (singles (items_of b.here.s)) (length history))
+  pub is_step_next : (step : Step) → IsStep (world_of b.here.s) b.here.held.past history (moment_made state r p printed given b step) (slice_get (singles (items_of b.here.s)) (length history))
   is_step_next step =
-      subst (IsStep (world_of b.here.s) no_past history (moment_made state r p printed given b step)) (sym is_item)
+      subst (IsStep (world_of b.here.s) b.here.held.past history (moment_made state r p printed given b step)) (sym is_item)
       (refl, (let now_is = b.here.plays.clocked in let still = b.still in omega (arith, now_is, still)), sym b.names)
 
   -- its record had a place
-  pub fits_next : (step : Step) → EntryFits b.role blank b.here.s.disk (own p history) (own_entry b.event r.clock step)
-      → MomentFits (role_at (world_of b.here.s) no_past p) (Some b.event) blank b.here.s.disk (own p history) (moment_made state r p printed given b step)
-  fits_next step fits = fits_at b.here.s history b.role p r.clock b.why b.event step b.there fits
+  pub fits_next : (step : Step) → EntryFits b.role (b.here.held.starts p) b.here.s.disk (own p history) (own_entry b.event r.clock step)
+      → MomentFits (role_at (world_of b.here.s) b.here.held.past p) (Some b.event) (b.here.held.starts p) b.here.s.disk (own p history) (moment_made state r p printed given b step)
+  fits_next step fits = fits_at b.here.s b.here.held history b.role p r.clock b.why b.event step b.there fits
 
-  next_event : IsNextEvent b.here.s history p r.clock b.event
+  next_event : IsNextEvent b.here.s b.here.held.past history p r.clock b.event
   next_event = record {
     item = b.here.item;
     is_next = is_item;
@@ -98,6 +98,7 @@ module _ {D K : Type 0} (state : D → DiskState) (r : Run D K) (p : Place) (pri
   abbrev pub among_nodes : (stamp : ℕ) → stamp ≡ length r.places.items + 1 → Comes state r.nodes stamp p printed given
   among_nodes stamp is = record {
     s = b.here.s;
+    held = b.here.held;
     ms = history;
     nodes = b.here.plays.nodes;
     stamped = let size = ap length b.here.plays.standing ∙ length-places history in omega (arith, size, is);
@@ -111,12 +112,12 @@ module _ {D K : Type 0} (state : D → DiskState) (r : Run D K) (p : Place) (pri
   }
 
   -- no entry was made
-  ends_here : (new : Run D K) (missed : RunFault) → Unmade state b.here.s new.nodes history p b.role r.clock b.event missed → Ends state b.here.s new missed
+  ends_here : (new : Run D K) (missed : RunFault) → Unmade state b.here.s b.here.held new.nodes history p b.role r.clock b.event missed → Ends state b.here.s b.here.held new missed
   ends_here new missed u = record { history = history; legal = b.here.plays.legal; follows = b.here.plays.follows; fits = b.here.plays.fits; stands = u.stands; cause = by u.cause }
     where
-      by : (missed ≡ fault.NoMemory) ⊎ Blames p b.role blank b.here.s.disk (own p history) r.clock b.event (disks_at state new.nodes p) missed → IsCause b.here.s history (disks_at state new.nodes) missed
-      by (inl is) = memory_ends b.here.s history (disks_at state new.nodes) missed is
-      by (inr blames) = cause_is b.here.s history (disks_at state new.nodes) missed (record {
+      by : (missed ≡ fault.NoMemory) ⊎ Blames p b.role (b.here.held.starts p) b.here.s.disk (own p history) r.clock b.event (disks_at state new.nodes p) missed → IsCause b.here.s b.here.held history (disks_at state new.nodes) missed
+      by (inl is) = memory_ends b.here.s b.here.held history (disks_at state new.nodes) missed is
+      by (inr blames) = cause_is b.here.s b.here.held history (disks_at state new.nodes) missed (record {
         at = p;
         role = b.role;
         there = b.there;
@@ -127,20 +128,20 @@ module _ {D K : Type 0} (state : D → DiskState) (r : Run D K) (p : Place) (pri
       })
 
   -- one was made, and memory was refused
-  pub ends_later : (new : Run D K) (missed : RunFault) (step : Step) → Happens b.role (own p history) r.clock b.event step → EntryFits b.role blank b.here.s.disk (own p history) (own_entry b.event r.clock step)
-      → AllStand state b.here.s new.nodes (moment_made state r p printed given b step ∷ history)
-      → missed ≡ fault.NoMemory → Ends state b.here.s new missed
+  pub ends_later : (new : Run D K) (missed : RunFault) (step : Step) → Happens b.role (own p history) r.clock b.event step → EntryFits b.role (b.here.held.starts p) b.here.s.disk (own p history) (own_entry b.event r.clock step)
+      → AllStand state b.here.s b.here.held new.nodes (moment_made state r p printed given b step ∷ history)
+      → missed ≡ fault.NoMemory → Ends state b.here.s b.here.held new missed
   ends_later new missed step happens fits stands is = record {
     history = moment_made state r p printed given b step ∷ history;
     legal = (b.here.plays.legal, stands_next step happens);
     follows = (b.here.plays.follows, is_step_next step);
     fits = (b.here.plays.fits, fits_next step fits);
     stands = stands;
-    cause = memory_ends b.here.s (moment_made state r p printed given b step ∷ history) (disks_at state new.nodes) missed is;
+    cause = memory_ends b.here.s b.here.held (moment_made state r p printed given b step ∷ history) (disks_at state new.nodes) missed is;
   }
 
   -- either
   pub ends_unentered : (new : Run D K) (missed : RunFault) (stamp : ℕ) (is : stamp ≡ length r.places.items + 1) → Entered state r.nodes new.nodes stamp r.clock p printed given (among_nodes stamp is) (Err missed)
-      → Ends state b.here.s new missed
+      → Ends state b.here.s b.here.held new missed
   ends_unentered new missed stamp is (inl u) = ends_here new missed u
   ends_unentered new missed stamp is (inr u) = ends_later new missed u.step u.happens u.fits u.stands u.memory

@@ -5,14 +5,14 @@ use Rattle.std.proofs.lemmas.Option.{same_Some}
 use Rattle.std.specs.Prelude.{Vec}
 use Rattle.std.specs.declared.alloc.Global.{Global}
 use Rattle.disk_model.specs.Disk.{DiskState}
-use Rattle.journal_checkpoint.specs.Extents.{blank}
+use Rattle.journal_checkpoint.specs.Extents.{Extent}
 use Rattle.seata_types.specs.declared.ids.Place.{Place}
 use Rattle.seata_types.specs.declared.ids.Place.TheVariants as place
 use Rattle.seata_types.specs.declared.messages.Step.{Step}
 use Rattle.scenario_form.specs.declared.scenarios.Scenario.{Scenario}
 use Rattle.history_rules.specs.Own.{Event}
 use Rattle.history_rules.specs.Devices.{last_pick}
-use Rattle.history_rules.specs.Nodes.{Role, Happens, counted_at, no_past, role_at}
+use Rattle.history_rules.specs.Nodes.{Role, Happens, counted_at, role_at}
 use Rattle.history_rules.specs.Histories.{Moment, own, same_place, Turn, Deliver, Missing, Wait, Stop, Crash, Restart, Local, Outside}
 use Rattle.history_rules.specs.Histories.{Cause as Reason}
 use Rattle.history_rules.specs.Schedules.{last_turn, turn_at}
@@ -29,6 +29,7 @@ use Rattle.manager_core.specs.Standing as manager
 use Rattle.node_seat.specs.Entering.{HaveLast, IsTold, entry_at}
 use Rattle.node_seat.specs.declared.faults.RunFault.{RunFault}
 use Rattle.node_seat.proofs.Kept.{told_all}
+use Rattle.scenario_nodes.specs.Nodes.{Held}
 use Rattle.replay_runner.specs.declared.members.Member.{Member}
 use Rattle.replay_runner.specs.declared.messages.Letter.{Letter}
 use Rattle.replay_runner.specs.declared.nodes.Nodes.{Nodes}
@@ -99,24 +100,24 @@ module _ {N K : Type 0} (state : N → NodeState) (p : Place) (role : Role) wher
 
 -- ---- a node with disks
 
-module _ {N K : Type 0} (state : N → NodeState) (p : Place) (role : Role) (bytes : ℕ) where
-  pub server_stays : (member : Member N K) (ms : List Moment) (m : Moment) → same_place p m.place ≡ false → IsServer state p role bytes member ms → IsServer state p role bytes member (m ∷ ms)
+module _ {N K : Type 0} (state : N → NodeState) (p : Place) (role : Role) (begun : Extent) (bytes : ℕ) where
+  pub server_stays : (member : Member N K) (ms : List Moment) (m : Moment) → same_place p m.place ≡ false → IsServer state p role begun bytes member ms → IsServer state p role begun bytes member (m ∷ ms)
   server_stays member ms m away k = record {
     member = member_stays state p role member ms m away k.member;
-    lies = subst ((state member.seat.node).lies role blank bytes) (sym (own_there p m ms away)) k.lies;
+    lies = subst ((state member.seat.node).lies role begun bytes) (sym (own_there p m ms away)) k.lies;
     told = k.told;
     picked = subst (λ os. HaveLast (last_pick os) (state member.seat.node).disks) (sym (own_there p m ms away)) k.picked;
     sized = k.sized;
   }
 
-  pub server_enters : (old new : Member N K) (ms : List Moment) (now : ℕ) (why : Reason) (event : Event) (step : Step) (letter : Option Letter) → IsServer state p role bytes old ms
+  pub server_enters : (old new : Member N K) (ms : List Moment) (now : ℕ) (why : Reason) (event : Event) (step : Step) (letter : Option Letter) → IsServer state p role begun bytes old ms
       → (state old.seat.node).place ≡ p → StaysItself (state old.seat.node) (state new.seat.node) → Makes state old new (length ms + 1) now (cause_of why) event step (Ok letter)
-      → IsServer state p role bytes new (next ms p now why (Some event) step ∷ ms)
+      → IsServer state p role begun bytes new (next ms p now why (Some event) step ∷ ms)
   server_enters old new ms now why event step letter k here same e =
       let told = told_all (state old.seat.node).disks event k.told in
       record {
         member = member_enters state p role old new ms now why event step letter k.member here told e;
-        lies = subst ((state new.seat.node).lies role blank bytes) (sym (own_next p ms now why event step)) (e.does.lies told role (own p ms) k.member.stands blank bytes k.lies).1;
+        lies = subst ((state new.seat.node).lies role begun bytes) (sym (own_next p ms now why event step)) (e.does.lies told role (own p ms) k.member.stands begun bytes k.lies).1;
         told = record { first = same.first.tells_images ∙ k.told.first; second = same.second.tells_images ∙ k.told.second };
         picked = subst (λ os. HaveLast (last_pick os) (state new.seat.node).disks) (sym (own_next p ms now why event step)) (e.does.picked told role (own p ms) k.member.stands k.picked);
         sized = record { first = same.first.size ∙ k.sized.first; second = same.second.size ∙ k.sized.second };
@@ -128,22 +129,22 @@ no_role : (role : Role) → None ≡ Some role → ⊥
 no_role role e = let no : None ≡ Some role = e in cc
 
 -- they stand for their own entries
-pub all_stand : {D K : Type 0} (state : D → DiskState) (s : Scenario) (n : Nodes D K) (ms : List Moment) → AreNodes state s n ms → AllStand state s n ms
-all_stand state s n ms t place.Net role e = absurd (no_role role e)
-all_stand state s n ms t place.Tc role e = let is = t.each place.Tc role e in record { stands = is.member.stands; sized = is.sized }
-all_stand state s n ms t (place.Res k) role e = let (m, there, is) = t.each (place.Res k) role e in (m, there, record { stands = is.member.stands; sized = is.sized })
-all_stand state s n ms t (place.Man k) role e = let (m, there, is) = t.each (place.Man k) role e in (m, there, is.stands)
+pub all_stand : {D K : Type 0} (state : D → DiskState) (s : Scenario) (held : Held) (n : Nodes D K) (ms : List Moment) → AreNodes state s held n ms → AllStand state s held n ms
+all_stand state s held n ms t place.Net role e = absurd (no_role role e)
+all_stand state s held n ms t place.Tc role e = let is = t.each place.Tc role e in record { stands = is.member.stands; sized = is.sized }
+all_stand state s held n ms t (place.Res k) role e = let (m, there, is) = t.each (place.Res k) role e in (m, there, record { stands = is.member.stands; sized = is.sized })
+all_stand state s held n ms t (place.Man k) role e = let (m, there, is) = t.each (place.Man k) role e in (m, there, is.stands)
 
 -- an entry elsewhere
-pub nodes_net : {D K : Type 0} (state : D → DiskState) (s : Scenario) (n : Nodes D K) (ms : List Moment) (m : Moment) → m.place ≡ place.Net → AreNodes state s n ms → AreNodes state s n (m ∷ ms)
-nodes_net {D} {K} state s n ms m here t = record { resources = t.resources; managers = t.managers; each = by }
+pub nodes_net : {D K : Type 0} (state : D → DiskState) (s : Scenario) (held : Held) (n : Nodes D K) (ms : List Moment) (m : Moment) → m.place ≡ place.Net → AreNodes state s held n ms → AreNodes state s held n (m ∷ ms)
+nodes_net {D} {K} state s held n ms m here t = record { resources = t.resources; managers = t.managers; each = by }
   where
-    by : (p : Place) (role : Role) → role_at (world_of s) no_past p ≡ Some role → HasNode state s.disk n (m ∷ ms) p role
+    by : (p : Place) (role : Role) → role_at (world_of s) held.past p ≡ Some role → HasNode state held s.disk n (m ∷ ms) p role
     by place.Net role e = absurd (no_role role e)
-    by place.Tc role e = server_stays (coordinator.node_state state) place.Tc role s.disk n.coordinator ms m (ap (same_place place.Tc) here) (t.each place.Tc role e)
+    by place.Tc role e = server_stays (coordinator.node_state state) place.Tc role (held.starts place.Tc) s.disk n.coordinator ms m (ap (same_place place.Tc) here) (t.each place.Tc role e)
     by (place.Res k) role e =
         let (x, there, is) = t.each (place.Res k) role e in
-        (x, there, server_stays (resource.node_state state) (place.Res k) role s.disk x ms m (ap (same_place (place.Res k)) here) is)
+        (x, there, server_stays (resource.node_state state) (place.Res k) role (held.starts (place.Res k)) s.disk x ms m (ap (same_place (place.Res k)) here) is)
     by (place.Man k) role e =
         let (x, there, is) = t.each (place.Man k) role e in
         (x, there, member_stays manager.node_state (place.Man k) role x ms m (ap (same_place (place.Man k)) here) is)
@@ -153,23 +154,23 @@ nodes_net {D} {K} state s n ms m here t = record { resources = t.resources; mana
 abbrev pub with_coordinator : {D K : Type 0} → Nodes D K → Member (Coordinator D) K → Nodes D K
 with_coordinator n new = record { coordinator = new; resources = n.resources; managers = n.managers }
 
-module _ {D K : Type 0} (state : D → DiskState) (s : Scenario) (old : Nodes D K) (new : Member (Coordinator D) K) (role : Role) (there : role_at (world_of s) no_past place.Tc ≡ Some role) where
-  pub nodes_coordinator : (ms : List Moment) (m : Moment) → m.place ≡ place.Tc → AreNodes state s old ms
-      → IsServer (coordinator.node_state state) place.Tc role s.disk new (m ∷ ms) → AreNodes state s (with_coordinator old new) (m ∷ ms)
+module _ {D K : Type 0} (state : D → DiskState) (s : Scenario) (held : Held) (old : Nodes D K) (new : Member (Coordinator D) K) (role : Role) (there : role_at (world_of s) held.past place.Tc ≡ Some role) where
+  pub nodes_coordinator : (ms : List Moment) (m : Moment) → m.place ≡ place.Tc → AreNodes state s held old ms
+      → IsServer (coordinator.node_state state) place.Tc role (held.starts place.Tc) s.disk new (m ∷ ms) → AreNodes state s held (with_coordinator old new) (m ∷ ms)
   nodes_coordinator ms m here t made = record { resources = t.resources; managers = t.managers; each = by }
     where
-      by : (p : Place) (other : Role) → role_at (world_of s) no_past p ≡ Some other → HasNode state s.disk (with_coordinator old new) (m ∷ ms) p other
+      by : (p : Place) (other : Role) → role_at (world_of s) held.past p ≡ Some other → HasNode state held s.disk (with_coordinator old new) (m ∷ ms) p other
       by place.Net other e = absurd (no_role other e)
-      by place.Tc other e = subst (λ r. IsServer (coordinator.node_state state) place.Tc r s.disk new (m ∷ ms)) (same_Some role other (sym there ∙ e)) made
+      by place.Tc other e = subst (λ r. IsServer (coordinator.node_state state) place.Tc r (held.starts place.Tc) s.disk new (m ∷ ms)) (same_Some role other (sym there ∙ e)) made
       by (place.Res k) other e =
           let (x, placed, is) = t.each (place.Res k) other e in
-          (x, placed, server_stays (resource.node_state state) (place.Res k) other s.disk x ms m (ap (same_place (place.Res k)) here) is)
+          (x, placed, server_stays (resource.node_state state) (place.Res k) other (held.starts (place.Res k)) s.disk x ms m (ap (same_place (place.Res k)) here) is)
       by (place.Man k) other e =
           let (x, placed, is) = t.each (place.Man k) other e in
           (x, placed, member_stays manager.node_state (place.Man k) other x ms m (ap (same_place (place.Man k)) here) is)
 
-  pub stand_coordinator : (ms os : List Moment) → ((p : Place) → same_place p place.Tc ≡ false → own p os ≡ own p ms) → AreNodes state s old ms
-      → StandsOn s.disk (coordinator.node_state state new.seat.node) role (own place.Tc os) → AllStand state s (with_coordinator old new) os
+  pub stand_coordinator : (ms os : List Moment) → ((p : Place) → same_place p place.Tc ≡ false → own p os ≡ own p ms) → AreNodes state s held old ms
+      → StandsOn s.disk (coordinator.node_state state new.seat.node) role (own place.Tc os) → AllStand state s held (with_coordinator old new) os
   stand_coordinator ms os elsewhere t made place.Net other e = absurd (no_role other e)
   stand_coordinator ms os elsewhere t made place.Tc other e =
       subst (λ r. StandsOn s.disk (coordinator.node_state state new.seat.node) r (own place.Tc os)) (same_Some role other (sym there ∙ e)) made
@@ -185,57 +186,57 @@ module _ {D K : Type 0} (state : D → DiskState) (s : Scenario) (old : Nodes D 
 abbrev pub with_resources : {D K : Type 0} → Nodes D K → Vec (Member (Resource D) K) Global → Nodes D K
 with_resources n resources = record { coordinator = n.coordinator; resources = resources; managers = n.managers }
 
-module _ {D K : Type 0} (state : D → DiskState) (s : Scenario) (old : Nodes D K) (n : ℕ) (before new : Member (Resource D) K) (resources : Vec (Member (Resource D) K) Global)
+module _ {D K : Type 0} (state : D → DiskState) (s : Scenario) (held : Held) (old : Nodes D K) (n : ℕ) (before new : Member (Resource D) K) (resources : Vec (Member (Resource D) K) Global)
     (placed : counted_at old.resources.items n ≡ Some before) (changed : resources.items ≡ set old.resources.items (n - 1) new)
-    (role : Role) (there : role_at (world_of s) no_past (place.Res n) ≡ Some role) where
+    (role : Role) (there : role_at (world_of s) held.past (place.Res n) ≡ Some role) where
   same_there : counted_at resources.items n ≡ Some new
   same_there = ap (λ l. counted_at l n) changed ∙ counted_set old.resources.items n new before placed
 
   other_there : (k : ℕ) → k ≢ n → counted_at resources.items k ≡ counted_at old.resources.items k
   other_there k apart = ap (λ l. counted_at l k) changed ∙ counted_elsewhere old.resources.items n k new (counted_low old.resources.items n before placed) apart
 
-  pub nodes_resource : (ms : List Moment) (m : Moment) → m.place ≡ place.Res n → AreNodes state s old ms
-      → IsServer (resource.node_state state) (place.Res n) role s.disk new (m ∷ ms) → AreNodes state s (with_resources old resources) (m ∷ ms)
+  pub nodes_resource : (ms : List Moment) (m : Moment) → m.place ≡ place.Res n → AreNodes state s held old ms
+      → IsServer (resource.node_state state) (place.Res n) role (held.starts (place.Res n)) s.disk new (m ∷ ms) → AreNodes state s held (with_resources old resources) (m ∷ ms)
   nodes_resource ms m here t made = record { resources = ap length changed ∙ length-set old.resources.items (n - 1) new ∙ t.resources; managers = t.managers; each = by }
     where
-      this : (other : Role) → role_at (world_of s) no_past (place.Res n) ≡ Some other → HasNode state s.disk (with_resources old resources) (m ∷ ms) (place.Res n) other
-      this other e = (new, same_there, subst (λ r. IsServer (resource.node_state state) (place.Res n) r s.disk new (m ∷ ms)) (same_Some role other (sym there ∙ e)) made)
+      this : (other : Role) → role_at (world_of s) held.past (place.Res n) ≡ Some other → HasNode state held s.disk (with_resources old resources) (m ∷ ms) (place.Res n) other
+      this other e = (new, same_there, subst (λ r. IsServer (resource.node_state state) (place.Res n) r (held.starts (place.Res n)) s.disk new (m ∷ ms)) (same_Some role other (sym there ∙ e)) made)
 
-      at_number : (k : ℕ) (b : Bool) → nat_eq k n ≡ b → (other : Role) → role_at (world_of s) no_past (place.Res k) ≡ Some other
-          → HasNode state s.disk (with_resources old resources) (m ∷ ms) (place.Res k) other
+      at_number : (k : ℕ) (b : Bool) → nat_eq k n ≡ b → (other : Role) → role_at (world_of s) held.past (place.Res k) ≡ Some other
+          → HasNode state held s.disk (with_resources old resources) (m ∷ ms) (place.Res k) other
       at_number k true is other e =
           let same : n ≡ k = grind (arith, nat_tests) in
-          subst (λ j. (o : Role) → role_at (world_of s) no_past (place.Res j) ≡ Some o → HasNode state s.disk (with_resources old resources) (m ∷ ms) (place.Res j) o) same this other e
+          subst (λ j. (o : Role) → role_at (world_of s) held.past (place.Res j) ≡ Some o → HasNode state held s.disk (with_resources old resources) (m ∷ ms) (place.Res j) o) same this other e
       at_number k false is other e =
           let apart : k ≢ n = grind (arith, nat_tests) in
           let (x, found, kept) = t.each (place.Res k) other e in
-          (x, other_there k apart ∙ found, server_stays (resource.node_state state) (place.Res k) other s.disk x ms m (ap (same_place (place.Res k)) here ∙ is) kept)
+          (x, other_there k apart ∙ found, server_stays (resource.node_state state) (place.Res k) other (held.starts (place.Res k)) s.disk x ms m (ap (same_place (place.Res k)) here ∙ is) kept)
 
-      by : (p : Place) (other : Role) → role_at (world_of s) no_past p ≡ Some other → HasNode state s.disk (with_resources old resources) (m ∷ ms) p other
+      by : (p : Place) (other : Role) → role_at (world_of s) held.past p ≡ Some other → HasNode state held s.disk (with_resources old resources) (m ∷ ms) p other
       by place.Net other e = absurd (no_role other e)
-      by place.Tc other e = server_stays (coordinator.node_state state) place.Tc other s.disk old.coordinator ms m (ap (same_place place.Tc) here) (t.each place.Tc other e)
+      by place.Tc other e = server_stays (coordinator.node_state state) place.Tc other (held.starts place.Tc) s.disk old.coordinator ms m (ap (same_place place.Tc) here) (t.each place.Tc other e)
       by (place.Res k) other e = at_number k (nat_eq k n) refl other e
       by (place.Man k) other e =
           let (x, found, kept) = t.each (place.Man k) other e in
           (x, found, member_stays manager.node_state (place.Man k) other x ms m (ap (same_place (place.Man k)) here) kept)
 
-  pub stand_resource : (ms os : List Moment) → ((p : Place) → same_place p (place.Res n) ≡ false → own p os ≡ own p ms) → AreNodes state s old ms
-      → StandsOn s.disk (resource.node_state state new.seat.node) role (own (place.Res n) os) → AllStand state s (with_resources old resources) os
+  pub stand_resource : (ms os : List Moment) → ((p : Place) → same_place p (place.Res n) ≡ false → own p os ≡ own p ms) → AreNodes state s held old ms
+      → StandsOn s.disk (resource.node_state state new.seat.node) role (own (place.Res n) os) → AllStand state s held (with_resources old resources) os
   stand_resource ms os elsewhere t made = by
     where
-      this : (other : Role) → role_at (world_of s) no_past (place.Res n) ≡ Some other → StandsAt state s.disk (with_resources old resources) (place.Res n) other (own (place.Res n) os)
+      this : (other : Role) → role_at (world_of s) held.past (place.Res n) ≡ Some other → StandsAt state s.disk (with_resources old resources) (place.Res n) other (own (place.Res n) os)
       this other e = (new, same_there, subst (λ r. StandsOn s.disk (resource.node_state state new.seat.node) r (own (place.Res n) os)) (same_Some role other (sym there ∙ e)) made)
 
-      at_number : (k : ℕ) (b : Bool) → nat_eq k n ≡ b → (other : Role) → role_at (world_of s) no_past (place.Res k) ≡ Some other → StandsAt state s.disk (with_resources old resources) (place.Res k) other (own (place.Res k) os)
+      at_number : (k : ℕ) (b : Bool) → nat_eq k n ≡ b → (other : Role) → role_at (world_of s) held.past (place.Res k) ≡ Some other → StandsAt state s.disk (with_resources old resources) (place.Res k) other (own (place.Res k) os)
       at_number k true is other e =
           let same : n ≡ k = grind (arith, nat_tests) in
-          subst (λ j. (o : Role) → role_at (world_of s) no_past (place.Res j) ≡ Some o → StandsAt state s.disk (with_resources old resources) (place.Res j) o (own (place.Res j) os)) same this other e
+          subst (λ j. (o : Role) → role_at (world_of s) held.past (place.Res j) ≡ Some o → StandsAt state s.disk (with_resources old resources) (place.Res j) o (own (place.Res j) os)) same this other e
       at_number k false is other e =
           let apart : k ≢ n = grind (arith, nat_tests) in
           let (x, found, kept) = t.each (place.Res k) other e in
           (x, other_there k apart ∙ found, record { stands = subst (resource.StandsAs state x.seat.node other) (sym (elsewhere (place.Res k) is)) kept.member.stands; sized = kept.sized })
 
-      by : (p : Place) (other : Role) → role_at (world_of s) no_past p ≡ Some other → StandsAt state s.disk (with_resources old resources) p other (own p os)
+      by : (p : Place) (other : Role) → role_at (world_of s) held.past p ≡ Some other → StandsAt state s.disk (with_resources old resources) p other (own p os)
       by place.Net other e = absurd (no_role other e)
       by place.Tc other e =
           let is = t.each place.Tc other e in
@@ -250,57 +251,57 @@ module _ {D K : Type 0} (state : D → DiskState) (s : Scenario) (old : Nodes D 
 abbrev pub with_managers : {D K : Type 0} → Nodes D K → Vec (Member Manager K) Global → Nodes D K
 with_managers n managers = record { coordinator = n.coordinator; resources = n.resources; managers = managers }
 
-module _ {D K : Type 0} (state : D → DiskState) (s : Scenario) (old : Nodes D K) (n : ℕ) (before new : Member Manager K) (managers : Vec (Member Manager K) Global)
+module _ {D K : Type 0} (state : D → DiskState) (s : Scenario) (held : Held) (old : Nodes D K) (n : ℕ) (before new : Member Manager K) (managers : Vec (Member Manager K) Global)
     (placed : counted_at old.managers.items n ≡ Some before) (changed : managers.items ≡ set old.managers.items (n - 1) new)
-    (role : Role) (there : role_at (world_of s) no_past (place.Man n) ≡ Some role) where
+    (role : Role) (there : role_at (world_of s) held.past (place.Man n) ≡ Some role) where
   same_man : counted_at managers.items n ≡ Some new
   same_man = ap (λ l. counted_at l n) changed ∙ counted_set old.managers.items n new before placed
 
   other_man : (k : ℕ) → k ≢ n → counted_at managers.items k ≡ counted_at old.managers.items k
   other_man k apart = ap (λ l. counted_at l k) changed ∙ counted_elsewhere old.managers.items n k new (counted_low old.managers.items n before placed) apart
 
-  pub nodes_manager : (ms : List Moment) (m : Moment) → m.place ≡ place.Man n → AreNodes state s old ms
-      → IsMember manager.node_state (place.Man n) role new (m ∷ ms) → AreNodes state s (with_managers old managers) (m ∷ ms)
+  pub nodes_manager : (ms : List Moment) (m : Moment) → m.place ≡ place.Man n → AreNodes state s held old ms
+      → IsMember manager.node_state (place.Man n) role new (m ∷ ms) → AreNodes state s held (with_managers old managers) (m ∷ ms)
   nodes_manager ms m here t made = record { resources = t.resources; managers = ap length changed ∙ length-set old.managers.items (n - 1) new ∙ t.managers; each = by }
     where
-      this : (other : Role) → role_at (world_of s) no_past (place.Man n) ≡ Some other → HasNode state s.disk (with_managers old managers) (m ∷ ms) (place.Man n) other
+      this : (other : Role) → role_at (world_of s) held.past (place.Man n) ≡ Some other → HasNode state held s.disk (with_managers old managers) (m ∷ ms) (place.Man n) other
       this other e = (new, same_man, subst (λ r. IsMember manager.node_state (place.Man n) r new (m ∷ ms)) (same_Some role other (sym there ∙ e)) made)
 
-      at_number : (k : ℕ) (b : Bool) → nat_eq k n ≡ b → (other : Role) → role_at (world_of s) no_past (place.Man k) ≡ Some other
-          → HasNode state s.disk (with_managers old managers) (m ∷ ms) (place.Man k) other
+      at_number : (k : ℕ) (b : Bool) → nat_eq k n ≡ b → (other : Role) → role_at (world_of s) held.past (place.Man k) ≡ Some other
+          → HasNode state held s.disk (with_managers old managers) (m ∷ ms) (place.Man k) other
       at_number k true is other e =
           let same : n ≡ k = grind (arith, nat_tests) in
-          subst (λ j. (o : Role) → role_at (world_of s) no_past (place.Man j) ≡ Some o → HasNode state s.disk (with_managers old managers) (m ∷ ms) (place.Man j) o) same this other e
+          subst (λ j. (o : Role) → role_at (world_of s) held.past (place.Man j) ≡ Some o → HasNode state held s.disk (with_managers old managers) (m ∷ ms) (place.Man j) o) same this other e
       at_number k false is other e =
           let apart : k ≢ n = grind (arith, nat_tests) in
           let (x, found, kept) = t.each (place.Man k) other e in
           (x, other_man k apart ∙ found, member_stays manager.node_state (place.Man k) other x ms m (ap (same_place (place.Man k)) here ∙ is) kept)
 
-      by : (p : Place) (other : Role) → role_at (world_of s) no_past p ≡ Some other → HasNode state s.disk (with_managers old managers) (m ∷ ms) p other
+      by : (p : Place) (other : Role) → role_at (world_of s) held.past p ≡ Some other → HasNode state held s.disk (with_managers old managers) (m ∷ ms) p other
       by place.Net other e = absurd (no_role other e)
-      by place.Tc other e = server_stays (coordinator.node_state state) place.Tc other s.disk old.coordinator ms m (ap (same_place place.Tc) here) (t.each place.Tc other e)
+      by place.Tc other e = server_stays (coordinator.node_state state) place.Tc other (held.starts place.Tc) s.disk old.coordinator ms m (ap (same_place place.Tc) here) (t.each place.Tc other e)
       by (place.Res k) other e =
           let (x, found, kept) = t.each (place.Res k) other e in
-          (x, found, server_stays (resource.node_state state) (place.Res k) other s.disk x ms m (ap (same_place (place.Res k)) here) kept)
+          (x, found, server_stays (resource.node_state state) (place.Res k) other (held.starts (place.Res k)) s.disk x ms m (ap (same_place (place.Res k)) here) kept)
       by (place.Man k) other e = at_number k (nat_eq k n) refl other e
 
-  pub stand_manager : (ms os : List Moment) → ((p : Place) → same_place p (place.Man n) ≡ false → own p os ≡ own p ms) → AreNodes state s old ms
-      → manager.StandsAs new.seat.node role (own (place.Man n) os) → AllStand state s (with_managers old managers) os
+  pub stand_manager : (ms os : List Moment) → ((p : Place) → same_place p (place.Man n) ≡ false → own p os ≡ own p ms) → AreNodes state s held old ms
+      → manager.StandsAs new.seat.node role (own (place.Man n) os) → AllStand state s held (with_managers old managers) os
   stand_manager ms os elsewhere t made = by
     where
-      this : (other : Role) → role_at (world_of s) no_past (place.Man n) ≡ Some other → StandsAt state s.disk (with_managers old managers) (place.Man n) other (own (place.Man n) os)
+      this : (other : Role) → role_at (world_of s) held.past (place.Man n) ≡ Some other → StandsAt state s.disk (with_managers old managers) (place.Man n) other (own (place.Man n) os)
       this other e = (new, same_man, subst (λ r. manager.StandsAs new.seat.node r (own (place.Man n) os)) (same_Some role other (sym there ∙ e)) made)
 
-      at_number : (k : ℕ) (b : Bool) → nat_eq k n ≡ b → (other : Role) → role_at (world_of s) no_past (place.Man k) ≡ Some other → StandsAt state s.disk (with_managers old managers) (place.Man k) other (own (place.Man k) os)
+      at_number : (k : ℕ) (b : Bool) → nat_eq k n ≡ b → (other : Role) → role_at (world_of s) held.past (place.Man k) ≡ Some other → StandsAt state s.disk (with_managers old managers) (place.Man k) other (own (place.Man k) os)
       at_number k true is other e =
           let same : n ≡ k = grind (arith, nat_tests) in
-          subst (λ j. (o : Role) → role_at (world_of s) no_past (place.Man j) ≡ Some o → StandsAt state s.disk (with_managers old managers) (place.Man j) o (own (place.Man j) os)) same this other e
+          subst (λ j. (o : Role) → role_at (world_of s) held.past (place.Man j) ≡ Some o → StandsAt state s.disk (with_managers old managers) (place.Man j) o (own (place.Man j) os)) same this other e
       at_number k false is other e =
           let apart : k ≢ n = grind (arith, nat_tests) in
           let (x, found, kept) = t.each (place.Man k) other e in
           (x, other_man k apart ∙ found, subst (manager.StandsAs x.seat.node other) (sym (elsewhere (place.Man k) is)) kept.stands)
 
-      by : (p : Place) (other : Role) → role_at (world_of s) no_past p ≡ Some other → StandsAt state s.disk (with_managers old managers) p other (own p os)
+      by : (p : Place) (other : Role) → role_at (world_of s) held.past p ≡ Some other → StandsAt state s.disk (with_managers old managers) p other (own p os)
       by place.Net other e = absurd (no_role other e)
       by place.Tc other e =
           let is = t.each place.Tc other e in

@@ -11,12 +11,11 @@ use Rattle.scenario_form.specs.declared.scenarios.Scenario.{Scenario}
 use Rattle.scenario_form.specs.Runnable.{IsPlaceAmong}
 use Rattle.durable_records.specs.SessionOrder.{is_counted}
 use Rattle.frame_codec.specs.Limits.{IsFramable}
-use Rattle.history_rules.specs.Nodes.{World, no_past}
+use Rattle.history_rules.specs.Nodes.{Past, World}
 use Rattle.history_rules.specs.Histories.{Deliver}
-use Rattle.history_rules.specs.Chains.{IsBlankPast}
 use Rattle.history_law.specs.MessageSafety.{IsNode, NamesNodes, ReachesNode}
 use Rattle.history_law.proofs.Deliveries.{brought_says}
-use Rattle.history_law.proofs.MessageHistory.{messages_law}
+use Rattle.history_law.proofs.MessageHistory.{messages_over_any}
 use Rattle.history_text.specs.declared.entries.Cause.TheVariants as cause
 use Rattle.history_text.specs.Worlds.{managers_from, resources_of, world_of}
 use Rattle.coordinator_core.specs.Serving.{HasNumbers}
@@ -46,43 +45,42 @@ heard_named w managers resources users servers (message.Register xid resource ca
     ap (λ n. is_counted n resource && have_resources n hold) servers ∙ both (is_counted (length w.resources) resource) (have_resources (length w.resources) hold) named.0 named.1
 heard_named w managers resources users servers _ named = refl
 
-module _ (s : Scenario) (managers resources : ℕ) (users : managers ≡ length s.managers) (servers : resources ≡ length s.resources) where
+module _ (s : Scenario) (past : Past) (managers resources : ℕ) (users : managers ≡ length s.managers) (servers : resources ≡ length s.resources) where
   -- a message that reaches a node fits
-  fits_node : (to : Place) (heard : Message) → IsNode (world_of s) no_past to → NamesNodes (world_of s) heard → fits_delivery managers resources to heard ≡ true
+  fits_node : (to : Place) (heard : Message) → IsNode (world_of s) past to → NamesNodes (world_of s) heard → fits_delivery managers resources to heard ≡ true
   fits_node place.Net heard (role, e) named = absurd (let no : None ≡ Some role = e in cc)
   fits_node place.Tc heard node named =
       heard_named (world_of s) managers resources (users ∙ sym (length-managers s.lock_tries 1 s.managers)) (servers ∙ sym (length-resources s)) heard named
   fits_node (place.Res n) heard (role, e) named =
-      let (setup, listed, is) = at_resource s n role e in
+      let (setup, listed, is) = at_resource s past n role e in
       let low = counted_low (resources_of s) n setup listed in
       let high = counted_high (resources_of s) n setup listed in
       let size = length-resources s in
       counted_within resources n low (omega (arith, high, size, servers))
   fits_node (place.Man n) heard (role, e) named =
-      let (settings, listed, is) = at_manager s n role e in
+      let (settings, listed, is) = at_manager s past n role e in
       let low = counted_low (managers_from s.lock_tries 1 s.managers) n settings listed in
       let high = counted_high (managers_from s.lock_tries 1 s.managers) n settings listed in
       let size = length-managers s.lock_tries 1 s.managers in
       counted_within managers n low (omega (arith, high, size, users))
 
--- disks without records
-blank : IsBlankPast no_past
-blank = record { sessions = refl; resources = λ n. (0, refl) }
-
 module _ {D K : Type 0} (state : D → DiskState) (r : Run D K) (stamp : ℕ) (d : Delivery) (h : Hears state r stamp d) where
   abbrev s : Scenario
   s = h.step.here.s
 
-  pub reaches : ReachesNode (world_of s) no_past d.from (record { to = d.to; message = d.message })
+  abbrev past : Past
+  past = h.step.here.held.past
+
+  pub reaches : ReachesNode (world_of s) past d.from (record { to = d.to; message = d.message })
   reaches =
-      brought_says (ReachesNode (world_of s) no_past) h.step.here.ms d.to (Deliver stamp d.from) d.from d.message
-      (messages_law (world_of s) no_past h.step.here.ms (world_of-names s h.step.here.runnable) blank h.step.here.plays.legal)
+      brought_says (ReachesNode (world_of s) past) h.step.here.ms d.to (Deliver stamp d.from) d.from d.message
+      (messages_over_any (world_of s) past h.step.here.ms (world_of-names s h.step.here.runnable) h.step.here.plays.named h.step.here.plays.legal)
       (sym (brought_there state r stamp h.step d (delivered_from (letter_at stamp r.messages.letters.items) d h.is_found)))
 
   pub hears_fits : fits_delivery (length r.nodes.managers.items) (length r.nodes.resources.items) d.to d.message ≡ true
   hears_fits =
       let nodes = h.step.here.plays.nodes in
-      fits_node s (length r.nodes.managers.items) (length r.nodes.resources.items) nodes.managers nodes.resources d.to d.message reaches.receiver reaches.named
+      fits_node s past (length r.nodes.managers.items) (length r.nodes.resources.items) nodes.managers nodes.resources d.to d.message reaches.receiver reaches.named
 
 -- ---- of any replay
 

@@ -9,7 +9,7 @@ use Rattle.seata_types.specs.declared.ids.Place.TheVariants as place
 use Rattle.seata_types.specs.declared.messages.Step.{Step}
 use Rattle.scenario_form.specs.declared.scenarios.Scenario.{Scenario}
 use Rattle.history_rules.specs.Own.{Event, Own}
-use Rattle.history_rules.specs.Nodes.{Role, counted_at, no_past, role_at}
+use Rattle.history_rules.specs.Nodes.{Role, counted_at, role_at}
 use Rattle.history_rules.specs.Histories.{ComesToNone, HappensAt, IsDone, Legal, Moment, own}
 use Rattle.history_rules.specs.Histories.{Cause as Reason}
 use Rattle.history_text.specs.declared.entries.Entry.{Entry}
@@ -17,7 +17,7 @@ use Rattle.history_text.specs.History.{entries}
 use Rattle.history_text.specs.Worlds.{world_of}
 use Rattle.manager_core.specs.declared.nodes.Manager.{Manager}
 use Rattle.resource_core.specs.declared.nodes.Resource.{Resource}
-use Rattle.scenario_nodes.specs.Nodes.{coordinator_role}
+use Rattle.scenario_nodes.specs.Nodes.{Held, coordinator_role}
 use Rattle.replay_runner.specs.declared.collecting.Traces.{Traces}
 use Rattle.replay_runner.specs.declared.members.Member.{Member}
 use Rattle.replay_runner.specs.declared.nodes.Nodes.{Nodes}
@@ -34,8 +34,8 @@ node_there : (o : Option Role) (os : List Own) (now : ℕ) (event : Event) (step
 node_there None os now event step happens = absurd happens
 node_there (Some role) os now event step happens = (role, refl)
 
-module _ {D K : Type 0} (state : D → DiskState) (s : Scenario) (network : List Entry) (n : Nodes D K) (ms : List Moment) (nodes : AreNodes state s n ms) where
-  node_has : (p : Place) (role : Role) → role_at (world_of s) no_past p ≡ Some role → IsSome (trace_of network n p)
+module _ {D K : Type 0} (state : D → DiskState) (s : Scenario) (held : Held) (network : List Entry) (n : Nodes D K) (ms : List Moment) (nodes : AreNodes state s held n ms) where
+  node_has : (p : Place) (role : Role) → role_at (world_of s) held.past p ≡ Some role → IsSome (trace_of network n p)
   node_has place.Net role e = refl
   node_has place.Tc role e = refl
   node_has (place.Res k) role e = let (m, there, is) = nodes.each (place.Res k) role e in ap (λ (o : Option (Member (Resource D) K)). is_some (option_map member_trace o)) there
@@ -47,24 +47,24 @@ module _ {D K : Type 0} (state : D → DiskState) (s : Scenario) (network : List
   none_has before (place.Res k) why none = absurd none
   none_has before (place.Man k) why none = absurd none
 
-  moment_has : (before : List Moment) (m : Moment) (event : Option Event) → IsDone (world_of s) no_past before m event → IsSome (trace_of network n m.place)
+  moment_has : (before : List Moment) (m : Moment) (event : Option Event) → IsDone (world_of s) held.past before m event → IsSome (trace_of network n m.place)
   moment_has before m None done = none_has before m.place m.cause done.0
   moment_has before m (Some event) done =
-      let node = node_there (role_at (world_of s) no_past m.place) (own m.place before) m.now event m.step done in
+      let node = node_there (role_at (world_of s) held.past m.place) (own m.place before) m.now event m.step done in
       node_has m.place node.0 node.1
 
-  have_traces : (before : List Moment) → Legal (world_of s) no_past before → HaveTraces (trace_of network n) before
+  have_traces : (before : List Moment) → Legal (world_of s) held.past before → HaveTraces (trace_of network n) before
   have_traces [] legal = tt
   have_traces (m ∷ before) legal = (have_traces before legal.0, moment_has before m m.event legal.1.done)
 
 -- a replay has those of its history
-module _ {D K : Type 0} (state : D → DiskState) (s : Scenario) (network : List Entry) (n : Nodes D K) (ms : List Moment) (nodes : AreNodes state s n ms) where
+module _ {D K : Type 0} (state : D → DiskState) (s : Scenario) (held : Held) (network : List Entry) (n : Nodes D K) (ms : List Moment) (nodes : AreNodes state s held n ms) where
   resource_traced : (k : ℕ) (m : Member (Resource D) K) → counted_at n.resources.items k ≡ Some m → m.seat.trace ≡ entries (at (place.Res k) ms)
   resource_traced k m there =
       let low = counted_low n.resources.items k m there in
       let high = counted_high n.resources.items k m there in
       let count = nodes.resources in
-      let (role, e) = place_role s (place.Res k) (low, omega (arith, high, count)) in
+      let (role, e) = place_role s held.past (place.Res k) (low, omega (arith, high, count)) in
       let (other, found, is) = nodes.each (place.Res k) role e in
       ap (λ (x : Member (Resource D) K). x.seat.trace) (same_Some m other (sym there ∙ found)) ∙ is.member.traced
 
@@ -73,7 +73,7 @@ module _ {D K : Type 0} (state : D → DiskState) (s : Scenario) (network : List
       let low = counted_low n.managers.items k m there in
       let high = counted_high n.managers.items k m there in
       let count = nodes.managers in
-      let (role, e) = place_role s (place.Man k) (low, omega (arith, high, count)) in
+      let (role, e) = place_role s held.past (place.Man k) (low, omega (arith, high, count)) in
       let (other, found, is) = nodes.each (place.Man k) role e in
       ap (λ (x : Member Manager K). x.seat.trace) (same_Some m other (sym there ∙ found)) ∙ is.traced
 
@@ -83,12 +83,12 @@ module _ {D K : Type 0} (state : D → DiskState) (s : Scenario) (network : List
 
   traced : network ≡ entries (at place.Net ms) → (p : Place) (es : List Entry) → trace_of network n p ≡ Some es → es ≡ entries (at p ms)
   traced passed place.Net es e = sym (same_Some network es e) ∙ passed
-  traced passed place.Tc es e = sym (same_Some n.coordinator.seat.trace es e) ∙ (nodes.each place.Tc (coordinator_role s) refl).member.traced
+  traced passed place.Tc es e = sym (same_Some n.coordinator.seat.trace es e) ∙ (nodes.each place.Tc (coordinator_role s held) refl).member.traced
   traced passed (place.Res k) es e = let (m, there, is) = from_member (counted_at n.resources.items k) es e in is ∙ resource_traced k m there
   traced passed (place.Man k) es e = let (m, there, is) = from_member (counted_at n.managers.items k) es e in is ∙ manager_traced k m there
 
-  pub gathered : network ≡ entries (at place.Net ms) → Legal (world_of s) no_past ms → AreTraces (trace_of network n) ms
-  gathered passed legal = record { have = have_traces state s network n ms nodes ms legal; each = traced passed }
+  pub gathered : network ≡ entries (at place.Net ms) → Legal (world_of s) held.past ms → AreTraces (trace_of network n) ms
+  gathered passed legal = record { have = have_traces state s held network n ms nodes ms legal; each = traced passed }
 
 -- ---- as those of the nodes
 

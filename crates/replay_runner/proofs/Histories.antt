@@ -5,7 +5,7 @@ use Rattle.seata_types.specs.declared.ids.Place.{Place}
 use Rattle.seata_types.specs.declared.ids.Place.TheVariants as place
 use Rattle.seata_types.specs.declared.messages.Outgoing.{Outgoing}
 use Rattle.history_rules.specs.Own.{Event}
-use Rattle.history_rules.specs.Nodes.{World, no_past}
+use Rattle.history_rules.specs.Nodes.{Past, World}
 use Rattle.history_rules.specs.Histories.{Moment, own, own_if, same_place, sent_by, sent_at, sent_from, sent_if, Rises, last_now}
 use Rattle.history_rules.specs.Schedules.{Item, Follows, IsStep, clock}
 use Rattle.replay_runner.specs.declared.messages.Letter.{Letter}
@@ -37,25 +37,25 @@ Found k ms (Some l) = (sent_at k ms ≡ sent_of l) × (sent_from k l.from ms ≡
 
 -- ---- stamps and clocks
 
-module _ (w : World) (schedule : List Item) where
-  pub step_stamp : (o : Option Item) (ms : List Moment) (m : Moment) → IsStep w no_past ms m o → m.stamp ≡ length ms + 1
+module _ (w : World) (past : Past) (schedule : List Item) where
+  pub step_stamp : (o : Option Item) (ms : List Moment) (m : Moment) → IsStep w past ms m o → m.stamp ≡ length ms + 1
   step_stamp None ms m h = absurd h
   step_stamp (Some step) ms m h = h.0
 
-  pub step_clock : (o : Option Item) (ms : List Moment) (m : Moment) → IsStep w no_past ms m o → clock no_past ms ≤ m.now
+  pub step_clock : (o : Option Item) (ms : List Moment) (m : Moment) → IsStep w past ms m o → clock past ms ≤ m.now
   step_clock None ms m h = absurd h
   step_clock (Some step) ms m h = let e = h.1 in omega (arith, e)
 
   -- a moment whose stamp is its position stands after the newest one
-  pub rises_after : (ms : List Moment) (m : Moment) → Follows w no_past schedule ms → m.stamp ≡ length ms + 1 → Rises ms m
+  pub rises_after : (ms : List Moment) (m : Moment) → Follows w past schedule ms → m.stamp ≡ length ms + 1 → Rises ms m
   rises_after [] m f here = tt
   rises_after (last ∷ ms) m f here = let e = step_stamp _ ms last f.1 in inl (omega (arith, e, here))
 
-  pub last_now-le : (p : Place) (ms : List Moment) → Follows w no_past schedule ms → last_now (own p ms) ≤ clock no_past ms
+  pub last_now-le : (p : Place) (ms : List Moment) → Follows w past schedule ms → last_now (own p ms) ≤ clock past ms
   last_now-le p [] f = omega arith
   last_now-le p (m ∷ ms) f = by (same_place p m.place) m.event (last_now-le p ms f.0) (step_clock _ ms m f.1)
     where
-      by : (b : Bool) (e : Option Event) → last_now (own p ms) ≤ clock no_past ms → clock no_past ms ≤ m.now → last_now (own_if b e m (own p ms)) ≤ m.now
+      by : (b : Bool) (e : Option Event) → last_now (own p ms) ≤ clock past ms → clock past ms ≤ m.now → last_now (own_if b e m (own p ms)) ≤ m.now
       by true (Some event) before rises = omega arith
       by true None before rises = omega arith
       by false e before rises = omega arith
@@ -63,7 +63,7 @@ module _ (w : World) (schedule : List Item) where
   -- ---- messages
 
   -- no entry has a stamp that is still to come
-  none_later : (kind : Moment → Bool) (k : ℕ) → ((m : Moment) → kind m ≡ true → m.stamp ≡ k) → (ms : List Moment) → Follows w no_past schedule ms → length ms < k
+  none_later : (kind : Moment → Bool) (k : ℕ) → ((m : Moment) → kind m ≡ true → m.stamp ≡ k) → (ms : List Moment) → Follows w past schedule ms → length ms < k
       → sent_by kind ms ≡ None
   none_later kind k only [] f later = refl
   none_later kind k only (m ∷ ms) f later = by (kind m) refl (none_later kind k only ms f.0 (omega arith)) (step_stamp _ ms m f.1)
@@ -73,7 +73,7 @@ module _ (w : World) (schedule : List Item) where
       by false e before at = before
 
   -- no entry has the stamp 0
-  none_first : (kind : Moment → Bool) → ((m : Moment) → kind m ≡ true → m.stamp ≡ 0) → (ms : List Moment) → Follows w no_past schedule ms → sent_by kind ms ≡ None
+  none_first : (kind : Moment → Bool) → ((m : Moment) → kind m ≡ true → m.stamp ≡ 0) → (ms : List Moment) → Follows w past schedule ms → sent_by kind ms ≡ None
   none_first kind only [] f = refl
   none_first kind only (m ∷ ms) f = by (kind m) refl (none_first kind only ms f.0) (step_stamp _ ms m f.1)
     where
@@ -101,7 +101,7 @@ module _ (w : World) (schedule : List Item) where
       by (Some out) e = (rw (here, e) refl, rw (here, same_place-refl m.place, e) refl)
 
   -- the letters say of each stamp what its entry sent
-  pub letters_from : (ms : List Moment) → Follows w no_past schedule ms → (j : ℕ) → Found (suc j) ms (the_letter (slice_get (letters ms) j))
+  pub letters_from : (ms : List Moment) → Follows w past schedule ms → (j : ℕ) → Found (suc j) ms (the_letter (slice_get (letters ms) j))
   letters_from [] f j = refl
   letters_from (m ∷ ms) f j = by (nat_lt j (length ms)) refl (nat_eq j (length ms)) refl (letters_from ms f.0 j)
     where
@@ -135,19 +135,19 @@ module _ (w : World) (schedule : List Item) where
   letter_below ms zero l e = omega arith
   letter_below ms (suc j) l e = by (nat_lt j (length ms)) refl
     where
-      past : {A : Type 0} (xs : List A) (i : ℕ) → length xs ≤ i → slice_get xs i ≡ None
-      past [] i h = refl
-      past (x ∷ xs) zero h = absurd (omega (arith, h))
-      past (x ∷ xs) (suc i) h = past xs i (omega (arith, h))
+      beyond : {A : Type 0} (xs : List A) (i : ℕ) → length xs ≤ i → slice_get xs i ≡ None
+      beyond [] i h = refl
+      beyond (x ∷ xs) zero h = absurd (omega (arith, h))
+      beyond (x ∷ xs) (suc i) h = beyond xs i (omega (arith, h))
 
       none_some : None ≡ Some l → ⊥
       none_some e = cc
 
       by : (b : Bool) → nat_lt j (length ms) ≡ b → suc j < length ms + 1
       by true below = grind (arith, nat_tests)
-      by false above = absurd (none_some (sym (ap the_letter (past (letters ms) j (grind (arith, nat_tests, length-letters ms)))) ∙ e))
+      by false above = absurd (none_some (sym (ap the_letter (beyond (letters ms) j (grind (arith, nat_tests, length-letters ms)))) ∙ e))
 
   -- the same of any number
-  pub letters_at : (ms : List Moment) → Follows w no_past schedule ms → (k : ℕ) → Found k ms (letter_at k (letters ms))
+  pub letters_at : (ms : List Moment) → Follows w past schedule ms → (k : ℕ) → Found k ms (letter_at k (letters ms))
   letters_at ms f zero = none_first (stamped 0) (stamped-is 0) ms f
   letters_at ms f (suc j) = letters_from ms f j

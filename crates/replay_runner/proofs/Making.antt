@@ -1,10 +1,10 @@
 -- What a node did that an entry is made at is an entry among the nodes.
-use Rattle.std.proofs.Common.{inl, inr, ◌≡◌, ◌⊎◌, ◌+◌, ◌-◌, ℕ, false, List, ◌∷◌, length, set, Option, Some, None, option_map, Result, Ok, Err, refl, ap, sym, subst, ◌∙◌}
+use Rattle.std.proofs.Common.{inl, inr, ◌≡◌, ◌⊎◌, ◌+◌, ◌-◌, ℕ, false, List, ◌∷◌, length, set, Option, Some, option_map, Result, Ok, Err, refl, ap, sym, subst, ◌∙◌}
 use Rattle.std.proofs.lemmas.Option.{same_Some}
 use Rattle.std.specs.Prelude.{Vec}
 use Rattle.std.specs.declared.alloc.Global.{Global}
 use Rattle.disk_model.specs.Disk.{DiskState}
-use Rattle.journal_checkpoint.specs.Extents.{Extent, blank}
+use Rattle.journal_checkpoint.specs.Extents.{Extent}
 use Rattle.journal_checkpoint.specs.Images.{Pair}
 use Rattle.seata_types.specs.declared.ids.Place.{Place}
 use Rattle.seata_types.specs.declared.ids.Place.TheVariants as place
@@ -46,35 +46,35 @@ use Rattle.replay_runner.proofs.Roles.{at_manager}
 -- why no entry was made at a place: want of memory, or what the node there is blamed for
 abbrev Missed : {D K : Type 0} → {state : D → DiskState} → {old : Nodes D K} → {stamp : ℕ} → {printed : Cause} → {given : Option Input} → (p : Place) (now : ℕ) → Comes state old stamp p printed given
     → (disks : Pair) → RunFault → Type 0
-Missed p now c disks missed = (missed ≡ fault.NoMemory) ⊎ Blames p c.role blank c.s.disk (own p c.ms) now c.event disks missed
+Missed p now c disks missed = (missed ≡ fault.NoMemory) ⊎ Blames p c.role (c.held.starts p) c.s.disk (own p c.ms) now c.event disks missed
 
 -- ---- a node of any kind
 
 module _ {N D K : Type 0} (state : D → DiskState) (node_state : N → NodeState) (old new : Nodes D K) (before after : Member N K) (stamp now : ℕ) (p : Place) (printed : Cause) (given : Option Input)
     (c : Comes state old stamp p printed given) (here : (node_state before.seat.node).place ≡ p) (stood : (node_state before.seat.node).stands_for c.role (own p c.ms))
-    (lies : (node_state before.seat.node).lies c.role blank c.s.disk (own p c.ms)) (told : IsTold (node_state before.seat.node).disks c.event)
-    (entered : (step : Step) (letter : Option Letter) → Makes node_state before after (length c.ms + 1) now (cause_of c.why) c.event step (Ok letter) → AreNodes state c.s new (moment_by p now c step ∷ c.ms))
-    (stand : (os : List Moment) → ((q : Place) → same_place q p ≡ false → own q os ≡ own q c.ms) → (node_state after.seat.node).stands_for c.role (own p os) → AllStand state c.s new os)
-    (missed_by : (missed : RunFault) → Blames p c.role blank c.s.disk (own p c.ms) now c.event (node_state after.seat.node).disks missed → Missed p now c (disks_at state new p) missed) where
+    (lies : (node_state before.seat.node).lies c.role (c.held.starts p) c.s.disk (own p c.ms)) (told : IsTold (node_state before.seat.node).disks c.event)
+    (entered : (step : Step) (letter : Option Letter) → Makes node_state before after (length c.ms + 1) now (cause_of c.why) c.event step (Ok letter) → AreNodes state c.s c.held new (moment_by p now c step ∷ c.ms))
+    (stand : (os : List Moment) → ((q : Place) → same_place q p ≡ false → own q os ≡ own q c.ms) → (node_state after.seat.node).stands_for c.role (own p os) → AllStand state c.s c.held new os)
+    (missed_by : (missed : RunFault) → Blames p c.role (c.held.starts p) c.s.disk (own p c.ms) now c.event (node_state after.seat.node).disks missed → Missed p now c (disks_at state new p) missed) where
   entered_by : (r : Result (Option Letter) RunFault) → IsMade node_state before after (length c.ms + 1) now (cause_of c.why) c.event r → Entered state old new stamp now p printed given c r
   entered_by (Ok letter) (step, e) = record {
     step = step;
     happens = member_happens node_state p c.role before after c.ms now c.why c.event step (Ok letter) stood told e;
-    fits = (e.does.lies told c.role (own p c.ms) stood blank c.s.disk lies).0;
+    fits = (e.does.lies told c.role (own p c.ms) stood (c.held.starts p) c.s.disk lies).0;
     nodes = entered step letter e;
     sent = e.sent ∙ ap (λ q. option_map (letter_from q (length c.ms + 1)) step.sent) here;
   }
   entered_by (Err missed) (inl e) = inl (record {
     stands = stand c.ms (λ q away. refl) (e.misses.stands told c.role (own p c.ms) stood);
     cause = missed_by missed
-        (subst (λ q. Blames q c.role blank c.s.disk (own p c.ms) now c.event (node_state after.seat.node).disks missed) here
-        (e.misses.blames told c.role blank c.s.disk (own p c.ms) stood (lies_for missed (node_state before.seat.node) c.role blank c.s.disk (own p c.ms) lies)));
+        (subst (λ q. Blames q c.role (c.held.starts p) c.s.disk (own p c.ms) now c.event (node_state after.seat.node).disks missed) here
+        (e.misses.blames told c.role (c.held.starts p) c.s.disk (own p c.ms) stood (lies_for missed (node_state before.seat.node) c.role (c.held.starts p) c.s.disk (own p c.ms) lies)));
   })
   entered_by (Err missed) (inr (is, step, e)) = inr (record {
     memory = is;
     step = step;
     happens = member_happens node_state p c.role before after c.ms now c.why c.event step (Err missed) stood told e;
-    fits = (e.does.lies told c.role (own p c.ms) stood blank c.s.disk lies).0;
+    fits = (e.does.lies told c.role (own p c.ms) stood (c.held.starts p) c.s.disk lies).0;
     stands = stand (moment_by p now c step ∷ c.ms) (λ q away. own_there q (moment_by p now c step) c.ms away)
         (member_stands node_state p c.role before after c.ms now c.why c.event step (Err missed) stood told e);
   })
@@ -94,13 +94,13 @@ module _ {D K : Type 0} (state : D → DiskState) (old : Nodes D K) (after : Mem
 
   coordinator_here : (c : Comes state old stamp place.Tc printed given) → CoordinatorMade c.event → Entered state old (with_coordinator old after) stamp now place.Tc printed given c r
   coordinator_here c made =
-      let is : IsServer (coordinator.node_state state) place.Tc c.role c.s.disk old.coordinator c.ms = c.nodes.each place.Tc c.role c.there in
+      let is : IsServer (coordinator.node_state state) place.Tc c.role (c.held.starts place.Tc) c.s.disk old.coordinator c.ms = c.nodes.each place.Tc c.role c.there in
       let sized : HaveSize c.s.disk (coordinator.disks_of state after.seat.node) = record { first = same.first.size ∙ is.sized.first; second = same.second.size ∙ is.sized.second } in
       entered_as state (coordinator.node_state state) old (with_coordinator old after) old.coordinator after stamp now place.Tc printed given c
       refl is.member.stands is.lies (told_all (coordinator.disks_of state old.coordinator.seat.node) c.event is.told)
-      (λ step letter e. nodes_coordinator state c.s old after c.role c.there c.ms (moment_by place.Tc now c step) refl c.nodes
-      (server_enters (coordinator.node_state state) place.Tc c.role c.s.disk old.coordinator after c.ms now c.why c.event step letter is refl same e))
-      (λ os elsewhere stands. stand_coordinator state c.s old after c.role c.there c.ms os elsewhere c.nodes (record { stands = stands; sized = sized }))
+      (λ step letter e. nodes_coordinator state c.s c.held old after c.role c.there c.ms (moment_by place.Tc now c step) refl c.nodes
+      (server_enters (coordinator.node_state state) place.Tc c.role (c.held.starts place.Tc) c.s.disk old.coordinator after c.ms now c.why c.event step letter is refl same e))
+      (λ os elsewhere stands. stand_coordinator state c.s c.held old after c.role c.there c.ms os elsewhere c.nodes (record { stands = stands; sized = sized }))
       (λ missed b. inr b) r made
 
   pub entered_coordinator : (p : Place) → p ≡ place.Tc → ((event : Event) → event_by printed given ≡ Some event → CoordinatorMade event)
@@ -120,16 +120,16 @@ module _ {D K : Type 0} (state : D → DiskState) (old : Nodes D K) (n : ℕ) (b
   resource_here : (c : Comes state old stamp (place.Res n) printed given) → ResourceMade c.event → Entered state old (with_resources old resources) stamp now (place.Res n) printed given c r
   resource_here c made =
       let (x, found, kept) = c.nodes.each (place.Res n) c.role c.there in
-      let is : IsServer (resource.node_state state) (place.Res n) c.role c.s.disk before c.ms =
-      subst (λ (m : Member (Resource D) K). IsServer (resource.node_state state) (place.Res n) c.role c.s.disk m c.ms) (same_Some x before (sym found ∙ placed)) kept in
+      let is : IsServer (resource.node_state state) (place.Res n) c.role (c.held.starts (place.Res n)) c.s.disk before c.ms =
+      subst (λ (m : Member (Resource D) K). IsServer (resource.node_state state) (place.Res n) c.role (c.held.starts (place.Res n)) c.s.disk m c.ms) (same_Some x before (sym found ∙ placed)) kept in
       let sized : HaveSize c.s.disk (shown.disks_of state after.seat.node) = record { first = same.first.size ∙ is.sized.first; second = same.second.size ∙ is.sized.second } in
       let there : counted_at resources.items n ≡ Some after = ap (λ l. counted_at l n) changed ∙ counted_set old.resources.items n after before placed in
       entered_as state (resource.node_state state) old (with_resources old resources) before after stamp now (place.Res n) printed given c
       stands_here is.member.stands is.lies (told_all (shown.disks_of state before.seat.node) c.event is.told)
-      (λ step letter e. nodes_resource state c.s old n before after resources placed changed c.role c.there c.ms (moment_by (place.Res n) now c step) refl c.nodes
-      (server_enters (resource.node_state state) (place.Res n) c.role c.s.disk before after c.ms now c.why c.event step letter is stands_here same e))
-      (λ os elsewhere stands. stand_resource state c.s old n before after resources placed changed c.role c.there c.ms os elsewhere c.nodes (record { stands = stands; sized = sized }))
-      (λ missed b. inr (subst (λ (o : Option (Member (Resource D) K)). Blames (place.Res n) c.role blank c.s.disk (own (place.Res n) c.ms) now c.event (member_disks state o) missed) (sym there) b)) r made
+      (λ step letter e. nodes_resource state c.s c.held old n before after resources placed changed c.role c.there c.ms (moment_by (place.Res n) now c step) refl c.nodes
+      (server_enters (resource.node_state state) (place.Res n) c.role (c.held.starts (place.Res n)) c.s.disk before after c.ms now c.why c.event step letter is stands_here same e))
+      (λ os elsewhere stands. stand_resource state c.s c.held old n before after resources placed changed c.role c.there c.ms os elsewhere c.nodes (record { stands = stands; sized = sized }))
+      (λ missed b. inr (subst (λ (o : Option (Member (Resource D) K)). Blames (place.Res n) c.role (c.held.starts (place.Res n)) c.s.disk (own (place.Res n) c.ms) now c.event (member_disks state o) missed) (sym there) b)) r made
 
   pub entered_resource : (p : Place) → p ≡ place.Res n → ((event : Event) → event_by printed given ≡ Some event → ResourceMade event)
       → (c : Comes state old stamp p printed given) → Entered state old (with_resources old resources) stamp now p printed given c r
@@ -167,16 +167,16 @@ module _ {D K : Type 0} (state : D → DiskState) (old : Nodes D K) (n : ℕ) (b
   manager_here c made =
       let (x, found, kept) = c.nodes.each (place.Man n) c.role c.there in
       let is : IsMember manager.node_state (place.Man n) c.role before c.ms = subst (λ (m : Member Manager K). IsMember manager.node_state (place.Man n) c.role m c.ms) (same_Some x before (sym found ∙ placed)) kept in
-      let (settings, listed, role_is) = at_manager c.s n c.role c.there in
+      let (settings, listed, role_is) = at_manager c.s c.held.past n c.role c.there in
       let fits : ComesTo (ManagerRole settings) c.event = subst (λ role. ComesTo role c.event) role_is c.fits in
       let told : IsTold no_disks c.event = manager_told settings no_disks c.event fits in
       entered_as state manager.node_state old (with_managers old managers) before after stamp now (place.Man n) printed given c
       stands_here is.stands tt told
-      (λ step letter e. nodes_manager state c.s old n before after managers placed changed c.role c.there c.ms (moment_by (place.Man n) now c step) refl c.nodes
+      (λ step letter e. nodes_manager state c.s c.held old n before after managers placed changed c.role c.there c.ms (moment_by (place.Man n) now c step) refl c.nodes
       (member_enters manager.node_state (place.Man n) c.role before after c.ms now c.why c.event step letter is stands_here told e))
-      (λ os elsewhere stands. stand_manager state c.s old n before after managers placed changed c.role c.there c.ms os elsewhere c.nodes stands)
-      (λ missed b. inl (only_memory settings (place.Man n) blank c.s.disk (own (place.Man n) c.ms) now c.event no_disks missed fits
-      (subst (λ role. Blames (place.Man n) role blank c.s.disk (own (place.Man n) c.ms) now c.event no_disks missed) role_is b)))
+      (λ os elsewhere stands. stand_manager state c.s c.held old n before after managers placed changed c.role c.there c.ms os elsewhere c.nodes stands)
+      (λ missed b. inl (only_memory settings (place.Man n) (c.held.starts (place.Man n)) c.s.disk (own (place.Man n) c.ms) now c.event no_disks missed fits
+      (subst (λ role. Blames (place.Man n) role (c.held.starts (place.Man n)) c.s.disk (own (place.Man n) c.ms) now c.event no_disks missed) role_is b)))
       r made
 
   pub entered_manager : (p : Place) → p ≡ place.Man n → ((event : Event) → event_by printed given ≡ Some event → ManagerMade event)

@@ -11,7 +11,7 @@ use Rattle.seata_types.specs.declared.messages.Input.TheVariants as input
 use Rattle.seata_types.specs.declared.messages.Outgoing.{Outgoing}
 use Rattle.scenario_form.specs.declared.scenarios.Scenario.{Scenario}
 use Rattle.history_rules.specs.Own.{Given, Stopped, Crashed, Restarted, still}
-use Rattle.history_rules.specs.Nodes.{ComesTo, Role, no_past, role_at}
+use Rattle.history_rules.specs.Nodes.{ComesTo, Role, role_at}
 use Rattle.history_rules.specs.Nodes.{Coordinator as CoordinatorRole, Manager as ManagerRole, Resource as ResourceRole}
 use Rattle.history_rules.specs.Histories.{Moment, Turn, Deliver, Stop, Crash, Restart, Local, Outside, ComesToNone, ReceivesLater, brings, sent_at, sent_from}
 use Rattle.history_rules.specs.Histories.{Cause as Reason}
@@ -22,6 +22,7 @@ use Rattle.history_text.specs.History.{cause_of, entry_of}
 use Rattle.history_text.specs.Worlds.{items_of, resources_of, world_of}
 use Rattle.node_seat.specs.Entering.{entry_at}
 use Rattle.node_seat.specs.declared.faults.RunFault.{RunFault}
+use Rattle.scenario_nodes.specs.Nodes.{Held}
 use Rattle.replay_runner.specs.declared.messages.Delivery.{Delivery}
 use Rattle.replay_runner.specs.declared.messages.Letter.{Letter}
 use Rattle.replay_runner.specs.declared.nodes.Nodes.{Nodes}
@@ -37,9 +38,9 @@ use Rattle.replay_runner.proofs.Lists.{drop_first, drop_next}
 use Rattle.replay_runner.proofs.Printed.{length-places}
 use Rattle.replay_runner.proofs.Waiting.{kept_quiet}
 
-module _ {D K : Type 0} (state : D → DiskState) (s : Scenario) where
+module _ {D K : Type 0} (state : D → DiskState) (s : Scenario) (held : Held) where
   -- a moment more
-  pub plays_more : (old new : Run D K) (ms : List Moment) (m : Moment) → Plays state s old ms → Grows state s old new ms m → AreMessages new.messages (m ∷ ms) → Plays state s new (m ∷ ms)
+  pub plays_more : (old new : Run D K) (ms : List Moment) (m : Moment) → Plays state s held old ms → Grows state s held old new ms m → AreMessages new.messages (m ∷ ms) → Plays state s held new (m ∷ ms)
   plays_more old new ms m t g messages = record {
     nodes = g.nodes;
     passed = g.passed;
@@ -50,12 +51,13 @@ module _ {D K : Type 0} (state : D → DiskState) (s : Scenario) where
     legal = (t.legal, g.stands);
     follows = (t.follows, g.is_step);
     fits = (t.fits, g.fits);
+    named = t.named;
   }
 
   -- the same where it delivers no message
-  pub plays_quietly : (old new : Run D K) (ms : List Moment) (m : Moment) → Plays state s old ms → Grows state s old new ms m → ((k : ℕ) → takes k m.cause ≡ false) → Plays state s new (m ∷ ms)
+  pub plays_quietly : (old new : Run D K) (ms : List Moment) (m : Moment) → Plays state s held old ms → Grows state s held old new ms m → ((k : ℕ) → takes k m.cause ≡ false) → Plays state s held new (m ∷ ms)
   plays_quietly old new ms m t g quiet =
-      plays_more old new ms m t g (kept_quiet (world_of s) (items_of s) old.messages new.messages ms m t.legal t.follows t.messages g.sent g.waiting g.taken quiet)
+      plays_more old new ms m t g (kept_quiet (world_of s) held.past (items_of s) old.messages new.messages ms m t.legal t.follows t.messages g.sent g.waiting g.taken quiet)
 
 -- what is left once the next step was made
 pub left_next : (s : Scenario) (ms : List Moment) (m : Moment) (item : Item) (rest : List Item) → left_of s ms ≡ item ∷ rest → left_of s (m ∷ ms) ≡ rest
@@ -69,7 +71,7 @@ module _ {D K : Type 0} (state : D → DiskState) (old new : Run D K) where
       → Made state old new p printed given b r → HasMade state old new b.here r
   made_quietly p printed given b (Ok done) quiet (step, g) = (
     moment_made state old p printed given b step ∷ b.here.ms,
-    plays_quietly state b.here.s old new b.here.ms (moment_made state old p printed given b step) b.here.plays g quiet,
+    plays_quietly state b.here.s b.here.held old new b.here.ms (moment_made state old p printed given b step) b.here.plays g quiet,
     left_next b.here.s b.here.ms (moment_made state old p printed given b step) b.here.item b.here.rest b.here.is_next,
   )
   made_quietly p printed given b (Err missed) quiet e = e
@@ -84,7 +86,7 @@ comes_given (ResourceRole setup past) given = tt
 comes_given (ManagerRole settings) given = tt
 
 module _ {D K : Type 0} (state : D → DiskState) (r : Run D K) (p : Place) where
-  abbrev pub brings_turn : (n : Names state r (TurnOf p)) (role : Role) → role_at (world_of n.here.s) no_past p ≡ Some role → Brings state r p cause.Turn (Some input.Turn)
+  abbrev pub brings_turn : (n : Names state r (TurnOf p)) (role : Role) → role_at (world_of n.here.s) n.here.held.past p ≡ Some role → Brings state r p cause.Turn (Some input.Turn)
   brings_turn n role there = record {
     here = n.here;
     still = n.still;
@@ -100,7 +102,7 @@ module _ {D K : Type 0} (state : D → DiskState) (r : Run D K) (p : Place) wher
     fits = comes_given role input.Turn;
   }
 
-  abbrev pub brings_stop : (calls : ℕ) (n : Names state r (StopOf p calls)) (role : Role) → role_at (world_of n.here.s) no_past p ≡ Some role → ComesTo role (Stopped calls) → Brings state r p (cause.Stop calls) None
+  abbrev pub brings_stop : (calls : ℕ) (n : Names state r (StopOf p calls)) (role : Role) → role_at (world_of n.here.s) n.here.held.past p ≡ Some role → ComesTo role (Stopped calls) → Brings state r p (cause.Stop calls) None
   brings_stop calls n role there fits = record {
     here = n.here;
     still = n.still;
@@ -116,7 +118,7 @@ module _ {D K : Type 0} (state : D → DiskState) (r : Run D K) (p : Place) wher
     fits = fits;
   }
 
-  abbrev pub brings_crash : (n : Names state r (CrashOf p)) (role : Role) → role_at (world_of n.here.s) no_past p ≡ Some role → ComesTo role Crashed → Brings state r p cause.Crash None
+  abbrev pub brings_crash : (n : Names state r (CrashOf p)) (role : Role) → role_at (world_of n.here.s) n.here.held.past p ≡ Some role → ComesTo role Crashed → Brings state r p cause.Crash None
   brings_crash n role there fits = record {
     here = n.here;
     still = n.still;
@@ -132,7 +134,7 @@ module _ {D K : Type 0} (state : D → DiskState) (r : Run D K) (p : Place) wher
     fits = fits;
   }
 
-  abbrev pub brings_restart : (pick : ℕ) (calls : Option ℕ) (n : Names state r (RestartOf p pick calls)) (role : Role) → role_at (world_of n.here.s) no_past p ≡ Some role → ComesTo role (Restarted pick calls)
+  abbrev pub brings_restart : (pick : ℕ) (calls : Option ℕ) (n : Names state r (RestartOf p pick calls)) (role : Role) → role_at (world_of n.here.s) n.here.held.past p ≡ Some role → ComesTo role (Restarted pick calls)
       → Brings state r p (cause.Restart pick calls) None
   brings_restart pick calls n role there fits = record {
     here = n.here;
@@ -149,7 +151,7 @@ module _ {D K : Type 0} (state : D → DiskState) (r : Run D K) (p : Place) wher
     fits = fits;
   }
 
-  abbrev pub brings_local : (number : ℕ) (n : Names state r (LocalOf number)) (role : Role) → role_at (world_of n.here.s) no_past p ≡ Some role → local_place (resources_of n.here.s) number ≡ p
+  abbrev pub brings_local : (number : ℕ) (n : Names state r (LocalOf number)) (role : Role) → role_at (world_of n.here.s) n.here.held.past p ≡ Some role → local_place (resources_of n.here.s) number ≡ p
       → Brings state r p (cause.Local number) (Some (input.Local number))
   brings_local number n role there stands = record {
     here = n.here;
@@ -166,7 +168,7 @@ module _ {D K : Type 0} (state : D → DiskState) (r : Run D K) (p : Place) wher
     fits = comes_given role (input.Local number);
   }
 
-  abbrev pub brings_outside : (number : ℕ) (n : Names state r (OutsideOf number)) (role : Role) → role_at (world_of n.here.s) no_past p ≡ Some role → local_place (resources_of n.here.s) number ≡ p
+  abbrev pub brings_outside : (number : ℕ) (n : Names state r (OutsideOf number)) (role : Role) → role_at (world_of n.here.s) n.here.held.past p ≡ Some role → local_place (resources_of n.here.s) number ≡ p
       → Brings state r p (cause.Outside number) (Some (input.Outside number))
   brings_outside number n role there stands = record {
     here = n.here;
@@ -203,7 +205,7 @@ module _ {D K : Type 0} (state : D → DiskState) (r : Run D K) (stamp : ℕ) (n
   ms = n.here.ms
 
   found : (o : Option Letter) → letter_at stamp r.messages.letters.items ≡ o → Found stamp ms o
-  found o e = subst (Found stamp ms) (ap (letter_at stamp) (sym n.here.plays.messages.sent) ∙ e) (letters_at (world_of n.here.s) (items_of n.here.s) ms n.here.plays.follows stamp)
+  found o e = subst (Found stamp ms) (ap (letter_at stamp) (sym n.here.plays.messages.sent) ∙ e) (letters_at (world_of n.here.s) n.here.held.past (items_of n.here.s) ms n.here.plays.follows stamp)
 
   -- the message was sent, and between nodes
   pub sent_here : (d : Delivery) → (l : Letter) × (letter_at stamp r.messages.letters.items ≡ Some l) × (delivery_of l ≡ d) → sent_at stamp ms ≡ sent_to d
@@ -213,12 +215,12 @@ module _ {D K : Type 0} (state : D → DiskState) (r : Run D K) (stamp : ℕ) (n
   sent_there d (l, kept, same) = subst (λ (x : Delivery). sent_from stamp x.from ms ≡ sent_to x) same (found (Some l) kept).1
 
   pub sent_below : (d : Delivery) → (l : Letter) × (letter_at stamp r.messages.letters.items ≡ Some l) × (delivery_of l ≡ d) → stamp < length ms + 1
-  sent_below d (l, kept, same) = letter_below (world_of n.here.s) (items_of n.here.s) ms stamp l (ap (letter_at stamp) (sym n.here.plays.messages.sent) ∙ kept)
+  sent_below d (l, kept, same) = letter_below (world_of n.here.s) n.here.held.past (items_of n.here.s) ms stamp l (ap (letter_at stamp) (sym n.here.plays.messages.sent) ∙ kept)
 
   pub brought_there : (d : Delivery) → (l : Letter) × (letter_at stamp r.messages.letters.items ≡ Some l) × (delivery_of l ≡ d) → Some (Given (input.Message d.from d.message)) ≡ brings ms d.to (Deliver stamp d.from)
   brought_there d kept = rw (sent_there d kept, same_place-refl d.to) refl
 
-  abbrev pub brings_delivery : (d : Delivery) → option_map delivery_of (letter_at stamp r.messages.letters.items) ≡ Some d → (role : Role) → role_at (world_of n.here.s) no_past d.to ≡ Some role
+  abbrev pub brings_delivery : (d : Delivery) → option_map delivery_of (letter_at stamp r.messages.letters.items) ≡ Some d → (role : Role) → role_at (world_of n.here.s) n.here.held.past d.to ≡ Some role
       → Brings state r d.to (cause.Deliver stamp d.from) (Some (input.Message d.from d.message))
   brings_delivery d e role there =
       let kept = delivered_from (letter_at stamp r.messages.letters.items) d e in
@@ -251,7 +253,7 @@ module _ {D K : Type 0} (state : D → DiskState) (old mid new : Run D K) (here 
       → ReceivesLater why (length here.ms + 1) → None ≡ brings here.ms place.Net why → ComesToNone here.ms place.Net why → ((k : ℕ) → takes k why ≡ false)
       → HasMade state old new here (Ok tt)
   net_plays names p same_network same_places same_messages same_nodes waiting clock_same time short later brought comes quiet =
-      (m ∷ here.ms, plays_quietly state here.s old new here.ms m here.plays grows quiet, left_next here.s here.ms m here.item here.rest here.is_next)
+      (m ∷ here.ms, plays_quietly state here.s here.held old new here.ms m here.plays grows quiet, left_next here.s here.ms m here.item here.rest here.is_next)
     where
       m : Moment
       m = next here.ms place.Net mid.clock why None (still act.Nothing)
@@ -259,9 +261,9 @@ module _ {D K : Type 0} (state : D → DiskState) (old mid new : Run D K) (here 
       size : length mid.places.items ≡ length here.ms
       size = ap (λ v. length v.items) same_places ∙ ap length here.plays.standing ∙ length-places here.ms
 
-      grows : Grows state here.s old new here.ms m
+      grows : Grows state here.s here.held old new here.ms m
       grows = record {
-        nodes = subst (λ (n : Nodes D K). AreNodes state here.s n (m ∷ here.ms)) (sym same_nodes) (nodes_net state here.s old.nodes here.ms m refl here.plays.nodes);
+        nodes = subst (λ (n : Nodes D K). AreNodes state here.s here.held n (m ∷ here.ms)) (sym same_nodes) (nodes_net state here.s here.held old.nodes here.ms m refl here.plays.nodes);
         passed = p.passed ∙ ap (λ n. mid.network.items ++ entry_at (n + 1) place.Net mid.clock (cause_of why) (still act.Nothing) ∷ []) size
             ∙ ap (λ v. v.items ++ entry_of m ∷ []) same_network ∙ ap (λ t. t ++ entry_of m ∷ []) here.plays.passed;
         standing = p.standing ∙ ap (λ v. v.items ++ place.Net ∷ []) same_places;
@@ -270,8 +272,8 @@ module _ {D K : Type 0} (state : D → DiskState) (old mid new : Run D K) (here 
         waiting = waiting;
         clocked = clock_same;
         slow = let slow = here.plays.slow in omega (arith, slow, time, short);
-        stands = rising state here.s old here.ms here.plays place.Net mid.clock why None (still act.Nothing) (omega (arith, time)) later brought (comes, refl);
-        is_step = subst (IsStep (world_of here.s) no_past here.ms m) (sym (drop_first (singles (items_of here.s)) (length here.ms) here.item here.rest here.is_next))
+        stands = rising state here.s here.held old here.ms here.plays place.Net mid.clock why None (still act.Nothing) (omega (arith, time)) later brought (comes, refl);
+        is_step = subst (IsStep (world_of here.s) here.held.past here.ms m) (sym (drop_first (singles (items_of here.s)) (length here.ms) here.item here.rest here.is_next))
             (refl, (let now_is = here.plays.clocked in omega (arith, now_is, time)), sym names);
         fits = tt;
       }

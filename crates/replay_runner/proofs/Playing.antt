@@ -11,7 +11,7 @@ use Rattle.scenario_form.specs.Contents.{IsBetween}
 use Rattle.scenario_form.specs.Runnable.{all_steps, steps_of}
 use Rattle.scenario_form.specs.Runnable.{IsPlaceAmong, IsRunnable, IsServerAmong}
 use Rattle.history_rules.specs.Own.{Event, Stopped, Crashed, Restarted}
-use Rattle.history_rules.specs.Nodes.{ComesTo, Role, no_past, role_at}
+use Rattle.history_rules.specs.Nodes.{ComesTo, Role, role_at}
 use Rattle.history_rules.specs.Histories.{Moment}
 use Rattle.history_rules.specs.Schedules.{Auto, CrashOf, Item, LocalOf, OutsideOf, RestartOf, StopOf, TurnOf, local_place, singles, singles_of, ticks_of, times}
 use Rattle.history_text.specs.declared.entries.Cause.{Cause}
@@ -20,6 +20,9 @@ use Rattle.history_text.specs.Worlds.{item_of, resources_of, world_of}
 use Rattle.node_seat.specs.Entering.{IsOfDisks}
 use Rattle.node_seat.specs.Keeping.{IsInputOf}
 use Rattle.node_seat.specs.declared.faults.RunFault.{RunFault}
+use Rattle.history_law.specs.MessageSafety.{AreOfResources}
+use Rattle.history_rules.specs.CoordinatorMemory.{start}
+use Rattle.scenario_nodes.specs.Nodes.{Held}
 use Rattle.replay_runner.specs.declared.runs.Run.{Run}
 use Rattle.replay_runner.specs.Going.{AreLocals, CanGo, CanMake, MayBeGiven}
 use Rattle.replay_runner.specs.Letters.{AreMessages}
@@ -36,24 +39,25 @@ use Rattle.replay_runner.proofs.Roles.{comes_server, place_role, server_place}
 
 -- a node stands at each place of the nodes
 pub role_here : {D K : Type 0} (state : D → DiskState) (r : Run D K) (here : IsAt state r) (p : Place) → IsPlaceAmong (length r.nodes.resources.items) (length r.nodes.managers.items) p
-    → (role : Role) × (role_at (world_of here.s) no_past p ≡ Some role)
+    → (role : Role) × (role_at (world_of here.s) here.held.past p ≡ Some role)
 role_here state r here p fits =
-    place_role here.s p
+    place_role here.s here.held.past p
     (subst (λ n. IsPlaceAmong n (length here.s.managers) p) here.plays.nodes.resources (subst (λ n. IsPlaceAmong (length r.nodes.resources.items) n p) here.plays.nodes.managers fits))
 
 -- ---- before the first step
 
-pub plays_nothing : {D K : Type 0} (state : D → DiskState) (s : Scenario) (r : Run D K) → AreNodes state s r.nodes [] → r.network.items ≡ [] → r.places.items ≡ [] → AreMessages r.messages [] → r.clock ≡ 0 → Plays state s r []
-plays_nothing state s r nodes network places messages time = record {
+pub plays_nothing : {D K : Type 0} (state : D → DiskState) (s : Scenario) (held : Held) (r : Run D K) → AreNodes state s held r.nodes [] → AreOfResources (world_of s) held.past.sessions → r.network.items ≡ [] → r.places.items ≡ [] → AreMessages r.messages [] → r.clock ≡ start held.past.sessions → Plays state s held r []
+plays_nothing state s held r nodes named network places messages time = record {
   nodes = nodes;
   passed = network;
   standing = places;
   messages = messages;
   clocked = time;
-  slow = omega (arith, time);
+  slow = let at = time in omega (arith, at);
   legal = tt;
   follows = tt;
   fits = tt;
+  named = named;
 }
 
 -- ---- single steps
@@ -83,6 +87,7 @@ single state r item still ready = record { here = ready_at state r item ready; s
 abbrev pub ready_as : {D K : Type 0} (state : D → DiskState) (r : Run D K) (item other : ScheduleItem) → item ≡ other → Ready state r (singles_of (item_of item)) → Ready state r (singles_of (item_of other))
 ready_as state r item other same ready = record {
   s = ready.s;
+  held = ready.held;
   runnable = ready.runnable;
   ms = ready.ms;
   plays = ready.plays;
@@ -95,10 +100,10 @@ pub times_first : (n : ℕ) → 0 < n → times n (Auto 1) ≡ Auto 1 ∷ times 
 times_first zero some = absurd (omega (arith, some))
 times_first (suc n) some = ap (λ k. Auto 1 ∷ times k (Auto 1)) (let same : n ≡ suc n - 1 = omega arith in same)
 
-abbrev pub choosing : {D K : Type 0} (state : D → DiskState) (r : Run D K) (s : Scenario) (ms : List Moment) (n : ℕ) (rest : List Item) → IsRunnable s → Plays state s r ms → 0 < n
+abbrev pub choosing : {D K : Type 0} (state : D → DiskState) (r : Run D K) (s : Scenario) (held : Held) (ms : List Moment) (n : ℕ) (rest : List Item) → IsRunnable s → Plays state s held r ms → 0 < n
     → left_of s ms ≡ times n (Auto 1) ++ rest → Names state r (Auto 1)
-choosing state r s ms n rest runs plays some left =
-    single state r (Auto 1) refl (record { s = s; runnable = runs; ms = ms; plays = plays; rest = times (n - 1) (Auto 1) ++ rest; is_next = left ∙ ap (λ l. l ++ rest) (times_first n some) })
+choosing state r s held ms n rest runs plays some left =
+    single state r (Auto 1) refl (record { s = s; held = held; runnable = runs; ms = ms; plays = plays; rest = times (n - 1) (Auto 1) ++ rest; is_next = left ∙ ap (λ l. l ++ rest) (times_first n some) })
 
 -- the others are left, where one more was counted
 pub one_fewer : (s : Scenario) (ms : List Moment) (steps counter : ℕ) (rest : List Item) → left_of s ms ≡ times (steps - counter - 1) (Auto 1) ++ rest → left_of s ms ≡ times (steps - (counter + 1)) (Auto 1) ++ rest
@@ -118,15 +123,15 @@ pub member_next : (items : List ScheduleItem) (k : ℕ) (item : ScheduleItem) (b
     → singles (map item_of (drop k items)) ≡ singles_of (item_of item) ++ singles (map item_of behind)
 member_next items k item behind e = ap (λ is. singles (map item_of is)) e
 
-abbrev pub member_ready : {D K : Type 0} (state : D → DiskState) (r : Run D K) (s : Scenario) (ms : List Moment) (item : ScheduleItem) (behind : List ScheduleItem) → IsRunnable s → Plays state s r ms
+abbrev pub member_ready : {D K : Type 0} (state : D → DiskState) (r : Run D K) (s : Scenario) (held : Held) (ms : List Moment) (item : ScheduleItem) (behind : List ScheduleItem) → IsRunnable s → Plays state s held r ms
     → left_of s ms ≡ singles_of (item_of item) ++ singles (map item_of behind) → Ready state r (singles_of (item_of item))
-member_ready state r s ms item behind runs plays left = record { s = s; runnable = runs; ms = ms; plays = plays; rest = singles (map item_of behind); is_next = left }
+member_ready state r s held ms item behind runs plays left = record { s = s; held = held; runnable = runs; ms = ms; plays = plays; rest = singles (map item_of behind); is_next = left }
 
-module _ {D K : Type 0} (state : D → DiskState) (r : Run D K) (schedule : List ScheduleItem) (k : ℕ) (item : ScheduleItem) (here : slice_get schedule k ≡ Some item) (s : Scenario) (runs : IsRunnable s)
-    (ms : List Moment) (plays : Plays state s r ms) (left : left_of s ms ≡ singles (map item_of (drop k schedule))) where
+module _ {D K : Type 0} (state : D → DiskState) (r : Run D K) (schedule : List ScheduleItem) (k : ℕ) (item : ScheduleItem) (here : slice_get schedule k ≡ Some item) (s : Scenario) (held : Held) (runs : IsRunnable s)
+    (ms : List Moment) (plays : Plays state s held r ms) (left : left_of s ms ≡ singles (map item_of (drop k schedule))) where
   -- the k-th member of the schedule is the next
   abbrev pub next_member : Ready state r (singles_of (item_of item))
-  next_member = member_ready state r s ms item (drop (k + 1) schedule) runs plays (left ∙ member_next schedule k item (drop (k + 1) schedule) (drop_get schedule k item here))
+  next_member = member_ready state r s held ms item (drop (k + 1) schedule) runs plays (left ∙ member_next schedule k item (drop (k + 1) schedule) (drop_get schedule k item here))
 
 -- its steps are the first of those that are left
 pub next_room : (schedule : List ScheduleItem) (k : ℕ) (item : ScheduleItem) → slice_get schedule k ≡ Some item → all_steps (drop k schedule) ≡ steps_of item + all_steps (drop (k + 1) schedule)
@@ -151,28 +156,28 @@ enters_disks r p why fits comes disks can = record {
 }
 
 module _ {D K : Type 0} (state : D → DiskState) (old new : Run D K) (p : Place) (fits : IsServerAmong (length old.nodes.resources.items) p) where
-  server_role : (here : IsAt state old) → (role : Role) × (role_at (world_of here.s) no_past p ≡ Some role)
+  server_role : (here : IsAt state old) → (role : Role) × (role_at (world_of here.s) here.held.past p ≡ Some role)
   server_role here = role_here state old here p (server_place (length old.nodes.resources.items) (length old.nodes.managers.items) p fits)
 
   server_fits : (here : IsAt state old) (event : Event) → ComesTo (server_role here).0 event
-  server_fits here event = comes_server here.s (length old.nodes.resources.items) p (server_role here).0 fits (server_role here).1 event
+  server_fits here event = comes_server here.s here.held.past (length old.nodes.resources.items) p (server_role here).0 fits (server_role here).1 event
 
   pub stop_made : (calls : ℕ) (ready : Ready state old (StopOf p calls ∷ [])) (r : Result (Unit {0}) RunFault) → ((b : Brings state old p (cause.Stop calls) None) → Made state old new p (cause.Stop calls) None b r)
-      → HasPlayed state ready.s new ready.rest r
+      → HasPlayed state ready.s ready.held new ready.rest r
   stop_made calls ready r made =
       let names = single state old (StopOf p calls) refl ready in
       let b = brings_stop state old p calls names (server_role names.here).0 (server_role names.here).1 (server_fits names.here (Stopped calls)) in
       made_quietly state old new p (cause.Stop calls) None b r (λ k. refl) (made b)
 
   pub crash_made : (ready : Ready state old (CrashOf p ∷ [])) (r : Result (Unit {0}) RunFault) → ((b : Brings state old p cause.Crash None) → Made state old new p cause.Crash None b r)
-      → HasPlayed state ready.s new ready.rest r
+      → HasPlayed state ready.s ready.held new ready.rest r
   crash_made ready r made =
       let names = single state old (CrashOf p) refl ready in
       let b = brings_crash state old p names (server_role names.here).0 (server_role names.here).1 (server_fits names.here Crashed) in
       made_quietly state old new p cause.Crash None b r (λ k. refl) (made b)
 
   pub restart_made : (pick : ℕ) (calls : Option ℕ) (ready : Ready state old (RestartOf p pick calls ∷ [])) (r : Result (Unit {0}) RunFault)
-      → ((b : Brings state old p (cause.Restart pick calls) None) → Made state old new p (cause.Restart pick calls) None b r) → HasPlayed state ready.s new ready.rest r
+      → ((b : Brings state old p (cause.Restart pick calls) None) → Made state old new p (cause.Restart pick calls) None b r) → HasPlayed state ready.s ready.held new ready.rest r
   restart_made pick calls ready r made =
       let names = single state old (RestartOf p pick calls) refl ready in
       let b = brings_restart state old p pick calls names (server_role names.here).0 (server_role names.here).1 (server_fits names.here (Restarted pick calls)) in
@@ -214,7 +219,7 @@ module _ {D K : Type 0} (r : Run D K) (locals : List (ℕ × List Stmt)) (number
         local_stands here.s number the_local.0 within.0 (ap (λ ls. slice_get ls (number - 1)) same ∙ the_local.1) (subst (λ n. IsBetween 1 n the_local.0.0) here.plays.nodes.resources among) ∙ sym at_resource
 
     pub local_made : (ready : Ready state r (LocalOf number ∷ [])) → ready.s.locals ≡ locals → ((b : Brings state r p (cause.Local number) (Some (input.Local number))) → Made state r new p (cause.Local number) (Some (input.Local number)) b result)
-        → HasPlayed state ready.s new ready.rest result
+        → HasPlayed state ready.s ready.held new ready.rest result
     local_made ready same made =
         let names = single state r (LocalOf number) refl ready in
         let there = role_here state r names.here p local_among in
@@ -222,7 +227,7 @@ module _ {D K : Type 0} (r : Run D K) (locals : List (ℕ × List Stmt)) (number
         made_quietly state r new p (cause.Local number) (Some (input.Local number)) b result (λ k. refl) (made b)
 
     pub outside_made : (ready : Ready state r (OutsideOf number ∷ [])) → ready.s.locals ≡ locals → ((b : Brings state r p (cause.Outside number) (Some (input.Outside number))) → Made state r new p (cause.Outside number) (Some (input.Outside number)) b result)
-        → HasPlayed state ready.s new ready.rest result
+        → HasPlayed state ready.s ready.held new ready.rest result
     outside_made ready same made =
         let names = single state r (OutsideOf number) refl ready in
         let there = role_here state r names.here p local_among in

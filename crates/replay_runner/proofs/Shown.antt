@@ -3,14 +3,14 @@ use Rattle.std.proofs.Common.{◌≡◌, ◌+◌, ℕ, zero, suc, List, [], ◌�
 use Rattle.std.proofs.lemmas.List.{length-map}
 use Rattle.std.proofs.lemmas.Option.{same_Some, slice_get-map}
 use Rattle.disk_model.specs.Disk.{DiskState}
-use Rattle.journal_checkpoint.specs.Extents.{blank}
+use Rattle.journal_checkpoint.specs.Extents.{Extent}
 use Rattle.journal_checkpoint.specs.Images.{Pair}
 use Rattle.seata_types.specs.declared.ids.Place.{Place}
 use Rattle.seata_types.specs.declared.ids.Place.TheVariants as place
 use Rattle.scenario_form.specs.declared.scenarios.Scenario.{Scenario}
 use Rattle.history_rules.specs.Own.{Own}
 use Rattle.history_rules.specs.Devices.{last_pick}
-use Rattle.history_rules.specs.Nodes.{Role, counted_at, no_past, role_at}
+use Rattle.history_rules.specs.Nodes.{Role, counted_at, role_at}
 use Rattle.history_rules.specs.Nodes.{Coordinator as CoordinatorRole, Manager as ManagerRole, Resource as ResourceRole}
 use Rattle.history_rules.specs.Histories.{Moment, own}
 use Rattle.node_steps.specs.Durable.{AreNodeDisks}
@@ -26,7 +26,7 @@ use Rattle.resource_core.specs.Shown as shown
 use Rattle.manager_core.specs.declared.nodes.Manager.{Manager}
 use Rattle.manager_core.specs.Standing as manager
 use Rattle.node_seat.specs.Entering.{HaveLast}
-use Rattle.scenario_nodes.specs.Nodes.{HaveSize, coordinator_disks, coordinator_role, resource_disks, resource_role}
+use Rattle.scenario_nodes.specs.Nodes.{HaveSize, Held, coordinator_disks, coordinator_role, resource_disks, resource_role}
 use Rattle.scenario_nodes.specs.Shelves.{pair_of}
 use Rattle.replay_runner.specs.declared.members.Member.{Member}
 use Rattle.replay_runner.specs.declared.nodes.Nodes.{Nodes}
@@ -67,20 +67,20 @@ module _ {D : Type 0} (state : D → DiskState) where
   resource_leaves r (ManagerRole settings) owns stands last = absurd stands
 
   -- their journal stands where the entries leave it
-  pub coordinator_laid : (c : Coordinator D) (role : Role) (size : ℕ) (owns : List Own) → coordinator.StandsAs state c role owns → coordinator.LiesAs state c role blank size owns
-      → AreLaid role blank size owns (pair_of state (coordinator_disks c))
-  coordinator_laid c (CoordinatorRole times past) size owns stands lies = let laid = (coordinator_lawful state c).laid (CoordinatorRole times past) blank size owns stands lies in λ a b one two. laid a b one two
-  coordinator_laid c (ResourceRole setup past) size owns stands lies = absurd stands
-  coordinator_laid c (ManagerRole settings) size owns stands lies = absurd stands
+  pub coordinator_laid : (c : Coordinator D) (role : Role) (begun : Extent) (size : ℕ) (owns : List Own) → coordinator.StandsAs state c role owns → coordinator.LiesAs state c role begun size owns
+      → AreLaid role begun size owns (pair_of state (coordinator_disks c))
+  coordinator_laid c (CoordinatorRole times past) begun size owns stands lies = let laid = (coordinator_lawful state c).laid (CoordinatorRole times past) begun size owns stands lies in λ a b one two. laid a b one two
+  coordinator_laid c (ResourceRole setup past) begun size owns stands lies = absurd stands
+  coordinator_laid c (ManagerRole settings) begun size owns stands lies = absurd stands
 
-  pub resource_laid : (r : Resource D) (role : Role) (size : ℕ) (owns : List Own) → resource.StandsAs state r role owns → resource.LiesAs state r role blank size owns
-      → AreLaid role blank size owns (pair_of state (resource_disks r))
-  resource_laid r (ResourceRole setup past) size owns stands lies = let laid = (resource_lawful state r).laid (ResourceRole setup past) blank size owns stands lies in λ a b one two. laid a b one two
-  resource_laid r (CoordinatorRole times past) size owns stands lies = absurd stands
-  resource_laid r (ManagerRole settings) size owns stands lies = absurd stands
+  pub resource_laid : (r : Resource D) (role : Role) (begun : Extent) (size : ℕ) (owns : List Own) → resource.StandsAs state r role owns → resource.LiesAs state r role begun size owns
+      → AreLaid role begun size owns (pair_of state (resource_disks r))
+  resource_laid r (ResourceRole setup past) begun size owns stands lies = let laid = (resource_lawful state r).laid (ResourceRole setup past) begun size owns stands lies in λ a b one two. laid a b one two
+  resource_laid r (CoordinatorRole times past) begun size owns stands lies = absurd stands
+  resource_laid r (ManagerRole settings) begun size owns stands lies = absurd stands
 
-  pub manager_laid : (m : Manager) (role : Role) (size : ℕ) (owns : List Own) (disks : Pair) → manager.StandsAs m role owns → AreLaid role blank size owns disks
-  manager_laid m role size owns disks stands = subst (λ r. AreLaid r blank size owns disks) (sym stands.0) tt
+  pub manager_laid : (m : Manager) (role : Role) (begun : Extent) (size : ℕ) (owns : List Own) (disks : Pair) → manager.StandsAs m role owns → AreLaid role begun size owns disks
+  manager_laid m role begun size owns disks stands = subst (λ r. AreLaid r begun size owns disks) (sym stands.0) tt
 
   pub manager_role_is : (m : Manager) (role : Role) (owns : List Own) (disks : Pair) → manager.StandsAs m role owns → AreNodeDisks role owns disks × AreLeft role owns disks
   manager_role_is m role owns disks stands = subst (λ r. AreNodeDisks r owns disks × AreLeft r owns disks) (sym stands.0) (tt, tt)
@@ -110,7 +110,7 @@ module _ {D K : Type 0} (state : D → DiskState) (n : Nodes D K) where
 
 -- ---- the disks of a replay
 
-module _ {D K : Type 0} (state : D → DiskState) (s : Scenario) (n : Nodes D K) where
+module _ {D K : Type 0} (state : D → DiskState) (s : Scenario) (held : Held) (n : Nodes D K) where
   shows_at : (p : Place) (role : Role) (owns : List Own) → StandsAt state s.disk n p role owns → AreNodeDisks role owns (disks_in (all_disks state n) p)
   shows_at place.Net role owns stands = absurd stands
   shows_at place.Tc role owns is = coordinator_shows state n.coordinator.seat.node role owns is.stands
@@ -118,10 +118,10 @@ module _ {D K : Type 0} (state : D → DiskState) (s : Scenario) (n : Nodes D K)
       subst (λ (d : Pair). AreNodeDisks role owns d) (sym (resource_in state n k m here)) (resource_shows state m.seat.node role owns is.stands)
   shows_at (place.Man k) role owns (m, here, stands) = (manager_role_is state m.seat.node role owns (disks_in (all_disks state n) (place.Man k)) stands).0
 
-  pub all_show : (ms : List Moment) → AllStand state s n ms → (p : Place) (role : Role) → role_at (world_of s) no_past p ≡ Some role → AreNodeDisks role (own p ms) (disks_in (all_disks state n) p)
+  pub all_show : (ms : List Moment) → AllStand state s held n ms → (p : Place) (role : Role) → role_at (world_of s) held.past p ≡ Some role → AreNodeDisks role (own p ms) (disks_in (all_disks state n) p)
   all_show ms stand p role e = shows_at p role (own p ms) (stand p role e)
 
-  leaves_at : (bytes : ℕ) (ms : List Moment) (p : Place) (role : Role) → HasNode state bytes n ms p role → AreLeft role (own p ms) (disks_in (all_disks state n) p)
+  leaves_at : (bytes : ℕ) (ms : List Moment) (p : Place) (role : Role) → HasNode state held bytes n ms p role → AreLeft role (own p ms) (disks_in (all_disks state n) p)
   leaves_at bytes ms place.Net role has = absurd has
   leaves_at bytes ms place.Tc role has = coordinator_leaves state n.coordinator.seat.node role (own place.Tc ms) has.member.stands has.picked
   leaves_at bytes ms (place.Res k) role (m, here, is) =
@@ -129,36 +129,36 @@ module _ {D K : Type 0} (state : D → DiskState) (s : Scenario) (n : Nodes D K)
       (resource_leaves state m.seat.node role (own (place.Res k) ms) is.member.stands is.picked)
   leaves_at bytes ms (place.Man k) role (m, here, is) = (manager_role_is state m.seat.node role (own (place.Man k) ms) (disks_in (all_disks state n) (place.Man k)) is.stands).1
 
-  pub all_left : (ms : List Moment) → AreNodes state s n ms → (p : Place) (role : Role) → role_at (world_of s) no_past p ≡ Some role → AreLeft role (own p ms) (disks_in (all_disks state n) p)
+  pub all_left : (ms : List Moment) → AreNodes state s held n ms → (p : Place) (role : Role) → role_at (world_of s) held.past p ≡ Some role → AreLeft role (own p ms) (disks_in (all_disks state n) p)
   all_left ms nodes p role e = leaves_at s.disk ms p role (nodes.each p role e)
 
-  laid_at : (bytes : ℕ) (ms : List Moment) (p : Place) (role : Role) → HasNode state bytes n ms p role → AreLaid role blank bytes (own p ms) (disks_in (all_disks state n) p)
+  laid_at : (bytes : ℕ) (ms : List Moment) (p : Place) (role : Role) → HasNode state held bytes n ms p role → AreLaid role (held.starts p) bytes (own p ms) (disks_in (all_disks state n) p)
   laid_at bytes ms place.Net role has = absurd has
-  laid_at bytes ms place.Tc role has = coordinator_laid state n.coordinator.seat.node role bytes (own place.Tc ms) has.member.stands has.lies
+  laid_at bytes ms place.Tc role has = coordinator_laid state n.coordinator.seat.node role (held.starts place.Tc) bytes (own place.Tc ms) has.member.stands has.lies
   laid_at bytes ms (place.Res k) role (m, here, is) =
-      subst (λ (d : Pair). AreLaid role blank bytes (own (place.Res k) ms) d) (sym (resource_in state n k m here))
-      (resource_laid state m.seat.node role bytes (own (place.Res k) ms) is.member.stands is.lies)
-  laid_at bytes ms (place.Man k) role (m, here, is) = manager_laid state m.seat.node role bytes (own (place.Man k) ms) (disks_in (all_disks state n) (place.Man k)) is.stands
+      subst (λ (d : Pair). AreLaid role (held.starts (place.Res k)) bytes (own (place.Res k) ms) d) (sym (resource_in state n k m here))
+      (resource_laid state m.seat.node role (held.starts (place.Res k)) bytes (own (place.Res k) ms) is.member.stands is.lies)
+  laid_at bytes ms (place.Man k) role (m, here, is) = manager_laid state m.seat.node role (held.starts (place.Man k)) bytes (own (place.Man k) ms) (disks_in (all_disks state n) (place.Man k)) is.stands
 
-  pub all_laid : (ms : List Moment) → AreNodes state s n ms → (p : Place) (role : Role) → role_at (world_of s) no_past p ≡ Some role → AreLaid role blank s.disk (own p ms) (disks_in (all_disks state n) p)
+  pub all_laid : (ms : List Moment) → AreNodes state s held n ms → (p : Place) (role : Role) → role_at (world_of s) held.past p ≡ Some role → AreLaid role (held.starts p) s.disk (own p ms) (disks_in (all_disks state n) p)
   all_laid ms nodes p role e = laid_at s.disk ms p role (nodes.each p role e)
 
-  stands_by : (bytes : ℕ) (ms : List Moment) (p : Place) (role : Role) → HasNode state bytes n ms p role → StandsAt state bytes n p role (own p ms)
+  stands_by : (bytes : ℕ) (ms : List Moment) (p : Place) (role : Role) → HasNode state held bytes n ms p role → StandsAt state bytes n p role (own p ms)
   stands_by bytes ms place.Net role has = absurd has
   stands_by bytes ms place.Tc role has = record { stands = has.member.stands; sized = has.sized }
   stands_by bytes ms (place.Res k) role (m, here, is) = (m, here, record { stands = is.member.stands; sized = is.sized })
   stands_by bytes ms (place.Man k) role (m, here, is) = (m, here, is.stands)
 
-  pub all_stand : (ms : List Moment) → AreNodes state s n ms → AllStand state s n ms
+  pub all_stand : (ms : List Moment) → AreNodes state s held n ms → AllStand state s held n ms
   all_stand ms nodes p role e = stands_by s.disk ms p role (nodes.each p role e)
 
   -- all have the scenario's size
-  pub all_sized : length n.resources.items ≡ length s.resources → (ms : List Moment) → AllStand state s n ms → HaveSizes s (all_disks state n)
-  all_sized count ms stand zero below = let is = stand place.Tc (coordinator_role s) refl in record { first = is.sized.first; second = is.sized.second }
+  pub all_sized : length n.resources.items ≡ length s.resources → (ms : List Moment) → AllStand state s held n ms → HaveSizes s (all_disks state n)
+  all_sized count ms stand zero below = let is = stand place.Tc (coordinator_role s held) refl in record { first = is.sized.first; second = is.sized.second }
   all_sized count ms stand (suc k) below =
       let size = count_disks state n in
       let (def, here) = member_at s.resources k (omega (arith, below, size, count)) in
-      let (m, there, is) = stand (place.Res (suc k)) (resource_role s (k + 1) def) (sym (ap (λ i. role_at (world_of s) no_past (place.Res i)) (add-one k)) ∙ role_of_resource s k def here) in
+      let (m, there, is) = stand (place.Res (suc k)) (resource_role s held (k + 1) def) (sym (ap (λ i. role_at (world_of s) held.past (place.Res i)) (add-one k)) ∙ role_of_resource s held.past k def here) in
       subst (λ (d : Pair). HaveSize s.disk d) (sym (resource_in state n (suc k) m there)) (record { first = is.sized.first; second = is.sized.second })
 
   -- the disks of the node at a place are those that are given back

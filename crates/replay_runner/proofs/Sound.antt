@@ -2,7 +2,7 @@
 use Rattle.std.proofs.Common.{◌≡◌, ◌+◌, ◌≤◌, ℕ, false, List, [], ◌∷◌, ◌++◌, length, Option, None, OnOk, Result, Ok, Err, refl, ap, sym, subst, ◌∙◌, arith, length-append}
 use Rattle.seata_types.specs.declared.ids.Place.{Place}
 use Rattle.seata_types.specs.declared.ids.Place.TheVariants as place
-use Rattle.seata_types.specs.declared.limits.TheConstants.{STEPS, TICKS}
+use Rattle.seata_types.specs.declared.limits.TheConstants.{LATEST_START, STEPS, TICKS}
 use Rattle.history_text.specs.declared.entries.Cause.{Cause}
 use Rattle.node_seat.specs.declared.faults.RunFault.{RunFault}
 use Rattle.replay_runner.specs.declared.messages.Letter.{Letter}
@@ -106,14 +106,14 @@ one_more managers resources entries counter r new g went =
     subst (λ n. Goes managers resources n new) (let same : entries + counter + 1 ≡ entries + (counter + 1) = omega arith in same) (went_on managers resources (entries + counter) 1 r new g went)
 
 -- before the first
-pub goes_nothing : {D K : Type 0} (managers resources : ℕ) (r : Run D K) → NodesGo managers resources 1 0 r.nodes → r.places.items ≡ [] → AreMessages r.messages [] → r.clock ≡ 0 → Goes managers resources 0 r
-goes_nothing managers resources r nodes places messages time = record {
-  nodes = subst (λ t. NodesGo managers resources (0 + 1) t r.nodes) (sym time) (subst (λ n. NodesGo managers resources n 0 r.nodes) (let one : 1 ≡ 0 + 1 = omega arith in one) nodes);
+pub goes_nothing : {D K : Type 0} (managers resources now : ℕ) (r : Run D K) → NodesGo managers resources 1 now r.nodes → r.places.items ≡ [] → AreMessages r.messages [] → r.clock ≡ now → now ≤ LATEST_START → Goes managers resources 0 r
+goes_nothing managers resources now r nodes places messages time early = record {
+  nodes = subst (λ t. NodesGo managers resources (0 + 1) t r.nodes) (sym time) (subst (λ n. NodesGo managers resources n now r.nodes) (let one : 1 ≡ 0 + 1 = omega arith in one) nodes);
   places = ap length places;
   letters = ap length messages.sent;
   marks = messages.count;
   within = messages.within;
-  slow = omega (arith, time);
+  slow = omega (arith, time, early);
 }
 
 -- ---- what an entry asks

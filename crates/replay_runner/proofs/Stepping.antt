@@ -7,7 +7,7 @@ use Rattle.seata_types.specs.declared.limits.TheConstants.{TICKS}
 use Rattle.seata_types.specs.declared.messages.Input.{Input}
 use Rattle.seata_types.specs.declared.messages.Input.TheVariants as input
 use Rattle.scenario_form.specs.declared.scenarios.Scenario.{Scenario}
-use Rattle.history_rules.specs.Nodes.{Role, no_past, role_at}
+use Rattle.history_rules.specs.Nodes.{Past, Role, role_at}
 use Rattle.history_rules.specs.Histories.{Missing, Wait, same_place}
 use Rattle.history_rules.specs.Schedules.{DeliverOf, WaitFor, delivery}
 use Rattle.history_text.specs.declared.entries.Cause.{Cause}
@@ -31,11 +31,11 @@ use Rattle.replay_runner.proofs.Played.{brings_delivery, left_next, net_plays, n
 use Rattle.replay_runner.proofs.Waiting.{kept_taken}
 
 -- no node stands at the network
-not_net : (s : Scenario) (p : Place) (role : Role) → role_at (world_of s) no_past p ≡ Some role → same_place place.Net p ≡ false
-not_net s place.Net role e = absurd (let no : None ≡ Some role = e in cc)
-not_net s place.Tc role e = refl
-not_net s (place.Res n) role e = refl
-not_net s (place.Man n) role e = refl
+not_net : (s : Scenario) (past : Past) (p : Place) (role : Role) → role_at (world_of s) past p ≡ Some role → same_place place.Net p ≡ false
+not_net s past place.Net role e = absurd (let no : None ≡ Some role = e in cc)
+not_net s past place.Tc role e = refl
+not_net s past (place.Res n) role e = refl
+not_net s past (place.Man n) role e = refl
 
 -- what was kept of an entry
 pub record IsKept {D K : Type 0} (mid new : Run D K) (p : Place) (letter : Option Letter) : Type 0 where
@@ -56,8 +56,8 @@ module _ {D K : Type 0} (state : D → DiskState) (old mid new : Run D K) (p : P
       let m = moment_made state old p printed given b e.step in (
         e.step,
         record {
-          nodes = subst (λ (n : Nodes D K). AreNodes state b.here.s n (m ∷ b.here.ms)) (sym k.nodes) e.nodes;
-          passed = ap (λ v. v.items) (k.network ∙ network) ∙ b.here.plays.passed ∙ sym (printed_there place.Net m b.here.ms (not_net b.here.s p b.role b.there));
+          nodes = subst (λ (n : Nodes D K). AreNodes state b.here.s b.here.held n (m ∷ b.here.ms)) (sym k.nodes) e.nodes;
+          passed = ap (λ v. v.items) (k.network ∙ network) ∙ b.here.plays.passed ∙ sym (printed_there place.Net m b.here.ms (not_net b.here.s b.here.held.past p b.role b.there));
           standing = k.standing ∙ ap (λ v. v.items ++ p ∷ []) places;
           sent = k.sent ∙ ap (λ v. v.letters.items ++ letter ∷ []) messages ∙ ap (λ l. old.messages.letters.items ++ l ∷ []) e.sent;
           taken = k.taken ∙ ap (λ v. v.taken.items ++ false ∷ []) messages;
@@ -76,11 +76,11 @@ module _ {D K : Type 0} (state : D → DiskState) (old mid new : Run D K) (p : P
   ends_unkept letter e same =
       let m = moment_made state old p printed given b e.step in
       ends_later state old p printed given b new fault.NoMemory e.step e.happens e.fits
-      (subst (λ (n : Nodes D K). AllStand state b.here.s n (m ∷ b.here.ms)) (sym same) (all_stand state b.here.s mid.nodes (m ∷ b.here.ms) e.nodes)) refl
+      (subst (λ (n : Nodes D K). AllStand state b.here.s b.here.held n (m ∷ b.here.ms)) (sym same) (all_stand state b.here.s b.here.held mid.nodes (m ∷ b.here.ms) e.nodes)) refl
 
 -- ---- deliveries
 
-module _ {D K : Type 0} (state : D → DiskState) (old mid new : Run D K) (stamp : ℕ) (d : Delivery) (h : Hears state old stamp d) (role : Role) (there : role_at (world_of h.step.here.s) no_past d.to ≡ Some role) where
+module _ {D K : Type 0} (state : D → DiskState) (old mid new : Run D K) (stamp : ℕ) (d : Delivery) (h : Hears state old stamp d) (role : Role) (there : role_at (world_of h.step.here.s) h.step.here.held.past d.to ≡ Some role) where
   abbrev comes : Brings state old d.to (cause.Deliver stamp d.from) (Some (input.Message d.from d.message))
   comes = brings_delivery state old stamp h.step d h.is_found role there
 
@@ -108,16 +108,17 @@ module _ {D K : Type 0} (state : D → DiskState) (old mid new : Run D K) (stamp
       let m = moment_made state old d.to (cause.Deliver stamp d.from) (Some (input.Message d.from d.message)) comes step in (
         m ∷ comes.here.ms,
         record {
-          nodes = subst (λ (n : Nodes D K). AreNodes state comes.here.s n (m ∷ comes.here.ms)) (sym nodes) g.nodes;
+          nodes = subst (λ (n : Nodes D K). AreNodes state comes.here.s comes.here.held n (m ∷ comes.here.ms)) (sym nodes) g.nodes;
           passed = ap (λ v. v.items) network ∙ g.passed;
           standing = ap (λ v. v.items) places ∙ g.standing ∙ ap (λ ps. ps ++ m.place ∷ []) comes.here.plays.standing;
-          messages = kept_taken (world_of comes.here.s) (items_of comes.here.s) old.messages new.messages comes.here.ms m comes.here.plays.legal comes.here.plays.follows comes.here.plays.messages
+          messages = kept_taken (world_of comes.here.s) comes.here.held.past (items_of comes.here.s) old.messages new.messages comes.here.ms m comes.here.plays.legal comes.here.plays.follows comes.here.plays.messages
               (ap (λ v. v.items) sent ∙ g.sent) (waiting ∙ g.waiting) stamp d.from refl first_stamp comes.later (taken ∙ ap (λ l. set l (stamp - 1) true) g.taken);
           clocked = clock ∙ g.clocked;
           slow = let now = clock ∙ g.clocked in let slow = g.slow in omega (arith, now, slow);
           legal = (comes.here.plays.legal, g.stands);
           follows = (comes.here.plays.follows, g.is_step);
           fits = (comes.here.plays.fits, g.fits);
+          named = comes.here.plays.named;
         },
         left_next comes.here.s comes.here.ms m comes.here.item comes.here.rest comes.here.is_next,
       )
@@ -132,7 +133,7 @@ module _ {D K : Type 0} (state : D → DiskState) (old new : Run D K) where
     legal = here.plays.legal;
     follows = here.plays.follows;
     fits = here.plays.fits;
-    stands = subst (λ (n : Nodes D K). AllStand state here.s n here.ms) (sym same) (all_stand state here.s old.nodes here.ms here.plays.nodes);
+    stands = subst (λ (n : Nodes D K). AllStand state here.s here.held n here.ms) (sym same) (all_stand state here.s here.held old.nodes here.ms here.plays.nodes);
     cause = tt;
   }
 
@@ -148,7 +149,7 @@ module _ {D K : Type 0} (state : D → DiskState) (old new : Run D K) where
   -- so many ticks passed
   pub waited : (mid : Run D K) (ticks : ℕ) (ready : Ready state old (WaitFor ticks ∷ [])) → ticks ≤ TICKS → IsPassed mid new (cause.Wait ticks) → mid.network ≡ old.network → mid.places ≡ old.places
       → mid.messages ≡ old.messages → mid.clock ≡ old.clock + ticks → new.nodes ≡ old.nodes → new.messages.waiting ≡ old.messages.waiting → new.clock ≡ mid.clock
-      → HasPlayed state ready.s new ready.rest (Ok tt)
+      → HasPlayed state ready.s ready.held new ready.rest (Ok tt)
   waited mid ticks ready few p network places messages clock same_nodes waiting same =
       net_plays state old mid new (ready_at state old (WaitFor ticks) ready) (Wait ticks) refl p network places messages same_nodes waiting same clock few tt refl tt (λ k. refl)
 
@@ -162,8 +163,8 @@ module _ {D K : Type 0} (state : D → DiskState) (old new : Run D K) where
   pub waited_or_ends : (mid : Run D K) (ticks : ℕ) (ready : Ready state old (WaitFor ticks ∷ [])) → ticks ≤ TICKS → (r : Result (Unit {0}) RunFault)
       → OnOk r (IsPassed mid new (cause.Wait ticks)) → IfErr r (λ missed. missed ≡ fault.NoMemory) → mid.network ≡ old.network → mid.places ≡ old.places
       → mid.messages ≡ old.messages → mid.clock ≡ old.clock + ticks → new.nodes ≡ old.nodes → new.messages.waiting ≡ old.messages.waiting → new.clock ≡ mid.clock
-      → HasPlayed state ready.s new ready.rest r
+      → HasPlayed state ready.s ready.held new ready.rest r
   waited_or_ends mid ticks ready few (Ok done) p is network places messages clock same_nodes waiting same =
       waited mid ticks ready few p network places messages clock same_nodes waiting same
   waited_or_ends mid ticks ready few (Err why) p is network places messages clock same_nodes waiting same =
-      subst (λ w. HasPlayed state ready.s new ready.rest (Err w)) (sym is) (ends_before (ready_at state old (WaitFor ticks) ready) same_nodes)
+      subst (λ w. HasPlayed state ready.s ready.held new ready.rest (Err w)) (sym is) (ends_before (ready_at state old (WaitFor ticks) ready) same_nodes)

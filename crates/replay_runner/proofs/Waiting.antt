@@ -4,7 +4,7 @@ use Rattle.std.proofs.lemmas.Bool.Decides.{nat_tests}
 use Rattle.std.proofs.lemmas.Option.{same_Some}
 use Rattle.seata_types.specs.declared.ids.Place.{Place}
 use Rattle.seata_types.specs.declared.messages.Outgoing.{Outgoing}
-use Rattle.history_rules.specs.Nodes.{World, no_past}
+use Rattle.history_rules.specs.Nodes.{Past, World}
 use Rattle.history_rules.specs.Histories.{Moment, Cause, Turn, Deliver, Missing, Wait, Stop, Crash, Restart, Local, Outside, Legal, ReceivesLater}
 use Rattle.history_rules.specs.Schedules.{Follows, Item, is_taken, oldest_waiting, or_waiting, takes}
 use Rattle.replay_runner.specs.declared.messages.Letter.{Letter}
@@ -31,11 +31,11 @@ takes_not (Outside number) stamp k later within = refl
 taken_before : (k : ℕ) (m : Moment) (ms : List Moment) → takes k m.cause ≡ false → is_taken k (m ∷ ms) ≡ is_taken k ms
 taken_before k m ms quiet = rw quiet refl
 
-module _ (w : World) (schedule : List Item) where
-  pub none_taken : (ms : List Moment) → Legal w no_past ms → Follows w no_past schedule ms → (k : ℕ) → length ms < k → is_taken k ms ≡ false
+module _ (w : World) (past : Past) (schedule : List Item) where
+  pub none_taken : (ms : List Moment) → Legal w past ms → Follows w past schedule ms → (k : ℕ) → length ms < k → is_taken k ms ≡ false
   none_taken [] legal follows k later = refl
   none_taken (m ∷ ms) legal follows k later =
-      let stamp = step_stamp w schedule _ ms m follows.1 in
+      let stamp = step_stamp w past schedule _ ms m follows.1 in
       taken_before k m ms (takes_not m.cause m.stamp k legal.1.receives_later (omega (arith, stamp, later))) ∙ none_taken ms legal.0 follows.0 k (omega (arith, later))
 
 waits_alike : (sent sent' : List (Option Letter)) (taken taken' : List Bool) (k : ℕ) → slice_get sent' k ≡ slice_get sent k → slice_get taken' k ≡ slice_get taken k
@@ -46,7 +46,7 @@ waits_no_more : (sent : List (Option Letter)) (taken : List Bool) (k : ℕ) → 
 waits_no_more sent taken k e = rw e refl
 
 -- what is kept of the messages, with those of one moment more
-module _ (w : World) (schedule : List Item) (old new : Messages) (ms : List Moment) (m : Moment) (legal : Legal w no_past ms) (follows : Follows w no_past schedule ms)
+module _ (w : World) (past : Past) (schedule : List Item) (old new : Messages) (ms : List Moment) (m : Moment) (legal : Legal w past ms) (follows : Follows w past schedule ms)
     (are : AreMessages old ms) (sent : new.letters.items ≡ old.letters.items ++ letter_of m ∷ []) (waiting : new.waiting ≡ old.waiting) where
   size : length old.letters.items ≡ length ms
   size = ap length are.sent ∙ length-letters ms
@@ -58,7 +58,7 @@ module _ (w : World) (schedule : List Item) (old new : Messages) (ms : List Mome
   marks_before k below = snoc_below old.taken.items false k (let count = are.count in omega (arith, below, count)) ∙ are.taken k below
 
   marks_here : slice_get (old.taken.items ++ false ∷ []) (length ms) ≡ Some (is_taken (length ms + 1) ms)
-  marks_here = ap (slice_get (old.taken.items ++ false ∷ [])) (sym are.count) ∙ snoc_end old.taken.items false ∙ ap Some (sym (none_taken w schedule ms legal follows (length ms + 1) (omega arith)))
+  marks_here = ap (slice_get (old.taken.items ++ false ∷ [])) (sym are.count) ∙ snoc_end old.taken.items false ∙ ap Some (sym (none_taken w past schedule ms legal follows (length ms + 1) (omega arith)))
 
   marks : (k : ℕ) → k < length ms + 1 → slice_get (old.taken.items ++ false ∷ []) k ≡ Some (is_taken (k + 1) ms)
   marks k below = by (nat_lt k (length ms)) refl
@@ -124,7 +124,7 @@ module _ (w : World) (schedule : List Item) (old new : Messages) (ms : List Mome
 
 -- ---- the oldest that waits
 
-module _ (w : World) (schedule : List Item) (all : List Moment) where
+module _ (w : World) (past : Past) (schedule : List Item) (all : List Moment) where
   abbrev pub waiting_at : List Moment → ℕ → Bool
   waiting_at ms k = not (is_taken (k + 1) all) && is_some (the_letter (slice_get (letters ms) k))
 
@@ -134,11 +134,11 @@ module _ (w : World) (schedule : List Item) (all : List Moment) where
   letter_end : (m : Moment) (ms : List Moment) → slice_get (letters (m ∷ ms)) (length ms) ≡ Some (letter_of m)
   letter_end m ms = ap (slice_get (letters ms ++ letter_of m ∷ [])) (sym (length-letters ms)) ∙ snoc_end (letters ms) (letter_of m)
 
-  pub none_waits : (ms : List Moment) → Follows w no_past schedule ms → ((k : ℕ) → k < length ms → waiting_at ms k ≡ false) → oldest_waiting all ms ≡ None
+  pub none_waits : (ms : List Moment) → Follows w past schedule ms → ((k : ℕ) → k < length ms → waiting_at ms k ≡ false) → oldest_waiting all ms ≡ None
   none_waits [] follows none = refl
   none_waits (m ∷ ms) follows none =
       let before = none_waits ms follows.0 (λ k below. sym (waiting_below m ms k below) ∙ none k (omega (arith, below))) in
-      let stamp = step_stamp w schedule _ ms m follows.1 in
+      let stamp = step_stamp w past schedule _ ms m follows.1 in
       let here : (not (is_taken m.stamp all) && is_some (letter_of m)) ≡ false =
       ap (λ n. not (is_taken n all) && is_some (letter_of m)) stamp ∙ ap (λ o. not (is_taken (length ms + 1) all) && is_some (the_letter o)) (sym (letter_end m ms)) ∙ none (length ms) (omega arith) in
       ap (λ o. or_waiting o (is_taken m.stamp all) m m.step.sent) before ∙ by (is_taken m.stamp all) m.step.sent here
@@ -148,13 +148,13 @@ module _ (w : World) (schedule : List Item) (all : List Moment) where
       by false None e = refl
       by false (Some out) e = absurd (let no : true ≡ false = e in cc)
 
-  pub first_waits : (ms : List Moment) → Follows w no_past schedule ms → (k : ℕ) → k < length ms → ((j : ℕ) → j < k → waiting_at ms j ≡ false)
+  pub first_waits : (ms : List Moment) → Follows w past schedule ms → (k : ℕ) → k < length ms → ((j : ℕ) → j < k → waiting_at ms j ≡ false)
       → (l : Letter) → the_letter (slice_get (letters ms) k) ≡ Some l → is_taken (k + 1) all ≡ false → oldest_waiting all ms ≡ Some (l.to, Deliver (k + 1) l.from)
   first_waits [] follows k below none l there free = absurd (omega (arith, below))
   first_waits (m ∷ ms) follows k below none l there free = by (first_waits ms follows.0 k) (nat_lt k (length ms)) refl
     where
       stamp : m.stamp ≡ length ms + 1
-      stamp = step_stamp w schedule _ ms m follows.1
+      stamp = step_stamp w past schedule _ ms m follows.1
 
       here : (o : Option Outgoing) → m.step.sent ≡ o → option_map (letter_from m.place m.stamp) o ≡ Some l → is_taken m.stamp all ≡ false
           → or_waiting None (is_taken m.stamp all) m m.step.sent ≡ Some (l.to, Deliver m.stamp l.from)

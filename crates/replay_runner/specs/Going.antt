@@ -10,7 +10,7 @@ use Rattle.seata_types.specs.declared.messages.Message.{Message}
 use Rattle.seata_types.specs.declared.messages.Message.TheVariants as message
 use Rattle.seata_types.specs.declared.rows.RowKey.{RowKey}
 use Rattle.seata_types.specs.declared.statements.Stmt.{Stmt}
-use Rattle.seata_types.specs.declared.limits.TheConstants.{LATEST_MOMENT}
+use Rattle.seata_types.specs.declared.limits.TheConstants.{LATEST_MOMENT, LATEST_START}
 use Rattle.scenario_form.specs.Contents.{IsBetween}
 use Rattle.scenario_form.specs.Runnable.{IsPlaceAmong, IsServerAmong}
 use Rattle.durable_records.specs.SessionOrder.{has_resource, is_counted}
@@ -117,7 +117,7 @@ pub record Goes {D K : Type 0} (managers resources entries : ℕ) (r : Run D K) 
   pub letters : length r.messages.letters.items ≡ entries
   pub marks : length r.messages.taken.items ≡ entries
   pub within : r.messages.waiting ≤ entries
-  pub slow : r.clock ≤ entries * TICKS
+  pub slow : r.clock ≤ LATEST_START + entries * TICKS
 
 -- so many entries more can be made
 pub record CanGo {D K : Type 0} (r : Run D K) (steps : ℕ) : Type 0 where

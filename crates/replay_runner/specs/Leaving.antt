@@ -2,26 +2,25 @@
 use Rattle.std.specs.Prelude.{◌≡◌, ◌⊎◌, ◌+◌, ◌<◌, ◌≤◌, ℕ, zero, suc, IsTrue, List, [], ◌∷◌, length, map, Some, Result, Ok, Err}
 use Rattle.disk_model.specs.Disk.{DiskState, Rose}
 use Rattle.disk_model.specs.Shelf.{ShelfState}
-use Rattle.journal_checkpoint.specs.Extents.{blank}
 use Rattle.journal_checkpoint.specs.Images.{Pair}
 use Rattle.seata_types.specs.declared.ids.Place.{Place}
 use Rattle.seata_types.specs.declared.ids.Place.TheVariants as place
 use Rattle.scenario_form.specs.declared.scenarios.Scenario.{Scenario}
 use Rattle.history_rules.specs.Own.{Own}
-use Rattle.history_rules.specs.Nodes.{Role, Coordinator, Resource, Manager, no_past, role_at}
+use Rattle.history_rules.specs.Nodes.{Role, Coordinator, Resource, Manager, role_at}
 use Rattle.history_rules.specs.Histories.{Moment, own, Legal}
 use Rattle.history_rules.specs.Schedules.{Follows}
-use Rattle.history_law.specs.Safety.{IsSafeHistory}
+use Rattle.history_law.specs.ChainSafety.{IsSafeAfterChains}
 use Rattle.history_text.specs.declared.entries.Entry.{Entry}
 use Rattle.node_steps.specs.Durable.{AreCoordinatorDisks, AreNodeDisks, AreResourceDisks, own_faults}
-use Rattle.node_steps.specs.Ends.{AllFit, AreLaid, no_starts}
+use Rattle.node_steps.specs.Ends.{AllFit, AreLaid}
 use Rattle.history_text.specs.History.{entries, IsRun}
 use Rattle.node_steps.specs.Promises.{no_disks}
 use Rattle.history_text.specs.Worlds.{items_of, world_of}
 use Rattle.node_seat.specs.declared.faults.RunFault.{RunFault}
 use Rattle.node_seat.specs.declared.faults.RunFault.TheVariants as fault
-use Rattle.scenario_nodes.specs.Nodes.{HaveSize, server_names, servers_of}
-use Rattle.scenario_nodes.specs.Opening.{AreNotOpened}
+use Rattle.scenario_nodes.specs.Nodes.{HaveSize, Held, HoldAll, server_names, servers_of}
+use Rattle.scenario_nodes.specs.Opening.{NodesNotOpened}
 use Rattle.scenario_nodes.specs.Shelves.{AllTell, AreGivenBack, pair_of}
 use Rattle.scenario_nodes.specs.Together.{AreEach, HaveBoth, IsOfOne}
 use Rattle.replay_runner.specs.Ends.{IsCause}
@@ -59,37 +58,37 @@ HaveSizes s disks = (k : ℕ) → k < length disks → HaveSize s.disk (nth_pair
 
 -- each record that the moments of a scenario's history made, or asked for as a node went down, had a place on its node's disks, by the
 -- entries alone
-abbrev pub HavePlaces : Scenario → List Moment → Type 0
-HavePlaces s ms = AllFit (world_of s) no_past no_starts s.disk ms
+abbrev pub HavePlaces : Scenario → Held → List Moment → Type 0
+HavePlaces s held ms = AllFit (world_of s) held.past held.starts s.disk ms
 
 -- on the disks of each node the journal stands where a history leaves it
-abbrev pub AreAllLaid : Scenario → List Moment → List Pair → Type 0
-AreAllLaid s ms disks = (p : Place) (role : Role) → role_at (world_of s) no_past p ≡ Some role → AreLaid role blank s.disk (own p ms) (disks_in disks p)
+abbrev pub AreAllLaid : Scenario → Held → List Moment → List Pair → Type 0
+AreAllLaid s held ms disks = (p : Place) (role : Role) → role_at (world_of s) held.past p ≡ Some role → AreLaid role (held.starts p) s.disk (own p ms) (disks_in disks p)
 
 -- The history of the whole schedule was made and is safe, these are its entries, and the disks of each node, of the scenario's size, show
 -- it. Each record had a place, and the journals end where the entries leave them.
-pub record Completed (s : Scenario) (disks : List Pair) (es : List Entry) : Type 0 where
+pub record Completed (s : Scenario) (held : Held) (disks : List Pair) (es : List Entry) : Type 0 where
   pub history : List Moment
-  pub is_run : IsRun s history
-  pub safe : IsSafeHistory (world_of s) no_past history
+  pub is_run : IsRun s held.past history
+  pub safe : IsSafeAfterChains (world_of s) held.past history
   pub printed : es ≡ entries history
-  pub fits : HavePlaces s history
-  pub device : (p : Place) (role : Role) → role_at (world_of s) no_past p ≡ Some role → AreLeft role (own p history) (disks_in disks p)
-  pub laid : AreAllLaid s history disks
+  pub fits : HavePlaces s held history
+  pub device : (p : Place) (role : Role) → role_at (world_of s) held.past p ≡ Some role → AreLeft role (own p history) (disks_in disks p)
+  pub laid : AreAllLaid s held history disks
   pub sized : HaveSizes s disks
 
 -- The replay ended by a fault: the history that it made up to there is legal, safe and follows the schedule, and the disks of each node, of
 -- the scenario's size, show its records and counted faults. Each of these records had a place.
-pub record Broken (s : Scenario) (disks : List Pair) (missed : RunFault) : Type 0 where
+pub record Broken (s : Scenario) (held : Held) (disks : List Pair) (missed : RunFault) : Type 0 where
   pub history : List Moment
-  pub legal : Legal (world_of s) no_past history
-  pub safe : IsSafeHistory (world_of s) no_past history
-  pub follows : Follows (world_of s) no_past (items_of s) history
-  pub fits : HavePlaces s history
+  pub legal : Legal (world_of s) held.past history
+  pub safe : IsSafeAfterChains (world_of s) held.past history
+  pub follows : Follows (world_of s) held.past (items_of s) history
+  pub fits : HavePlaces s held history
   pub count : length disks ≡ length s.resources + 1
-  pub device : (p : Place) (role : Role) → role_at (world_of s) no_past p ≡ Some role → AreNodeDisks role (own p history) (disks_in disks p)
+  pub device : (p : Place) (role : Role) → role_at (world_of s) held.past p ≡ Some role → AreNodeDisks role (own p history) (disks_in disks p)
   pub sized : HaveSizes s disks
-  pub cause : IsCause s history (disks_in disks) missed
+  pub cause : IsCause s held history (disks_in disks) missed
 
 -- a replay that ended since the disks of a node failed: these have counted a fault, whatever they tell
 abbrev pub CountsFailure : List Pair → Result (List Entry) RunFault → Type 0
@@ -97,37 +96,37 @@ CountsFailure disks (Err (fault.Store at)) = 1 ≤ own_faults (disks_in disks at
 CountsFailure disks _ = Unit {0}
 
 -- what a replay on disks leaves
-abbrev pub Leaves : Scenario → List Pair → Result (List Entry) RunFault → Type 0
-Leaves s disks (Ok es) = Completed s disks es
-Leaves s disks (Err missed) = Broken s disks missed
+abbrev pub Leaves : Scenario → Held → List Pair → Result (List Entry) RunFault → Type 0
+Leaves s held disks (Ok es) = Completed s held disks es
+Leaves s held disks (Err missed) = Broken s held disks missed
 
 -- ---- the shelf
 
 -- these disks were given back: a pair for each node of the scenario, under its name
-abbrev pub AreAllBack : {D : Type 0} → ShelfState D → Scenario → List (D × D) → Type 0
-AreAllBack shelf s disks = AreEach (AreGivenBack shelf) (server_names s) disks
+abbrev pub AreAllBack : {D : Type 0} → (old new : ShelfState D) → Scenario → List (D × D) → Type 0
+AreAllBack old new s disks = AreEach (AreGivenBack old new) (server_names s) disks
 
 -- what the disks of all nodes show of how a replay or a run ended
 abbrev pub Showing : Type 1
 Showing = List Pair → Result (List Entry) RunFault → Type 0
 
 -- The nodes were opened, and went on to the end or until a fault. The disks of all were taken and given back; those that failed counted a
--- fault, and where disks tell their bytes, they show how that ended.
-pub record GivesBack {D : Type 0} (Shows : Showing) (state : D → DiskState) (new : ShelfState D) (s : Scenario) (result : Result (List Entry) RunFault) : Type 0 where
+-- fault, and where disks tell their bytes, they show how that ended, over whatever they held before.
+pub record GivesBack {D : Type 0} (Shows : Held → Showing) (state : D → DiskState) (old new : ShelfState D) (s : Scenario) (result : Result (List Entry) RunFault) : Type 0 where
   pub disks : List (D × D)
   pub taken : HaveBoth new (server_names s)
-  pub back : AreAllBack new s disks
+  pub back : AreAllBack old new s disks
   pub counted : CountsFailure (map (pair_of state) disks) result
-  pub leaves : AllTell state → Shows (map (pair_of state) disks) result
+  pub leaves : AllTell state → (held : Held) → HoldAll state old s held → Shows held (map (pair_of state) disks) result
 
 -- the nodes weren't opened, and no entry was made
 abbrev pub EndsAtOpening : {D : Type 0} → (D → DiskState) → (old new : ShelfState D) → Scenario → Result (List Entry) RunFault → Type 0
 EndsAtOpening state old new s (Ok es) = ⊥
-EndsAtOpening state old new s (Err missed) = AreNotOpened state s.disk (servers_of s) old new missed
+EndsAtOpening state old new s (Err missed) = NodesNotOpened state s (servers_of s) old new missed
 
 -- what a replay or a run does with a shelf
-abbrev pub UsesShelf : {D : Type 0} → (Shows : Showing) → (D → DiskState) → (old new : ShelfState D) → Scenario → Result (List Entry) RunFault → Type 0
-UsesShelf Shows state old new s result = GivesBack Shows state new s result ⊎ EndsAtOpening state old new s result
+abbrev pub UsesShelf : {D : Type 0} → (Shows : Held → Showing) → (D → DiskState) → (old new : ShelfState D) → Scenario → Result (List Entry) RunFault → Type 0
+UsesShelf Shows state old new s result = GivesBack Shows state old new s result ⊎ EndsAtOpening state old new s result
 
 -- what a replay does with it
 abbrev pub Replays : {D : Type 0} → (D → DiskState) → (old new : ShelfState D) → Scenario → Result (List Entry) RunFault → Type 0

@@ -1,6 +1,7 @@
 -- The nodes of a replay before its first entry, and their disks.
 use Rattle.std.specs.Prelude.{◌≡◌, ℕ, List, [], ◌∷◌, length, map}
 use Rattle.disk_model.specs.Disk.{DiskState}
+use Rattle.disk_model.specs.Shelf.{ShelfState}
 use Rattle.scenario_form.specs.declared.scenarios.Scenario.{Scenario}
 use Rattle.resource_core.specs.declared.nodes.Resource.{Resource}
 use Rattle.scenario_nodes.specs.Nodes.{IsNewCoordinator, IsNewManager, IsNewResource, coordinator_disks, resource_disks}
@@ -24,10 +25,10 @@ IsSeated node m = IsNewMember (λ seated. seated ≡ node) m
 abbrev pub AreNewMembers : {A N K : Type 0} → (ℕ → A → N → Type 0) → List A → List (Member N K) → Type 0
 AreNewMembers {A} {N} {K} P defs members = AreEach (λ (one : ℕ × A) (m : Member N K). IsNewMember (P one.0 one.1) m) (numbered 1 defs) members
 
--- all nodes of a scenario
-pub record AreNewNodes {D K : Type 0} (state : D → DiskState) (s : Scenario) (n : Nodes D K) : Type 0 where
-  pub coordinator : IsNewMember (IsNewCoordinator state s (length s.managers) (length s.resources)) n.coordinator
-  pub resources : AreNewMembers (IsNewResource state s) s.resources n.resources.items
+-- all nodes of a scenario, on disks of a shelf
+pub record AreNewNodes {D K : Type 0} (state : D → DiskState) (shelf : ShelfState D) (s : Scenario) (n : Nodes D K) : Type 0 where
+  pub coordinator : IsNewMember (IsNewCoordinator state shelf s (length s.managers) (length s.resources)) n.coordinator
+  pub resources : AreNewMembers (IsNewResource state shelf s) s.resources n.resources.items
   pub managers : AreNewMembers (IsNewManager s) s.managers n.managers.items
 
 -- ---- disks, without their stops

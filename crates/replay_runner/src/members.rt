@@ -22,12 +22,11 @@ impl<N: Node, K: RunName> Member<N, K> {
     ghost use Rattle.node_steps.specs.Promises.{StaysItself};
     ghost use Rattle.node_seat.specs.Entering.{event_by};
     ghost use Rattle.node_seat.specs.Faults.{CountsFault};
-    ghost use Rattle.node_seat.specs.Keeping.{IsFresh, MayEnter};
+    ghost use Rattle.node_seat.specs.Keeping.{MayEnter};
     ghost use Rattle.replay_runner.specs.Members.{IsMade};
 
     /// A node that did nothing yet.
     pub fn new(alloc: Global, node: N) -> Member<N, K>
-        requires fresh { IsFresh K.world K.past (N.state node) }
         ensures node { result.seat.node ≡ node }
         ensures trace { result.seat.trace ≡ [] }
         ensures turned { result.turned ≡ 0 }

@@ -1,9 +1,6 @@
 //! The nodes of a replay before its first entry.
 ghost use Rattle.std.specs.Prelude.{◌≡◌, ◌≤◌, [], IfOk, length, vec_capacity};
-ghost use Rattle.std.specs.List.{AllByRecursion};
 ghost use Rattle.scenario_form.specs.Runnable.{IsRunnable};
-ghost use Rattle.history_text.specs.Worlds.{world_of};
-ghost use Rattle.node_seat.specs.Keeping.{IsFresh};
 ghost use Rattle.scenario_nodes.specs.Nodes.{IsNewManager};
 ghost use Rattle.scenario_nodes.specs.Together.{AreEach};
 ghost use Rattle.replay_runner.specs.OnShelves.{CanOpen, OpensNodes};
@@ -27,7 +24,6 @@ pub fn new_managers<K: RunName>(
     scenario: &Scenario,
 ) -> Result<Vec<Member<Manager, K>>, NoMemory>
     requires runnable { IsRunnable scenario.now }
-    requires world { K.world ≡ world_of scenario.now }
     ensures { IfOk result (λ managers.
         AreNewMembers (IsNewManager scenario.now) scenario.now.managers managers.items) }
 {
@@ -45,7 +41,6 @@ fn seated<N: Node + Drop, K: RunName>(
     nodes: Vec<N>,
     mut members: Vec<Member<N, K>>,
 ) -> Vec<Member<N, K>>
-    requires fresh { AllByRecursion (λ node. IsFresh K.world K.past (N.state node)) nodes.items }
     requires none { members.items ≡ [] }
     requires room { length nodes.items ≤ vec_capacity members }
     ensures { AreEach IsSeated nodes.items result.items }
@@ -64,7 +59,7 @@ pub fn open_nodes<H: Shelf, K: RunName>(
     seconds: &[String],
     managers: Vec<Member<Manager, K>>,
 ) -> Result<Nodes<H::D, K>, RunFault>
-    requires can { CanOpen K.world K.past scenario.now seconds.now }
+    requires can { CanOpen scenario.now seconds.now }
     requires managers { AreNewMembers (IsNewManager scenario.now)
         scenario.now.managers managers.items }
     ensures { OpensNodes H.D.state scenario.now

@@ -1,15 +1,12 @@
 //! Replays on the disks of a shelf.
-ghost use Rattle.std.specs.Prelude.{◌≡◌, length, map};
+ghost use Rattle.std.specs.Prelude.{length, map};
 ghost use Rattle.disk_model.specs.Shelf.{KeepsOthers};
 ghost use Rattle.scenario_form.specs.Runnable.{IsRunnable, resource_name};
-ghost use Rattle.history_rules.specs.Nodes.{no_past};
-ghost use Rattle.history_text.specs.Worlds.{world_of};
-ghost use Rattle.scenario_nodes.specs.Nodes.{server_names};
+ghost use Rattle.scenario_nodes.specs.Nodes.{Held, HoldAll, server_names};
 ghost use Rattle.scenario_nodes.specs.Shelves.{ReturnsAll};
 ghost use Rattle.scenario_nodes.specs.Together.{AreSecondNames, HaveBoth};
 ghost use Rattle.replay_runner.specs.Leaving.{IsCalmEnd, IsCalmShelf, IsServerDisk, Leaves, Replays};
-ghost use Rattle.replay_runner.specs.OnShelves.{Closes, IsRoom, RunsOn};
-ghost use Rattle.replay_runner.specs.Opened.{AreNewNodes};
+ghost use Rattle.replay_runner.specs.OnShelves.{BeginOver, CanBegin, Closes, IsRoom, RunsOn};
 
 use crate::closings::{Room, close, room_for};
 use crate::nodes::Nodes;
@@ -35,11 +32,11 @@ fn play<H: Shelf, K: RunName>(
 ) -> Result<List<Entry>, RunFault>
     requires runnable { IsRunnable scenario.now }
     requires seconds { AreSecondNames (map resource_name scenario.now.resources) seconds.now }
-    requires new { AreNewNodes H.D.state scenario.now nodes }
+    requires begin { CanBegin scenario.now nodes }
     requires room { IsRoom (length scenario.now.resources) room }
     requires taken { HaveBoth (H.state shelf.old) (server_names scenario.now) }
-    ensures { Closes (Leaves scenario.now) H.D.state scenario.now
-        (H.state shelf.old) (H.state shelf.new) result }
+    ensures { Closes (BeginOver H.D.state scenario.now nodes) (Leaves scenario.now) H.D.state
+        scenario.now (H.state shelf.old) (H.state shelf.new) result }
 {
     let mut run = Run::<H::D, K>::new(alloc, nodes);
     let locals = scenario.locals.as_slice();
@@ -62,8 +59,6 @@ fn replay_named<H: Shelf, K: RunName>(
     shelf: &mut H,
 ) -> Result<List<Entry>, RunFault>
     requires runnable { IsRunnable scenario.now }
-    requires world { K.world ≡ world_of scenario.now }
-    requires past { K.past ≡ no_past }
     ensures { RunsOn (Leaves scenario.now) H.D.state scenario.now
         (H.state shelf.old) (H.state shelf.new) result }
 {
@@ -87,8 +82,8 @@ fn replay_named<H: Shelf, K: RunName>(
 /// all are taken and read before any resource writes its boot, and they are given back however it ends. It gives the entries of
 /// its history, or why it ended early. `Store` comes only by a fault that the shelf or a disk of the node counted, whatever the
 /// disks tell. Where they tell their bytes, each record of its history had a place, by the entries alone, and `Full` comes where
-/// the next one has none. `Damaged` and `Other` never come: blank disks are no other scenario's, and each message fits a node.
-/// Disks under other names stay as they are.
+/// the next one has none. This is said over whatever records the disks held before, as the shelf shows it; over such disks
+/// `Damaged` never comes, and neither does `Other`, since each message fits a node. Disks under other names stay as they are.
 pub fn replay<H: Shelf>(
     alloc: Global,
     scenario: &Scenario,
@@ -97,7 +92,8 @@ pub fn replay<H: Shelf>(
     requires runnable { IsRunnable scenario.now }
     ensures replays { Replays H.D.state (H.state shelf.old) (H.state shelf.new)
         scenario.now result }
-    ensures calm { IsCalmShelf H.D.state scenario.now (H.state shelf.old) (H.state shelf.new) →
+    ensures calm { (held : Held) → HoldAll H.D.state (H.state shelf.old) scenario.now held →
+        IsCalmShelf H.D.state scenario.now (H.state shelf.old) (H.state shelf.new) →
         IsCalmEnd result }
     ensures returned { ReturnsAll (H.state shelf.old) (H.state shelf.new) }
     ensures keeps { KeepsOthers (IsServerDisk scenario.now)

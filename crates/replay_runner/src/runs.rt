@@ -36,14 +36,17 @@ fn place_of(locals: &[(u16, List<Stmt>)], number: u16) -> Place
 }
 
 impl<D: Disk, K: RunName> Run<D, K> {
-    ghost use Rattle.std.specs.Prelude.{◌≡◌, ◌<◌, ◌+◌, ◌++◌, ◌∷◌, [], false, length, All, IfErr, OnOk, Some, option_map};
-    ghost use Rattle.seata_types.specs.declared.limits.TheConstants.{STEPS};
+    ghost use Rattle.std.specs.Prelude.{◌≡◌, ◌≤◌, ◌<◌, ◌+◌, ◌++◌, ◌∷◌, [], false, length, All, IfErr, OnOk, Some, option_map};
+    ghost use Rattle.seata_types.specs.declared.limits.TheConstants.{LATEST_START, STEPS};
     ghost use Rattle.scenario_form.specs.declared.scenarios.Scenario.{Scenario as TheScenario};
     ghost use Rattle.scenario_form.specs.Runnable.{FitsNodes, IsPlaceAmong, IsRunnable};
     ghost use Rattle.scenario_form.specs.Runnable.{all_steps, steps_of};
     ghost use Rattle.frame_codec.specs.Limits.{IsFramable};
+    ghost use Rattle.coordinator_core.specs.Standing.{start_of};
     ghost use Rattle.history_rules.specs.Schedules.{Auto, DeliverOf, TurnOf, singles_of, times};
-    ghost use Rattle.history_text.specs.Worlds.{item_of};
+    ghost use Rattle.history_law.specs.MessageSafety.{AreOfResources};
+    ghost use Rattle.history_text.specs.Worlds.{item_of, world_of};
+    ghost use Rattle.scenario_nodes.specs.Nodes.{Held};
     ghost use Rattle.replay_runner.specs.Ends.{HaveCountedAt};
     ghost use Rattle.replay_runner.specs.Going.{AreLocals, CanGo, CanMake, Goes, HasGone, NodesGo};
     ghost use Rattle.replay_runner.specs.Letters.{delivery_of, letter_at};
@@ -53,18 +56,19 @@ impl<D: Disk, K: RunName> Run<D, K> {
     /// A replay that made no entry yet.
     pub fn new(alloc: Global, nodes: Nodes<D, K>) -> Run<D, K>
         requires going { NodesGo (length nodes.managers.items) (length nodes.resources.items)
-            1 0 nodes }
-        ensures plays { (s : TheScenario) → AreNodes D.state s nodes [] →
-            Plays D.state s result [] }
+            1 (start_of nodes.coordinator.seat.node) nodes }
+        requires early { start_of nodes.coordinator.seat.node ≤ LATEST_START }
+        ensures plays { (s : TheScenario) (held : Held) → AreNodes D.state s held nodes [] →
+            AreOfResources (world_of s) held.past.sessions → Plays D.state s held result [] }
         ensures goes { Goes (length nodes.managers.items) (length nodes.resources.items) 0 result }
     {
+        let clock = nodes.coordinator.seat.node().start();
         Run {
             nodes,
             network: Vec::new(alloc),
             places: Vec::new(alloc),
             messages: Messages::new(alloc),
-            // The clock starts at 0, since disks of a shelf have no records.
-            clock: 0,
+            clock,
         }
     }
 
@@ -217,7 +221,7 @@ impl<D: Disk, K: RunName> Run<D, K> {
     fn choose_each(&mut self, alloc: Global, steps: u32) -> Result<(), RunFault>
         requires can { CanGo self.old steps }
         ensures played { (ready : Ready D.state self.old (times steps (Auto 1))) →
-            HasPlayed D.state ready.s self.new ready.rest result }
+            HasPlayed D.state ready.s ready.held self.new ready.rest result }
         ensures gone { HasGone D.state self.old self.new steps result }
     {
         for _ in 0..steps {
@@ -240,7 +244,8 @@ impl<D: Disk, K: RunName> Run<D, K> {
         requires fits { FitsNodes (length self.old.nodes.resources.items)
             (length self.old.nodes.managers.items) (length locals.now) item }
         ensures played { (ready : ReadyWith D.state self.old locals.now (singles_of (item_of item)))
-            → HasPlayed D.state ready.ready.s self.new ready.ready.rest result }
+            → HasPlayed D.state ready.ready.s ready.ready.held
+            self.new ready.ready.rest result }
         ensures gone { HasGone D.state self.old self.new (steps_of item) result }
     {
         match item {
@@ -284,9 +289,9 @@ impl<D: Disk, K: RunName> Run<D, K> {
         requires locals { AreLocals (length self.old.nodes.resources.items) locals.now }
         requires fits { All (FitsNodes (length self.old.nodes.resources.items)
             (length self.old.nodes.managers.items) (length locals.now)) schedule.now }
-        ensures played { (s : TheScenario) → IsRunnable s → s.locals ≡ locals.now →
-            s.schedule ≡ schedule.now → Plays D.state s self.old [] →
-            HasPlayed D.state s self.new [] result }
+        ensures played { (s : TheScenario) (held : Held) → IsRunnable s → s.locals ≡ locals.now →
+            s.schedule ≡ schedule.now → Plays D.state s held self.old [] →
+            HasPlayed D.state s held self.new [] result }
         ensures failed { IfErr result (HaveCountedAt (disks_at D.state self.new.nodes)) }
         ensures count { length self.new.nodes.resources.items
             ≡ length self.old.nodes.resources.items }

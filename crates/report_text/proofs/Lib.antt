@@ -13,6 +13,7 @@ pub mod ActLaws
 pub mod LockLaws
 pub mod PrintedLaws
 pub mod SectionLaws
+pub mod TotalsLaws
 pub mod FoldLaws
 pub mod Counts
 pub mod ReportLaws

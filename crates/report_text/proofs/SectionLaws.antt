@@ -128,16 +128,16 @@ module _ (s : Scenario) (past : Past) (f : FoldedKept) (ms : List Moment) (follo
       let kept = follows.resources k u there in
       (kept.0, kept.1, fences_alike u kept.0 (records_at past ms u) kept.2.known)
 
-  all_rows : rows_kept f.resources ≡ each (λ u. resource_rows u (records_at past ms u)) (resources_of s)
+  pub all_rows : rows_kept f.resources ≡ each (λ u. resource_rows u (records_at past ms u)) (resources_of s)
   all_rows = each_same rows_in (λ u. resource_rows u (records_at past ms u)) f.resources (resources_of s) follows.count rows_say
 
   all_fences : fences_kept f.resources ≡ each (λ u. fence_lines u.number (records_at past ms u)) (resources_of s)
   all_fences = each_same fences_in (λ u. fence_lines u.number (records_at past ms u)) f.resources (resources_of s) follows.count fences_say
 
-  all_sessions : map line_in f.coordinator.known.sessions ≡ session_lines (coordinator_left past ms).records
+  pub all_sessions : map line_in f.coordinator.known.sessions ≡ session_lines (coordinator_left past ms).records
   all_sessions = ap (λ (k : Snapshot). map line_in k.sessions) follows.coordinator.known ∙ sessions_alike (coordinator_left past ms).records
 
-  all_locks : Allowed (coordinator_left past ms).records → locks_in f.coordinator ≡ locks (coordinator_left past ms).records
+  pub all_locks : Allowed (coordinator_left past ms).records → locks_in f.coordinator ≡ locks (coordinator_left past ms).records
   all_locks a =
       ap (λ (k : Snapshot). map holder_in (rows_held (held_in k))) follows.coordinator.known
       ∙ locks_alike (coordinator_left past ms).records a
@@ -156,7 +156,7 @@ module _ (s : Scenario) (past : Past) (f : FoldedKept) (ms : List Moment) (follo
 
 -- the text of what is kept of a legal history is its report
 pub text_alike : (s : Scenario) (f : FoldedKept) (ms : List Moment) → Legal (world_of s) no_past ms → Follows s no_past f ms
-    → text_kept (names_of s) (entries ms) f.coordinator f.resources f.reads ≡ report s ms
+    → text_kept (names_of s) (entries ms) f.coordinator f.resources f.reads ≡ report s no_past ms
 unfolding text_kept report_text report
 text_alike s f ms legal follows =
     ap (λ rest. line (codes "entries") ++ (lines (entry_text (names_of s)) (entries ms) ++ rest))

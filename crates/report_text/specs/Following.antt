@@ -85,4 +85,4 @@ FollowsAll s es f = (ms : List Moment) → Legal (world_of s) no_past ms → ent
 
 -- a text is the report of each legal history of a scenario that has these entries, on disks without records
 abbrev pub Reports : Scenario → List Entry → List ℕ → Type 0
-Reports s es text = (ms : List Moment) → Legal (world_of s) no_past ms → entries ms ≡ es → AreCounted es → text ≡ report s ms
+Reports s es text = (ms : List Moment) → Legal (world_of s) no_past ms → entries ms ≡ es → AreCounted es → text ≡ report s no_past ms

@@ -6,3 +6,4 @@ pub mod Keeping
 pub mod Sections
 pub mod Folds
 pub mod Following
+pub mod Totals

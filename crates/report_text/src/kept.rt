@@ -1,4 +1,4 @@
-//! What is kept of entries and of open tickets.
+//! What is kept of entries and of open tickets, and the numbers of what stands.
 use seata_types::{Image, List, ReadRow, Stmt};
 
 /// Where an entry stands among all: entries rise by their numbers, and those of one number by the kinds of their places and
@@ -18,4 +18,19 @@ pub struct OpenWork {
     pub tries: List<Stmt>,
     pub images: List<Image>,
     pub reads: List<ReadRow>,
+}
+
+/// The numbers of what stands after a history; those of tables by the names that a made scenario has.
+#[derive(Clone, Copy)]
+pub struct Totals {
+    /// The transactions that began and aren't forgotten.
+    pub begun: usize,
+    /// Those of them that are finished or failed.
+    pub ended: usize,
+    /// The sum of the second column of the tables `acc`.
+    pub money: i128,
+    /// The sum of the third column of the tables `stock`.
+    pub held: i128,
+    /// The rows that are held.
+    pub locks: usize,
 }

@@ -14,6 +14,8 @@ mod resources;
 mod scenarios;
 mod sections;
 mod sent;
+mod totals;
 
-pub use kept::{OpenWork, Origin};
+pub use kept::{OpenWork, Origin, Totals};
 pub use reports::{node_names, write_report};
+pub use totals::count_history;

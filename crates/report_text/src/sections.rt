@@ -127,7 +127,7 @@ fn put_table_row(out: &mut String, key: &RowKey, row: &Row, names: &Names) -> Re
 }
 
 /// Whether a row is of this table of a resource.
-fn is_in(resource: u16, def: &TableDef, key: &RowKey) -> bool
+pub(crate) fn is_in(resource: u16, def: &TableDef, key: &RowKey) -> bool
     ensures { result ≡ is_in resource def.now key.now }
 {
     key.resource == resource && key.table == def.name

@@ -15,10 +15,9 @@ use Rattle.history_rules.specs.ResourceRules.{resource_answer}
 use Rattle.node_steps.specs.Promises.{own_step}
 use Rattle.resource_store.specs.Keeping.{setting_of}
 use Rattle.resource_store.specs.Meaning.{Setting}
+use Rattle.resource_rules.specs.Setups.{actions_of}
 use Rattle.resource_core.specs.Holding.{Holds, setup_of}
-use Rattle.resource_core.specs.Setups.{actions_of}
 use Rattle.resource_core.specs.Standing.{AnswersAreSteps, FailuresAreSteps}
-use Rattle.resource_core.specs.Stepping.{KeepsSettings}
 use Rattle.resource_core.specs.declared.branches.Branches.{Branches}
 use Rattle.resource_core.proofs.QuietLaws.{answers_stay_up}
 
@@ -45,14 +44,14 @@ module _ (s : Setup) (past : List ResourceRecord) (os : List Own) (now : ℕ) (u
 
 module _ {D : Type 0} (state : D → DiskState) where
   -- an answer leaves what it is of
-  pub same_setup : (old new : Branches D) → setting_of new.store ≡ setting_of old.store → KeepsSettings old new → setup_of old ≡ setup_of new
+  pub same_setup : (old new : Branches D) → setting_of new.store ≡ setting_of old.store → new.setup ≡ old.setup → setup_of old ≡ setup_of new
   same_setup old new setting same = λ i. record {
     number = (ap (λ (t : Setting). t.resource) (sym setting)) i;
     schema = (ap (λ (t : Setting). t.schema) (sym setting)) i;
     opening = (ap (λ (t : Setting). t.opening) (sym setting)) i;
-    tries = (sym same.tries) i;
-    actions = (ap actions_of (sym same.actions)) i;
-    locals = (sym same.locals) i;
+    tries = ((sym same) i).tries;
+    actions = actions_of ((sym same) i).actions;
+    locals = ((sym same) i).locals;
   }
 
   pub answers_are_steps : AnswersAreSteps state

@@ -31,7 +31,7 @@ use Rattle.resource_core.specs.NodeMoving.{ArmsPair, ArmsStore, with_store}
 use Rattle.resource_core.specs.NodeStanding.{IsSound, StandsOver, node_state}
 use Rattle.resource_core.specs.NodeStepping.{ArmsBy, CrashesBy}
 use Rattle.resource_core.specs.Ready.{AreTicketsWithin}
-use Rattle.resource_core.specs.Setups.{actions_of}
+use Rattle.resource_rules.specs.Setups.{actions_of}
 use Rattle.resource_core.specs.Shown.{disks_of, is_down, pair_of, setup_in, store_of}
 use Rattle.resource_core.proofs.LyingLaws.{fits_none, lies_up, sized_after, stands_there}
 use Rattle.resource_core.proofs.NodeDisks.{Moved, false_true, keeps_images, moved_same, pair_on, same_kind, same_picks}
@@ -157,7 +157,7 @@ pub setup_still : {D : Type 0} (r : Resource D) (s : Store (Stoppable D)) → se
 setup_still r s setting = ap of_setting (sym setting)
   where
     of_setting : Setting → Setup
-    of_setting t = record { number = t.resource; schema = t.schema; opening = t.opening; tries = r.branches.tries; actions = actions_of r.branches.actions; locals = r.branches.locals }
+    of_setting t = record { number = t.resource; schema = t.schema; opening = t.opening; tries = r.branches.setup.tries; actions = actions_of r.branches.setup.actions; locals = r.branches.setup.locals }
 
 module _ {D : Type 0} (r : Resource D) (s : Store (Stoppable D)) (same : known s ≡ known (store_of r)) (setting : setting_of s ≡ setting_of (store_of r)) (down : store_is_down s ≡ store_is_down (store_of r)) where
   -- it needs nothing of its disks

@@ -43,7 +43,7 @@ use Rattle.resource_core.specs.declared.setup.Setup.{Setup}
 use Rattle.resource_core.specs.NodeOpening.{GoOnWithBoot, HandsBack, IsLoaded, IsNotLoaded, IsOpened, IsOpenedDisk, IsSetupWithin, FailsStart, Starts, StaysUnwritten, loaded_at, loaded_disks, setting_at, setup_at, store_in, with_setup}
 use Rattle.resource_core.specs.Lying.{Lies}
 use Rattle.resource_core.specs.NodeStanding.{IsSound, StandsOver}
-use Rattle.resource_core.specs.Setups.{actions_of}
+use Rattle.resource_rules.specs.Setups.{actions_of}
 use Rattle.resource_core.specs.Shown.{active_of, stands_at}
 use Rattle.resource_core.proofs.LyingLaws.{at_there, boot_bytes, lies_up, loaded}
 use Rattle.resource_core.proofs.NodeDisks.{false_true, keeps_images}
@@ -257,7 +257,7 @@ module _ {D : Type 0} (state : D → DiskState) (law : (d : Stoppable D) → IsL
 
     abbrev pub opening : Resource D
     opening = record {
-      branches = record { number = number; tries = w.tries; actions = w.actions; locals = w.locals; store = s; txns = no_tickets (known s).boots };
+      branches = record { setup = record { number = number; tries = w.tries; actions = w.actions; locals = w.locals }; store = s; txns = no_tickets (known s).boots };
       down = false;
       flight = None;
       records = 0;
@@ -380,5 +380,5 @@ module _ {D : Type 0} (state : D → DiskState) (first second : D) (number : ℕ
   refused_by (Err failed) fails = fails first second number w i
 
   pub placed_by : (result : Result (Resource D) (OpenError × D × D)) → IfOk result (λ r. stands_at r ≡ loaded_at l) → IfOk result (λ r. stands_at r ≡ place.Res number)
-  placed_by (Ok r) at = at ∙ ap (λ (b : Branches (Stoppable D)). place.Res b.number) i.is
+  placed_by (Ok r) at = at ∙ ap (λ (b : Branches (Stoppable D)). place.Res b.setup.number) i.is
   placed_by (Err failed) at = tt

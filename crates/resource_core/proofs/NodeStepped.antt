@@ -38,6 +38,7 @@ use Rattle.resource_store.specs.Answers.{Does, Leaves, outcome}
 use Rattle.resource_store.specs.Keeping.{Adds, Changes, Loses, Makes, HasRoom as HasRecordRoom, is_down as store_is_down, found_of, known, setting_of, twin}
 use Rattle.resource_store.specs.Meaning.{IsOf, Opens, Setting}
 use Rattle.record_places.specs.Within.{IsTableWithin}
+use Rattle.resource_rules.specs.declared.setups.Setup.{Setup as TheSetup}
 use Rattle.resource_core.specs.declared.branches.Branches.{Branches}
 use Rattle.resource_core.specs.declared.nodes.Resource.{Resource}
 use Rattle.seata_types.specs.declared.limits.TheConstants.{NODE_STEPS}
@@ -49,7 +50,7 @@ use Rattle.resource_core.specs.Lying.{AtEither, Lies}
 use Rattle.resource_core.specs.NodeStepping.{HasNoRoom, HasRoom, HadRoom, StepsBy}
 use Rattle.resource_core.specs.Ready.{AreTicketsWithin, HasActionWithin, HasStmtsWithin, IsReady}
 use Rattle.resource_core.specs.Shown.{active_of, disks_of, is_down, needs, pair_of, size_of, store_of}
-use Rattle.resource_core.specs.Stepping.{Answers, KeepsSettings, asked_record, made_as}
+use Rattle.resource_core.specs.Stepping.{Answers, asked_record, made_as}
 use Rattle.resource_core.proofs.HappensLaws as happening
 use Rattle.resource_core.proofs.HappensLaws.{same_setup}
 use Rattle.resource_core.proofs.LyingLaws.{at_there, behind_durable, behind_still, boot_durable, boot_still, fits_for, fits_none, flies_behind, lies_still, lies_up, sized_after}
@@ -65,23 +66,28 @@ ready_by r s up able =
     let steps = s.steps in
     record {
       up = s.up up;
-      room = omega (arith, steps, able);
       numbered = s.numbered;
-      counted = s.counted;
-      knows = record {
-        resource = subst (IsCounted RESOURCES) (s.numbered ∙ sym k.resource) s.counted;
-        schema = subst (λ (tables : _). AllByRecursion IsTableWithin tables) (ap (λ (schema : _). schema.tables) (sym k.schema)) s.tables;
-        kept = k.kept;
-        parts = k.fits;
+      within = record {
+        room = omega (arith, steps, able);
+        counted = s.counted;
+        knows = record {
+          resource = subst (IsCounted RESOURCES) (s.numbered ∙ sym k.resource) s.counted;
+          schema = subst (λ (tables : _). AllByRecursion IsTableWithin tables) (ap (λ (schema : _). schema.tables) (sym k.schema)) s.tables;
+          kept = k.kept;
+          parts = k.fits;
+        };
+        tickets = s.tickets up;
+        actions = s.actions;
+        locals = s.locals;
       };
-      tickets = s.tickets up;
-      actions = s.actions;
-      locals = s.locals;
     }
 
-module _ {D : Type 0} (r r' : Resource D) (sound : IsSound r) (same : KeepsSettings r.branches r'.branches) (setting : setting_of (store_of r') ≡ setting_of (store_of r)) where
-  numbered_still : r'.branches.number ≡ (setting_of (store_of r')).resource
-  numbered_still = same.number ∙ sound.numbered ∙ ap (λ (t : Setting). t.resource) (sym setting)
+abbrev number_of : TheSetup → ℕ
+number_of s = s.number
+
+module _ {D : Type 0} (r r' : Resource D) (sound : IsSound r) (same : r'.branches.setup ≡ r.branches.setup) (setting : setting_of (store_of r') ≡ setting_of (store_of r)) where
+  numbered_still : r'.branches.setup.number ≡ (setting_of (store_of r')).resource
+  numbered_still = ap number_of same ∙ sound.numbered ∙ ap (λ (t : Setting). t.resource) (sym setting)
 
   -- what is asked of its setup holds, and the rest where it is up
   pub sound_by : r'.branches.txns.opened + r'.left ≤ NODE_STEPS → (r'.down ≡ false → store_is_down (store_of r') ≡ false)
@@ -89,11 +95,11 @@ module _ {D : Type 0} (r r' : Resource D) (sound : IsSound r) (same : KeepsSetti
   sound_by steps up knows tickets =
       record {
         numbered = numbered_still;
-        counted = subst (IsCounted RESOURCES) (sym same.number) sound.counted;
+        counted = subst (λ (s : TheSetup). IsCounted RESOURCES s.number) (sym same) sound.counted;
         opens = subst Opens (sym setting) sound.opens;
         tables = subst (λ (t : Setting). AllByRecursion IsTableWithin t.schema.tables) (sym setting) sound.tables;
-        actions = subst (AllByRecursion HasActionWithin) (sym same.actions) sound.actions;
-        locals = subst (AllByRecursion HasStmtsWithin) (sym same.locals) sound.locals;
+        actions = subst (λ (s : TheSetup). AllByRecursion HasActionWithin s.actions) (sym same) sound.actions;
+        locals = subst (λ (s : TheSetup). AllByRecursion HasStmtsWithin s.locals) (sym same) sound.locals;
         steps = steps;
         up = up;
         knows = knows;
@@ -170,7 +176,7 @@ module _ {D : Type 0} (state : D → DiskState) (law : (d : Stoppable D) → IsL
           → StandsOver state r' setup past (own_step given now step ∷ owns)
       stands_so disks up_now = record {
         is = s.is ∙ same_setup (state_of state) r.branches r'.branches a.leaves.setting a.same;
-        numbered = a.same.number ∙ s.numbered;
+        numbered = ap number_of a.same ∙ s.numbered;
         down = same_down ∙ up ∙ sym up_now;
         disks = disks;
         holds = λ e. holds;
@@ -279,7 +285,7 @@ module _ {D : Type 0} (state : D → DiskState) (law : (d : Stoppable D) → IsL
             happening.cut setup past owns now (upon setup past owns s) given flight at,
             record {
               is = s.is ∙ same_setup (state_of state) r.branches r'.branches a.leaves.setting a.same;
-              numbered = a.same.number ∙ s.numbered;
+              numbered = ap number_of a.same ∙ s.numbered;
               down = down;
               disks = record {
                 passes = λ e. false_true (sym e);
@@ -362,17 +368,10 @@ same_store state store_error.Failed old new l never = absurd (never refl)
 same_store state (store_error.Full full) old new l never = ⊎_elim (λ same. same) (λ made. made.2.disks) l.changes
 same_store state store_error.NoMemory old new l never = ⊎_elim (λ same. same) (λ made. made.2.disks) l.changes
 
-same_branches : {D : Type 0} (old new : Branches D) → new.store ≡ old.store → new.txns ≡ old.txns → KeepsSettings old new → new ≡ old
-same_branches old new store txns same = λ i. record {
-  number = same.number i;
-  tries = same.tries i;
-  actions = same.actions i;
-  locals = same.locals i;
-  store = store i;
-  txns = txns i;
-}
+same_branches : {D : Type 0} (old new : Branches D) → new.store ≡ old.store → new.txns ≡ old.txns → new.setup ≡ old.setup → new ≡ old
+same_branches old new store txns same = λ i. record { setup = same i; store = store i; txns = txns i }
 
-pub stays_itself : {D : Type 0} (state : D → DiskState) (r r' : Resource D) → r'.branches.number ≡ r.branches.number → (IsSound r → IsSound r')
+pub stays_itself : {D : Type 0} (state : D → DiskState) (r r' : Resource D) → r'.branches.setup.number ≡ r.branches.setup.number → (IsSound r → IsSound r')
     → SameKind (disks_of state r).first (disks_of state r').first → SameKind (disks_of state r).second (disks_of state r').second → StaysItself (node_state state r) (node_state state r')
 stays_itself state r r' number sound first second = record {
   same_place = ap place.Res number;
@@ -400,19 +399,19 @@ module _ {D : Type 0} (state : D → DiskState) (law : (d : Stoppable D) → IsL
       let up' : store_is_down (store_of r') ≡ false = a.leaves.down in
       let steps = served.0.steps in
       let opened = a.opened in
-      let k = known_after (state_of state) (store_of r) (store_of r') ready.knows up' (Ok tt) a.leaves.changes in
+      let k = known_after (state_of state) (store_of r) (store_of r') ready.within.knows up' (Ok tt) a.leaves.changes in
       let next = stays_ready (state_of state) r.branches r'.branches given (Ok step) a ready served.1 up' (omega (arith, steps, opened, able)) in
       let of = served.0.knows up in
       let moves = left_moved state (made_as (Ok step)) (store_of r) (store_of r') a.leaves in
       let sound : IsSound r' = sound_by r r' served.0 a.same a.leaves.setting (omega (arith, steps, opened, counted)) (λ e. up')
       (λ e. subst (λ (t : Setting). IsOf t (known (store_of r'))) (sym a.leaves.setting) (record { kept = k.within.kept; fits = k.within.parts; resource = sym k.same.resource ∙ of.resource; schema = sym k.same.schema ∙ of.schema }))
-      (λ e. next.tickets) in
+      (λ e. next.within.tickets) in
       record {
         answers = takes_step state law r r' given now up step a down;
         framable = λ comes. a.frames ready served.1;
         after = tt;
         room = has_room state law r r' given now up (Ok step) r'.branches a (λ q rs made. made.fits);
-        same = stays_itself state r r' a.same.number (λ s. sound) moves.first_kind moves.second_kind;
+        same = stays_itself state r r' (ap number_of a.same) (λ s. sound) moves.first_kind moves.second_kind;
         picks = same_picks (disks_of state r) (disks_of state r') moves;
         counted = counted;
         down = down ∙ up;
@@ -454,7 +453,7 @@ module _ {D : Type 0} (state : D → DiskState) (law : (d : Stoppable D) → IsL
         framable = λ f. tt;
         after = fails_at state law r r' given now up flight a' m.1 m.2 (m.3 ∙ counts);
         room = has_room state law r r' given now up (Err (error.Failed flight)) r'.branches a' (λ q rs made. made.fits);
-        same = stays_itself state r r' a'.same.number (λ s. sound) moves.first_kind moves.second_kind;
+        same = stays_itself state r r' (ap number_of a'.same) (λ s. sound) moves.first_kind moves.second_kind;
         picks = same_picks (disks_of state r) (disks_of state r') moves;
         counted = counted;
         down = m.1;

@@ -17,10 +17,11 @@ use Rattle.resource_store.specs.Answers.{outcome}
 use Rattle.resource_store.specs.Keeping.{Changes, IsTaken, is_down, known}
 use Rattle.resource_store.specs.Meaning.{Setting}
 use Rattle.record_places.specs.Within.{IsTableWithin}
+use Rattle.resource_rules.specs.declared.setups.Setup.{Setup as TheSetup}
 use Rattle.resource_core.specs.Laws.{StaysReady}
 use Rattle.resource_core.specs.Ready.{HasActionWithin, HasStmtsWithin, IsKnownWithin}
 use Rattle.resource_core.specs.Stepping.{made_as}
-use Rattle.resource_core.proofs.TicketLists.{tickets_alike}
+use Rattle.resource_rules.proofs.TicketLists.{tickets_alike}
 
 -- what is known is of the same tables
 pub record IsAlike (k other : Known) : Type 0 where
@@ -72,14 +73,16 @@ module _ {D : Type 0} (state : D → DiskState) (old new : Store D) (is : IsKnow
 
 pub stays_ready : {D : Type 0} (state : D → DiskState) → StaysReady state
 stays_ready state old new given result a ready served up room =
-    let k = known_after state old.store new.store ready.knows up (outcome (made_as result)) a.leaves.changes in
+    let k = known_after state old.store new.store ready.within.knows up (outcome (made_as result)) a.leaves.changes in
     record {
       up = up;
-      room = room;
-      counted = subst (IsCounted RESOURCES) (sym a.same.number) ready.counted;
-      numbered = a.same.number ∙ ready.numbered ∙ ap (λ (s : Setting). s.resource) (sym a.leaves.setting);
-      knows = k.within;
-      tickets = tickets_alike (known old.store).tables (known new.store).tables k.same.resource k.same.schema new.txns.opens (a.within ready served);
-      actions = subst (AllByRecursion HasActionWithin) (sym a.same.actions) ready.actions;
-      locals = subst (AllByRecursion HasStmtsWithin) (sym a.same.locals) ready.locals;
+      numbered = ap (λ (s : TheSetup). s.number) a.same ∙ ready.numbered ∙ ap (λ (s : Setting). s.resource) (sym a.leaves.setting);
+      within = record {
+        room = room;
+        counted = subst (λ (s : TheSetup). IsCounted RESOURCES s.number) (sym a.same) ready.within.counted;
+        knows = k.within;
+        tickets = tickets_alike (known old.store).tables (known new.store).tables k.same.resource k.same.schema new.txns.opens (a.within ready served);
+        actions = subst (λ (s : TheSetup). AllByRecursion HasActionWithin s.actions) (sym a.same) ready.within.actions;
+        locals = subst (λ (s : TheSetup). AllByRecursion HasStmtsWithin s.locals) (sym a.same) ready.within.locals;
+      };
     }

@@ -2,11 +2,10 @@
 -- tickets.
 use Rattle.std.specs.Prelude.{◌≡◌}
 use Rattle.disk_model.specs.Disk.{DiskState}
-use Rattle.durable_records.specs.UndoRecords.{boots}
-use Rattle.local_txn.specs.Answers.{Tickets}
 use Rattle.history_rules.specs.ResourceMemory.{Setup, Memory}
 use Rattle.resource_store.specs.Keeping.{setting_of, KeepsRecords}
-use Rattle.resource_core.specs.Setups.{actions_of}
+use Rattle.resource_rules.specs.Answers.{tickets_in}
+use Rattle.resource_rules.specs.Setups.{actions_of}
 use Rattle.resource_core.specs.declared.branches.Branches.{Branches}
 
 -- what it is
@@ -15,14 +14,10 @@ setup_of b = record {
   number = (setting_of b.store).resource;
   schema = (setting_of b.store).schema;
   opening = (setting_of b.store).opening;
-  tries = b.tries;
-  actions = actions_of b.actions;
-  locals = b.locals;
+  tries = b.setup.tries;
+  actions = actions_of b.setup.actions;
+  locals = b.setup.locals;
 }
-
--- the tickets of a memory
-abbrev pub tickets_in : Memory → Tickets
-tickets_in m = record { boot = boots m.left.records; opened = m.opened; opens = m.opens }
 
 pub record Holds {D : Type 0} (state : D → DiskState) (b : Branches D) (m : Memory) : Type 0 where
   pub keeps : KeepsRecords state (setting_of b.store) m.left.records b.store

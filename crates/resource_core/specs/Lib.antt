@@ -1,5 +1,3 @@
-pub mod Setups
-pub mod Telling
 pub mod Holding
 pub mod Ready
 pub mod Stepping

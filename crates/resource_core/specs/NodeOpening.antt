@@ -29,6 +29,7 @@ use Rattle.resource_store.specs.Meaning.{Setting, Opens, setting, meaning_of}
 use Rattle.resource_store.specs.Openings.{IsUndamaged, IsBootDamage, boot_length}
 use Rattle.resource_store.specs.Standing.{StandsForRecords}
 use Rattle.record_places.specs.Within.{IsTableWithin}
+use Rattle.resource_rules.specs.Setups.{actions_of}
 use Rattle.resource_core.specs.declared.branches.Branches.{Branches}
 use Rattle.resource_core.specs.declared.nodes.Resource.{Resource}
 use Rattle.resource_core.specs.declared.opening.Loaded.{Loaded}
@@ -36,7 +37,6 @@ use Rattle.seata_types.specs.declared.limits.TheConstants.{NODE_STEPS}
 use Rattle.resource_core.specs.declared.setup.Setup.{Setup}
 use Rattle.resource_core.specs.NodeStanding.{StandsOver, LiesAs, IsSound}
 use Rattle.resource_core.specs.Ready.{HasActionWithin, HasStmtsWithin}
-use Rattle.resource_core.specs.Setups.{actions_of}
 use Rattle.resource_core.specs.Shown.{store_of, steps_left, is_down}
 
 -- a setup at its number, in the words of the rules, and of its store
@@ -78,7 +78,7 @@ IsUp l = store_is_down (store_in l) ≡ false
 
 -- where it stands
 abbrev pub loaded_at : {D : Type 0} → Loaded D → Place
-loaded_at l = Res l.branches.number
+loaded_at l = Res l.branches.setup.number
 
 -- its two disks, in their order
 abbrev pub loaded_disks : {D : Type 0} → Loaded D → D × D
@@ -86,7 +86,7 @@ loaded_disks l = (below (first_disk (twin (store_in l))), below (second_disk (tw
 
 -- branches with this number and the rest of a setup
 abbrev pub with_setup : {D : Type 0} → ℕ → Setup → Branches D → Branches D
-with_setup number s b = record b { number = number; tries = s.tries; actions = s.actions; locals = s.locals }
+with_setup number s b = record b { setup = record { number = number; tries = s.tries; actions = s.actions; locals = s.locals } }
 
 -- no stop is armed on the disk
 abbrev pub IsUnarmed : DiskState → Type 0

@@ -54,7 +54,7 @@ pub record IsFallen {D : Type 0} (r : Resource D) (m : Memory) (os : List Own) :
 -- it is the resource with this setup and these own entries, over the records that its disks had before
 pub record StandsOver {D : Type 0} (state : D → DiskState) (r : Resource D) (setup : Setup) (past : List ResourceRecord) (os : List Own) : Type 0 where
   pub is : setup ≡ setup_in r
-  pub numbered : r.branches.number ≡ setup.number
+  pub numbered : r.branches.setup.number ≡ setup.number
   pub down : r.down ≡ down_by os
   pub disks : OnDisks state (store_of r) (memory setup past os).left os
   pub holds : down_by os ≡ false → Holds (state_of state) r.branches (memory setup past os)
@@ -82,12 +82,12 @@ LiesAs state r (Manager settings) start size os = ⊥
 -- What always holds of a resource, whatever its disks keep: its setup is within the limits of a scenario, it opened no more
 -- tickets than it made steps, and while it is up what it knows and its open tickets have places in its journal.
 pub record IsSound {D : Type 0} (r : Resource D) : Type 0 where
-  pub numbered : r.branches.number ≡ (setting_of (store_of r)).resource
-  pub counted : IsCounted RESOURCES r.branches.number
+  pub numbered : r.branches.setup.number ≡ (setting_of (store_of r)).resource
+  pub counted : IsCounted RESOURCES r.branches.setup.number
   pub opens : Opens (setting_of (store_of r))
   pub tables : AllByRecursion IsTableWithin (setting_of (store_of r)).schema.tables
-  pub actions : AllByRecursion HasActionWithin r.branches.actions
-  pub locals : AllByRecursion HasStmtsWithin r.branches.locals
+  pub actions : AllByRecursion HasActionWithin r.branches.setup.actions
+  pub locals : AllByRecursion HasStmtsWithin r.branches.setup.locals
   pub steps : r.branches.txns.opened + r.left ≤ NODE_STEPS
   pub up : r.down ≡ false → store_is_down (store_of r) ≡ false
   pub knows : r.down ≡ false → IsOf (setting_of (store_of r)) (known (store_of r))

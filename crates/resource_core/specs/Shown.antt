@@ -22,7 +22,7 @@ setup_in r = setup_of r.branches
 
 -- where it stands
 abbrev pub stands_at : {D : Type 0} → Resource D → Place
-stands_at r = place.Res r.branches.number
+stands_at r = place.Res r.branches.setup.number
 
 -- how many steps it can still make
 abbrev pub steps_left : {D : Type 0} → Resource D → ℕ

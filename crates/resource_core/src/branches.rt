@@ -1,35 +1,29 @@
 //! The branches of a resource, and what it answers.
-use crate::callers::Caller;
-use crate::requests::request;
+ghost use Rattle.std.specs.Prelude.{◌≡◌};
+ghost use Rattle.resource_core.specs.Stepping.{node_error};
+
 use disk_model::Disk;
 use local_txn::LocalTxns;
-use node_steps::{sends, still};
+use resource_rules::{Answer, Setup, durable_of, follow};
 use resource_store::Store;
-use seata_types::{
-    Act, Action, Input, Leg, List, Message, NoMemory, NodeError, Place, Shared, Step, Stmt, Ticket,
-    Work,
-};
+use seata_types::{Durable, Input, NoMemory, NodeError, Step, StoreError};
 use std::alloc::Global;
 
-/// What a resource works with: its number and the rest of its setup, its store, and the local transactions that it has open.
+/// What a resource works with: what it is beside its tables, its store, and the local transactions that it has open.
 #[derive(Drop)]
 pub struct Branches<D> {
-    pub number: u16,
-    pub tries: u32,
-    pub actions: List<(u16, u16, Shared<Action>)>,
-    pub locals: List<(u16, Shared<List<Stmt>>)>,
+    pub setup: Setup,
     pub store: Store<D>,
     pub txns: LocalTxns,
 }
 
 impl<D: Disk> Branches<D> {
-    ghost use Rattle.std.specs.Prelude.{◌≡◌, Some, IfOk, is_some, option_map, true};
-    ghost use Rattle.seata_types.specs.declared.messages.Input.TheVariants as input;
-    ghost use Rattle.local_txn.specs.OpenTickets.{Open, last_of, open_at};
-    ghost use Rattle.local_txn.specs.Answers.{ticket_of};
-    ghost use Rattle.resource_core.specs.Stepping.{Answers, Hears, asks_of};
+    ghost use Rattle.std.specs.Prelude.{◌≡◌, IfSome};
+    ghost use Rattle.seata_types.specs.declared.messages.Input.{Input as TheInput};
+    ghost use Rattle.resource_store.specs.Keeping.{known, IsTaken};
+    ghost use Rattle.resource_rules.specs.Answers.{Answers as AreRules, OpensNext};
+    ghost use Rattle.resource_core.specs.Stepping.{Answers};
     ghost use Rattle.resource_core.specs.Ready.{IsReady, Serves};
-    ghost use Rattle.frame_codec.specs.Limits.{IsFramable};
 
     /// Answers an input by the rules.
     pub fn answer(&mut self, alloc: Global, given: &Input) -> Result<Step, NodeError>
@@ -37,104 +31,52 @@ impl<D: Disk> Branches<D> {
         requires served { Serves given.now }
         ensures { Answers D.state self.old self.new given.now result }
     {
-        match given {
-            Input::Turn => self.turn(alloc),
-            Input::Message { from: _, message } => self.hear(alloc, message),
-            Input::Local { number } => self.local(alloc, *number),
-            Input::Outside { number } => self.outside(alloc, *number),
-        }
-    }
-
-    // Answers a message, wherever it came from.
-    fn hear(&mut self, alloc: Global, message: &Message) -> Result<Step, NodeError>
-        requires ready { IsReady self.old }
-        requires served { IsFramable message.now }
-        ensures { Hears D.state self.old self.new message.now result }
-    {
-        match message {
-            Message::Call {
-                xid,
-                manager,
-                resource: _,
-                call,
-                work,
-            } => {
-                let caller = Caller {
-                    manager: *manager,
-                    xid: *xid,
-                    call: *call,
-                };
-                self.call(alloc, caller, work)
-            }
-            Message::RegisterAnswer {
-                ticket,
-                xid: _,
-                answer,
-            } => self.registered(alloc, *ticket, answer),
-            Message::LockAnswer { ticket, held } => self.lock_answered(alloc, *ticket, held),
-            Message::BranchCommit {
-                xid,
-                branch,
-                kind,
-                manager,
-                call,
-            } => {
-                let leg = Leg {
-                    xid: *xid,
-                    branch: *branch,
-                };
-                self.commit(alloc, leg, *kind, *manager, *call)
-            }
-            Message::BranchRollback {
-                xid,
-                branch,
-                kind,
-                manager,
-                call,
-            } => {
-                let leg = Leg {
-                    xid: *xid,
-                    branch: *branch,
-                };
-                self.roll_back(alloc, leg, *kind, *manager, *call)
-            }
-            _ => Ok(still(Act::Ignored)),
-        }
-    }
-
-    // The open ticket that was sent longest ago asks again.
-    fn turn(&mut self, alloc: Global) -> Result<Step, NodeError>
-        requires { IsReady self.old }
-        ensures { Answers D.state self.old self.new input.Turn result }
-    {
-        let Some(ticket) = self.oldest() else {
-            return Ok(still(Act::Nothing));
-        };
-        match self.request(alloc, ticket) {
-            Ok(message) => {
-                self.txns.sent(ticket);
-                Ok(sends(Act::Resent { ticket }, Place::Tc, message))
-            }
+        match resource_rules::answer(alloc, self.store.memory(), &self.setup, &self.txns, given) {
+            Ok(answer) => self.make(alloc, answer),
             Err(NoMemory) => Err(NodeError::NoMemory),
         }
     }
 
-    // The open ticket that was sent longest ago; it is open once.
-    fn oldest(&self) -> Option<Ticket>
-        ensures named { result ≡ option_map ticket_of (last_of self.now.txns.opens) }
-        ensures found { (o : Open) → last_of self.now.txns.opens ≡ Some o → open_at self.now.txns.opens o.ticket ≡ Some o }
+    // Makes the record that an answer asks for, and then the open tickets change. After a failure of the disks its act is in
+    // flight.
+    fn make(&mut self, alloc: Global, answer: Answer) -> Result<Step, NodeError>
+        requires ready { IsReady self.old }
+        requires taken { IfSome answer.asked (λ r. IsTaken r self.old.store) }
+        requires opens { OpensNext self.old.txns answer.asked answer.change }
+        ensures { (given : TheInput) → AreRules self.old.setup (known self.old.store) self.old.txns given answer →
+            Answers D.state self.old self.new given result }
     {
-        self.txns.next_to_send()
-    }
-
-    /// What an open ticket asks the coordinator.
-    pub(crate) fn request(&self, alloc: Global, ticket: Ticket) -> Result<Message, NoMemory>
-        requires { is_some (open_at self.now.txns.opens ticket) ≡ true }
-        ensures { IfOk result (λ message. Some message ≡ asks_of self.now.number (open_at self.now.txns.opens ticket)) }
-    {
-        match self.txns.find(ticket) {
-            Some(txn) => request(alloc, self.number, txn),
-            None => unreachable!(),
+        let at = durable_of(&answer.step.act);
+        let Answer {
+            step,
+            asked,
+            change,
+        } = answer;
+        match self.store.settle(alloc, asked) {
+            Ok(()) => match follow(alloc, &mut self.txns, change) {
+                Ok(()) => Ok(step),
+                Err(NoMemory) => {
+                    drop(step);
+                    Err(NodeError::NoMemory)
+                }
+            },
+            Err(error) => {
+                drop(step);
+                drop(change);
+                Err(node_error(error, at))
+            }
         }
+    }
+}
+
+// What a store's error is at an act: where that is durable, it is in flight after a failure.
+fn node_error(error: StoreError, at: Option<Durable>) -> NodeError
+    ensures { result ≡ node_error error at }
+{
+    match (error, at) {
+        (StoreError::Failed, Some(at)) => NodeError::Failed { at },
+        (StoreError::Failed, None) => NodeError::NoMemory,
+        (StoreError::Full(full), _) => NodeError::Full(full),
+        (StoreError::NoMemory, _) => NodeError::NoMemory,
     }
 }

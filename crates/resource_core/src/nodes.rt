@@ -144,7 +144,7 @@ impl<D: Disk> Node for Resource<D> {
     ghost state = { node_state D.state };
 
     fn place(&self) -> Place {
-        Place::Res(self.branches.number)
+        Place::Res(self.branches.setup.number)
     }
 
     // What every node promises of its calls, and that what its first opening found stays.

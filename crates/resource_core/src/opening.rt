@@ -86,14 +86,13 @@ impl<D: Disk> Resource<D> {
             Err((error, first, second)) => return Err(give_back(error, first, second)),
         };
         let txns = LocalTxns::new(alloc, store.boot());
-        let branches = Branches {
+        let setup = resource_rules::Setup {
             number: place,
             tries,
             actions,
             locals,
-            store,
-            txns,
         };
+        let branches = Branches { setup, store, txns };
         Ok(Loaded { branches })
     }
 

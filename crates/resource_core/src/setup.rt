@@ -1,9 +1,4 @@
 //! What a resource is, but for its number.
-ghost use Rattle.std.specs.Prelude.{◌≡◌};
-ghost use Rattle.std.specs.Option.{option_copied};
-ghost use Rattle.history_rules.specs.ResourceMemory.{action_in, local_in};
-ghost use Rattle.resource_core.specs.Setups.{actions_of};
-
 use local_tables::Schema;
 use seata_types::{Action, List, Row, Shared, Stmt, Text};
 
@@ -17,35 +12,4 @@ pub struct Setup {
     pub tries: u32,
     pub actions: List<(u16, u16, Shared<Action>)>,
     pub locals: List<(u16, Shared<List<Stmt>>)>,
-}
-
-/// The actions of a manager's call, if it has any here.
-pub(crate) fn action_of(
-    actions: &[(u16, u16, Shared<Action>)],
-    manager: u16,
-    call: u16,
-) -> Option<&Action>
-    ensures { option_copied result ≡ action_in manager call (actions_of actions.now) }
-{
-    for (of, at, action) in actions {
-        if *of == manager && *at == call {
-            return Some(action.get());
-        }
-    }
-    None
-}
-
-/// The statements of a local transaction, if there is one of this number.
-pub(crate) fn local_of(
-    locals: &[(u16, Shared<List<Stmt>>)],
-    number: u16,
-) -> Option<&Shared<List<Stmt>>>
-    ensures { option_copied result ≡ local_in number locals.now }
-{
-    for (at, stmts) in locals {
-        if *at == number {
-            return Some(stmts);
-        }
-    }
-    None
 }

@@ -1,19 +1,23 @@
 -- Calls: by what was looked up the answers are the rules'.
-use Rattle.std.proofs.Common.{◌≡◌, ◌∙◌, ◌==◌, ◌+◌, ◌≤◌, ℕ, zero, suc, true, false, List, [], ◌∷◌, map, Option, Some, None, option_map, is_some, Result, Ok, Err, refl, sym, ap, true≢false}
+use Rattle.std.proofs.Common.{◌≡◌, ◌∙◌, ◌==◌, ◌+◌, ◌≤◌, ℕ, zero, suc, true, false, List, [], ◌∷◌, map, Option, Some, None, option_map, is_some, Result, Ok, Err, refl, sym, ap, subst, true≢false}
 use Rattle.std.specs.Prelude.{find, IfOk}
 use Rattle.seata_types.specs.declared.acts.Act.TheVariants as act
 use Rattle.seata_types.specs.declared.copies.NoMemory.{NoMemory}
 use Rattle.seata_types.specs.declared.errors.StmtError.{StmtError}
+use Rattle.seata_types.specs.declared.errors.Why.TheVariants as why
 use Rattle.seata_types.specs.declared.ids.BranchId.{BranchId}
 use Rattle.seata_types.specs.declared.ids.Leg.{Leg}
 use Rattle.seata_types.specs.declared.ids.Place.{Place}
 use Rattle.seata_types.specs.declared.ids.Ticket.{Ticket}
+use Rattle.seata_types.specs.declared.messages.CallAnswer.TheVariants as called
 use Rattle.seata_types.specs.declared.messages.Input.{Input}
 use Rattle.seata_types.specs.declared.messages.Input.TheVariants as input
 use Rattle.seata_types.specs.declared.messages.Message.TheVariants as message
 use Rattle.seata_types.specs.declared.rows.RowKey.{RowKey}
 use Rattle.seata_types.specs.declared.statements.Work.{Work}
 use Rattle.seata_types.specs.declared.statements.Work.TheVariants as work
+use Rattle.byte_fields.specs.Layout.{FitsTicket}
+use Rattle.byte_fields.specs.Parts.{FitsBranch}
 use Rattle.local_tables.specs.Calls.{effect}
 use Rattle.local_tables.specs.Rows.{Database}
 use Rattle.local_tables.specs.declared.schemas.Effect.{Effect}
@@ -22,8 +26,8 @@ use Rattle.durable_records.specs.RowsKept.{tables}
 use Rattle.durable_records.specs.UndoRecords.{undos_of_call}
 use Rattle.undo_log.specs.Entries.{record_of_call}
 use Rattle.undo_log.specs.declared.records.UndoRecord.{UndoRecord}
-use Rattle.local_txn.specs.OpenTickets.{OfCall, Open, busy_row, is_for_call, opening_of, with_first}
-use Rattle.local_txn.specs.Answers.{Tickets, is_for, new_ticket, ticket_of}
+use Rattle.local_txn.specs.OpenTickets.{OfCall, Open, Owner, busy_row, is_for_call, no_effect, opening_of, with_first}
+use Rattle.local_txn.specs.Answers.{Tickets, is_for, new_ticket, open_of, owner_by, ticket_of}
 use Rattle.history_rules.specs.Own.{Given, still}
 use Rattle.history_rules.specs.ResourceMemory.{Setup, Memory, next_ticket, opened_for, opening_tables, or_none}
 use Rattle.history_rules.specs.ResourceRules as rules
@@ -32,15 +36,20 @@ use Rattle.resource_memory.specs.Known.{Known}
 use Rattle.resource_memory.specs.Lookups as lookups
 use Rattle.resource_memory.specs.Lookups.{branch_in, tried_leg}
 use Rattle.resource_memory.proofs.TriedLaws.{finds}
+use Rattle.record_places.specs.Laws.{HasKeysOf}
+use Rattle.record_places.proofs.EffectLaws.{effects_have_keys}
 use Rattle.resource_rules.specs.Answers.{Answers, Hears, Shows, answer, ignored}
 use Rattle.resource_rules.specs.Calls.{again, branch_by, branch_on, done_for, free_call, meaning, new_call, opening}
+use Rattle.resource_rules.specs.Ready.{IsCallWithin, IsOwnedWithin, IsReady, IsTicketWithin, ServesWithin, ServesWork}
 use Rattle.resource_rules.specs.declared.answers.Answer.{Answer}
 use Rattle.resource_rules.specs.declared.answers.Change.TheVariants as change
 use Rattle.resource_rules.specs.declared.callers.Caller.{Caller}
 use Rattle.resource_rules.specs.declared.setups.Setup.{Setup as TheSetup}
 use Rattle.resource_rules.proofs.AnswerLaws.{rests}
 use Rattle.resource_rules.proofs.DoneCalls.{branch_of_record, branch_of_undo, finds_undos}
+use Rattle.resource_rules.proofs.FramingLaws.{IsCause, busy_key, busy_named, busy_told, done_told, failed_told, fault_cause, request_framed, told_framed}
 use Rattle.resource_rules.proofs.Owners.{not_none, owner_is}
+use Rattle.resource_rules.proofs.ReadyLaws.{call_within, rows_of_effect, tables_within, work_within}
 use Rattle.resource_rules.proofs.Seen.{next_seen, opens_seen, tables_seen}
 
 abbrev Meaning : Type 0
@@ -85,6 +94,30 @@ tickets_for : (x c : ℕ) (opens : List Open) → (x == 0) ≡ false → find (i
 tickets_for zero c opens one = absurd (true≢false one)
 tickets_for (suc x) c opens one = refl
 
+-- ---- what a new call has places for
+
+one_effect : (e f : Effect) → ◌≡◌ {A = Meaning} (Ok e) (Ok f) → e ≡ f
+one_effect e f same = cc
+
+no_fault : {X : Type 0} (e : Effect) (fault : ℕ × StmtError) → ◌≡◌ {A = Meaning} (Ok e) (Err fault) → X
+no_fault e fault same = absurd cc
+
+module _ {is : TheSetup} (k : Known) {ts : Tickets} (ready : IsReady is k ts) where
+  -- the keys of its rows
+  keys_of : (w : Work) (e : Effect) → meaning k.tables w ≡ Ok e → ServesWork w → HasKeysOf k.tables.resource e
+  keys_of (work.At stmts) e means served = effects_have_keys k.tables stmts e (tables_within k ready.knows) served.each means
+  keys_of (work.Tcc action) e means served = subst (HasKeysOf k.tables.resource) (one_effect no_effect e means) (record { touched = tt; read = tt })
+
+  -- why a statement has no meaning
+  cause_of : (w : Work) (index : ℕ) (fault : StmtError) → meaning k.tables w ≡ Err (index, fault) → ServesWork w → IsCause (why.Stmt index fault)
+  cause_of (work.At stmts) index fault means served = fault_cause k.tables (tables_within k ready.knows) ready.knows.resource stmts served index fault means
+  cause_of (work.Tcc action) index fault means served = no_fault no_effect (index, fault) means
+
+  -- the ticket that it opens
+  owned_by : (x m c : ℕ) (w : Work) (e : Effect) (t : Ticket) (o : Owner) → meaning k.tables w ≡ Ok e → ServesWork w → IsCallWithin x c → IsOwnedWithin k.tables (opening_of t o e) (OfCall m x c w)
+  owned_by x m c (work.At stmts) e t o means served few = (few, rows_of_effect k.tables (tables_within k ready.knows) stmts served t o e means)
+  owned_by x m c (work.Tcc action) e t o means served few = (few, served)
+
 -- ---- the answers
 
 module _ (is : TheSetup) (k : Known) (ts : Tickets) (c : Caller) (w : Work) (resource : ℕ) (from : Place) where
@@ -97,7 +130,7 @@ module _ (is : TheSetup) (k : Known) (ts : Tickets) (c : Caller) (w : Work) (res
 
   -- of no transaction
   pub of_none : (c.xid.0 == 0) ≡ true → (a : Answer) → a ≡ ignored → Answers is k ts call_input a
-  of_none e = rests change.Stays tt _ (λ s m sh. none_is c.xid.0 e s m) (λ s m. refl) (λ s m now sh. refl)
+  of_none e = rests change.Stays tt _ (λ s m sh. none_is c.xid.0 e s m) (λ s m. refl) (λ s m now sh. refl) (λ ready served. (tt, tt))
 
   module _ (one : (c.xid.0 == 0) ≡ false) (counted : 1 ≤ c.call) where
     one_is : (x : ℕ) → (x == 0) ≡ false → (s : Setup) (m : Memory) → rules.on_call s m.left.records m.opens (next_ticket m) c.manager x c.call w
@@ -125,8 +158,9 @@ module _ (is : TheSetup) (k : Known) (ts : Tickets) (c : Caller) (w : Work) (res
         sym (one_is c.xid.0 one s m ∙ λ i. rules.call_answer s m.left.records m.opens (next_ticket m) c.manager c.xid.0 c.call w ((sym (done_seen w s m sh) ∙ ap (option_map number_of) done) i) (at i))
 
     -- the work is done
-    pub is_again : (b : BranchId) → done_for k c w ≡ Some b → (a : Answer) → a ≡ again c b → Answers is k ts call_input a
-    is_again b done = rests change.Stays tt _ (λ s m sh. answer_is (Some b) done (find (λ p. is_for_call c.xid.0 c.call p.owner) m.opens) s m sh refl) (λ s m. refl) (λ s m now sh. refl)
+    pub is_again : (b : BranchId) → FitsBranch b → done_for k c w ≡ Some b → (a : Answer) → a ≡ again c b → Answers is k ts call_input a
+    is_again b few done = rests change.Stays tt _ (λ s m sh. answer_is (Some b) done (find (λ p. is_for_call c.xid.0 c.call p.owner) m.opens) s m sh refl) (λ s m. refl) (λ s m now sh. refl)
+        (λ ready served. (told_framed c.xid c.call (called.Done b) (call_within c.xid c.manager resource c.call w served) (done_told b few), tt))
 
     module _ (undone : done_for k c w ≡ None) where
       find_is : (o : Option Open) → find (is_for c.xid.0 c.call) ts.opens ≡ o → (s : Setup) (m : Memory) → Shows is k ts s m
@@ -138,9 +172,9 @@ module _ (is : TheSetup) (k : Known) (ts : Tickets) (c : Caller) (w : Work) (res
       pub is_waiting : is_some (option_map ticket_of (find (is_for c.xid.0 c.call) ts.opens)) ≡ true → (a : Answer) → a ≡ answer None (still (act.Waiting c.xid c.call)) → Answers is k ts call_input a
       is_waiting open_is =
           let there = found_open (find (is_for c.xid.0 c.call) ts.opens) (sym (some_ticket (find (is_for c.xid.0 c.call) ts.opens)) ∙ open_is) in
-          rests change.Stays tt _ (λ s m sh. find_is (Some there.0) there.1 s m sh) (λ s m. refl) (λ s m now sh. refl)
+          rests change.Stays tt _ (λ s m sh. find_is (Some there.0) there.1 s m sh) (λ s m. refl) (λ s m now sh. refl) (λ ready served. (tt, tt))
 
-      module _ (closed : is_some (option_map ticket_of (find (is_for c.xid.0 c.call) ts.opens)) ≡ false) where
+      module _ (closed : is_some (option_map ticket_of (find (is_for c.xid.0 c.call) ts.opens)) ≡ false) (named : FitsTicket (new_ticket ts)) where
         meaning_seen : (v : Work) (s : Setup) (m : Memory) → Shows is k ts s m → meaning k.tables v ≡ rules.meaning s m.left.records m.opens (next_ticket m) v
         meaning_seen (work.At stmts) s m sh = ap (λ (db : Database). effect db stmts) (tables_seen s m sh)
         meaning_seen (work.Tcc action) s m sh = refl
@@ -164,8 +198,20 @@ module _ (is : TheSetup) (k : Known) (ts : Tickets) (c : Caller) (w : Work) (res
         opened_is (work.Tcc action) e t means s m sh =
             ap (λ (q : Meaning). Some (opening_of t (OfCall c.manager c.xid.0 c.call (work.Tcc action)) (or_none q))) means
 
+        opens_within : (e : Effect) → meaning k.tables w ≡ Ok e → IsReady is k ts → ServesWithin call_input → IsTicketWithin k.tables (open_of (opening ts c w e))
+        opens_within e means ready served = record {
+          named = named;
+          owned = subst (IsOwnedWithin k.tables (open_of (opening ts c w e))) (sym (owner_is c.xid.0 c.manager c.call w one))
+              (owned_by k ready c.xid.0 c.manager c.call w e (new_ticket ts) (owner_by c.xid.0 c.manager c.call w) means (work_within c.xid c.manager resource c.call w served) (call_within c.xid c.manager resource c.call w served));
+        }
+
         opens_is : (e : Effect) → meaning k.tables w ≡ Ok e → (b : Option (RowKey × Ticket)) → busy_row ts.opens e ≡ b → (a : Answer) → a ≡ free_call is.number ts c w e b → Answers is k ts call_input a
         opens_is e means (Some (key, by)) is_b = rests change.Stays tt _ (λ s m sh. rows_is e means (Some (key, by)) is_b s m sh) (λ s m. refl) (λ s m now sh. refl)
+            (λ ready served. (
+              told_framed c.xid c.call (called.Busy key by) (call_within c.xid c.manager resource c.call w served)
+                  (busy_told k.tables.resource key by ready.knows.resource (busy_key k.tables.resource ts.opens e key by (keys_of k ready w e means (work_within c.xid c.manager resource c.call w served)) is_b) (busy_named k.tables ts.opens e key by ready.tickets is_b)),
+              tt,
+            ))
         opens_is e means None is_b =
             let owner = owner_is c.xid.0 c.manager c.call w one in
             rests (change.Opens (opening ts c w e)) (record { named = refl; free = is_b }, refl) _
@@ -173,14 +219,20 @@ module _ (is : TheSetup) (k : Known) (ts : Tickets) (c : Caller) (w : Work) (res
             (λ s m. refl)
             (λ s m now sh. ap (λ (o : Option Open). record m { opens = with_first o m.opens; opened = m.opened + 1 })
             (opened_is w e (new_ticket ts) means s m sh ∙ λ i. Some (opening_of (new_ticket ts) (sym owner i) e)))
+            (λ ready served. let within = opens_within e means ready served in (request_framed is.number k.tables (open_of (opening ts c w e)) ready.counted ready.knows.resource within, within))
 
         pub is_new : (r : Meaning) → meaning k.tables w ≡ r → (a : Answer) → a ≡ new_call is.number ts c w r → Answers is k ts call_input a
         is_new (Ok e) means = opens_is e means (busy_row ts.opens e) refl
         is_new (Err (index, error)) means = rests change.Stays tt _ (λ s m sh. meant_is (Err (index, error)) means s m sh) (λ s m. refl) (λ s m now sh. refl)
+            (λ ready served. (
+              told_framed c.xid c.call (called.Failed (why.Stmt index error)) (call_within c.xid c.manager resource c.call w served)
+                  (failed_told (why.Stmt index error) (cause_of k ready w index error means (work_within c.xid c.manager resource c.call w served))),
+              tt,
+            ))
 
 pub is_new_ok : (is : TheSetup) (k : Known) (ts : Tickets) (c : Caller) (w : Work) (db : Database) → (c.xid.0 == 0) ≡ false → 1 ≤ c.call → done_for k c w ≡ None
-    → is_some (option_map ticket_of (find (is_for c.xid.0 c.call) ts.opens)) ≡ false → db ≡ k.tables
+    → is_some (option_map ticket_of (find (is_for c.xid.0 c.call) ts.opens)) ≡ false → FitsTicket (new_ticket ts) → db ≡ k.tables
     → (result : Result Answer NoMemory) → IfOk result (λ a. a ≡ new_call is.number ts c w (meaning db w)) → IfOk result (λ a. (resource : ℕ) → Hears is k ts (message.Call c.xid c.manager resource c.call w) a)
-is_new_ok is k ts c w db one counted undone closed same (Ok a) given = λ resource from.
-    is_new is k ts c w resource from one counted undone closed (meaning k.tables w) refl a (given ∙ ap (λ (t : Database). new_call is.number ts c w (meaning t w)) same)
-is_new_ok is k ts c w db one counted undone closed same (Err n) given = tt
+is_new_ok is k ts c w db one counted undone closed named same (Ok a) given = λ resource from.
+    is_new is k ts c w resource from one counted undone closed named (meaning k.tables w) refl a (given ∙ ap (λ (t : Database). new_call is.number ts c w (meaning t w)) same)
+is_new_ok is k ts c w db one counted undone closed named same (Err n) given = tt

@@ -1,5 +1,5 @@
 -- The second phase of AT branches: what stands in the undo log at a branch is what the records say, and so each answer is the rules'.
-use Rattle.std.proofs.Common.{◌≡◌, ◌∙◌, ◌<◌, ◌^◌, ℕ, Bool, true, false, List, Option, Some, None, is_some, Result, Ok, Err, refl, sym, ap, ap₂, subst}
+use Rattle.std.proofs.Common.{◌≡◌, ◌∙◌, ◌<◌, ◌^◌, ℕ, Bool, true, false, List, Option, Some, None, is_some, Result, Ok, Err, refl, sym, ap, ap₂, subst, arith}
 use Rattle.std.specs.Prelude.{IfOk, IfSome}
 use Rattle.seata_types.specs.declared.acts.Act.{Act}
 use Rattle.seata_types.specs.declared.acts.Act.TheVariants as act
@@ -12,10 +12,12 @@ use Rattle.seata_types.specs.declared.ids.Ticket.{Ticket}
 use Rattle.seata_types.specs.declared.messages.Input.{Input}
 use Rattle.seata_types.specs.declared.messages.Input.TheVariants as input
 use Rattle.seata_types.specs.declared.messages.Message.TheVariants as message
+use Rattle.seata_types.specs.declared.messages.Step.{Step}
 use Rattle.seata_types.specs.declared.rows.Image.{Image}
 use Rattle.seata_types.specs.declared.rows.RowKey.{RowKey}
 use Rattle.seata_types.specs.declared.statuses.BranchKind.TheVariants as kind
 use Rattle.seata_types.specs.declared.statuses.BranchStatus.TheVariants as branch
+use Rattle.frame_codec.specs.Limits.{IsFramable}
 use Rattle.local_tables.specs.Rows.{Database}
 use Rattle.durable_records.specs.declared.resources.ResourceRecord.{ResourceRecord}
 use Rattle.durable_records.specs.declared.resources.ResourceRecord.TheVariants as log
@@ -35,12 +37,16 @@ use Rattle.resource_memory.specs.Changes.{is_undo_record}
 use Rattle.resource_memory.specs.Known.{Known}
 use Rattle.resource_memory.specs.Lookups.{entry_by}
 use Rattle.resource_memory.proofs.RecordLaws.{unmarked}
-use Rattle.resource_rules.specs.Answers.{Answers, Hears, IsDurable, IsTakenBy, Shows, answer, tells_committed, tells_rollbacked}
+use Rattle.resource_rules.specs.Answers.{Answers, IsDurable, IsTakenBy, OpensNext, Shows, answer, opens_by, tells_committed, tells_rollbacked}
+use Rattle.resource_rules.specs.Apart.{RollsBack}
 use Rattle.resource_rules.specs.Ends.{IsUndo, at_undo, at_record, empty}
+use Rattle.resource_rules.specs.Ready.{AreTicketsWithin, ServesWithin}
 use Rattle.resource_rules.specs.declared.answers.Answer.{Answer}
+use Rattle.resource_rules.specs.declared.answers.Change.{Change}
 use Rattle.resource_rules.specs.declared.answers.Change.TheVariants as change
 use Rattle.resource_rules.specs.declared.setups.Setup.{Setup as TheSetup}
 use Rattle.resource_rules.proofs.AnswerLaws.{rests, asks, cleared_placed, marked_placed, undone_placed}
+use Rattle.resource_rules.proofs.ReadyLaws.{commit_told, rollback_told}
 use Rattle.resource_rules.proofs.Seen.{entry_seen, opens_seen, tables_seen}
 
 -- ---- an entry by the records
@@ -112,10 +118,11 @@ module _ (is : TheSetup) (k : Known) (ts : Tickets) (leg : Leg) where
     clears r e x b a same =
         asks change.Stays (log.Cleared leg.xid leg.branch) tt (durable.Cleared leg.xid leg.branch) _
         (λ s m sh. sym (ap (rules.at_commit s m.left.records m.opens (next_ticket m) leg.xid.0 leg.branch.0) (normal_by (undo_at s m sh) (marked_at s m sh) r (at s m sh (Some (entry.Normal r)) e)).1))
-        (λ s m sh. refl) (λ s m. refl) (λ n. refl) (record { allowed = ap is_undo_record e; runs = refl; placed = λ places. cleared_placed leg x b }) a same
+        (λ s m sh. refl) (λ s m. refl) (λ n. refl) (record { allowed = ap is_undo_record e; runs = refl; placed = λ places. cleared_placed leg x b }) (λ ready served. (commit_told leg kind.At manager call branch.PhaseTwoCommitted 0 (omega arith) served, tt)) a same
 
     empties : ((s : Setup) (m : Memory) → Shows is k ts s m → undo_of m.left.records leg.xid.0 leg.branch.0 ≡ None) → (a : Answer) → a ≡ empty leg → Answers is k ts commit a
     empties none = rests change.Stays tt _ (λ s m sh. sym (ap (rules.at_commit s m.left.records m.opens (next_ticket m) leg.xid.0 leg.branch.0) (none s m sh))) (λ s m. refl) (λ s m now sh. refl)
+        (λ ready served. (commit_told leg kind.At manager call branch.PhaseTwoCommitted 0 (omega arith) served, tt))
 
     pub marked_empty : entry_at k.undo_log leg ≡ Some entry.Finished → (a : Answer) → a ≡ empty leg → Answers is k ts commit a
     marked_empty e = empties (λ s m sh. (finished_by (undo_at s m sh) (marked_at s m sh) (at s m sh (Some entry.Finished) e)).0)
@@ -126,6 +133,7 @@ module _ (is : TheSetup) (k : Known) (ts : Tickets) (leg : Leg) where
     pub remarks : entry_at k.undo_log leg ≡ Some entry.Finished → (a : Answer)
         → a ≡ answer None (tells_rollbacked leg branch.PhaseTwoRollbacked 0 (act.Remarked leg.xid leg.branch)) → Answers is k ts rollback a
     remarks e = rests change.Stays tt _ (λ s m sh. let found = finished_by (undo_at s m sh) (marked_at s m sh) (at s m sh (Some entry.Finished) e) in rolls s m sh None true found.0 found.1) (λ s m. refl) (λ s m now sh. refl)
+        (λ ready served. (rollback_told leg kind.At manager call branch.PhaseTwoRollbacked 0 (omega arith) served, tt))
 
     pub marks : entry_at k.undo_log leg ≡ None → leg.xid.0 < 2 ^ 64 → leg.branch.0 < 2 ^ 64 → (a : Answer)
         → a ≡ answer (Some (log.Marked leg.xid leg.branch)) (tells_rollbacked leg branch.PhaseTwoRollbacked 0 (act.Durable (durable.Marked leg.xid leg.branch))) → Answers is k ts rollback a
@@ -133,12 +141,21 @@ module _ (is : TheSetup) (k : Known) (ts : Tickets) (leg : Leg) where
         asks change.Stays (log.Marked leg.xid leg.branch) tt (durable.Marked leg.xid leg.branch) _
         (λ s m sh. let found = none_by (undo_at s m sh) (marked_at s m sh) (at s m sh None e) in rolls s m sh None false found.0 found.1)
         (λ s m sh. refl) (λ s m. refl) (λ n. refl) (record { allowed = rw e refl; runs = refl; placed = λ places. marked_placed leg x b })
+        (λ ready served. (rollback_told leg kind.At manager call branch.PhaseTwoRollbacked 0 (omega arith) served, tt))
 
     undone_taken : (r : UndoRecord) → entry_at k.undo_log leg ≡ Some (entry.Normal r) → leg.xid.0 < 2 ^ 64 → leg.branch.0 < 2 ^ 64 → (o : Option ResourceRecord)
         → IfSome o (λ q. q ≡ log.Undone leg.xid leg.branch) → IfSome o (IsTakenBy is k ts rollback)
     undone_taken r e x b (Some q) same =
         subst (IsTakenBy is k ts rollback) (sym same) (record { allowed = ap is_undo_record e; runs = refl; placed = λ places. undone_placed leg x b })
     undone_taken r e x b None same = tt
+
+    undo_framed : (db : Database) (dirty : Option Image) → ServesWithin rollback → IfSome (at_undo db leg dirty).sent (λ out. IsFramable out.message)
+    undo_framed db (Some i) served = rollback_told leg kind.At manager call branch.PhaseTwoRollbackFailedUnretryable 0 (omega arith) served
+    undo_framed db None served = rollback_told leg kind.At manager call branch.PhaseTwoRollbacked 0 (omega arith) served
+
+    record_framed : (db : Database) (images : List Image) (busy : Option (RowKey × Ticket)) → ServesWithin rollback → IfSome (at_record db leg images busy).sent (λ out. IsFramable out.message)
+    record_framed db images (Some (key, by)) served = rollback_told leg kind.At manager call branch.PhaseTwoRollbackFailedRetryable 0 (omega arith) served
+    record_framed db images None served = undo_framed db (dirty_image db images) served
 
     durable_as : (o : Option ResourceRecord) (done : Act) (d : Durable) → IfSome o (λ r. done ≡ act.Durable d) → IfSome o (λ r. IsDurable done)
     durable_as (Some r) done d same = (d, same)
@@ -150,14 +167,18 @@ module _ (is : TheSetup) (k : Known) (ts : Tickets) (leg : Leg) where
       rules = λ s m sh. record { step = step ∙ undoes s m sh r e; asked = undo.asked s m rollback; left = undo.left s m rollback };
       taken = undone_taken r e x b a.asked undo.undone;
       at = durable_as a.asked a.step.act (durable.Undone leg.xid leg.branch) undo.at;
-      opens = undo.opens ts;
+      opens = subst (OpensNext ts a.asked) (sym undo.stays) tt;
+      within = λ ready served. record {
+        frames = subst (λ (st : Step). IfSome st.sent (λ out. IsFramable out.message)) (sym step) (record_framed k.tables r.images (busy_in ts.opens (image_keys r.images)) served);
+        tickets = subst (λ (c : Change). AreTicketsWithin k.tables (opens_by c ts.opens)) (sym undo.stays) ready.tickets;
+      };
     }
 
 -- where there is memory for it
-pub undone_ok : (k : Known) (ts : Tickets) (leg : Leg) (r : UndoRecord) (db : Database) (images : List Image) (result : Result Answer NoMemory) → db ≡ k.tables → images ≡ r.images
+pub undone_ok : (k : Known) (opens : List Open) (leg : Leg) (r : UndoRecord) (db : Database) (images : List Image) (result : Result Answer NoMemory) → db ≡ k.tables → images ≡ r.images
     → entry_at k.undo_log leg ≡ Some (entry.Normal r) → leg.xid.0 < 2 ^ 64 → leg.branch.0 < 2 ^ 64
-    → IfOk result (λ a. a.step ≡ at_record db leg images (busy_in ts.opens (image_keys images))) → IfOk result (IsUndo leg)
-    → IfOk result (λ a. (is : TheSetup) (manager call : ℕ) → Hears is k ts (message.BranchRollback leg.xid leg.branch kind.At manager call) a)
-undone_ok k ts leg r db images (Ok a) same rows e x b step undo = λ is manager call from.
-    undone is k ts leg manager call from r e x b a (step ∙ ap₂ (λ (t : Database) (is : List Image). at_record t leg is (busy_in ts.opens (image_keys is))) same rows) undo
-undone_ok k ts leg r db images (Err n) same rows e x b step undo = tt
+    → IfOk result (λ a. a.step ≡ at_record db leg images (busy_in opens (image_keys images))) → IfOk result (IsUndo leg) → IfOk result (RollsBack k opens leg)
+undone_ok k opens leg r db images (Ok a) same rows e x b step undo = λ is ts manager call at from.
+    undone is k ts leg manager call from r e x b a
+    (step ∙ ap₂ (λ (t : Database) (is : List Image). at_record t leg is (busy_in opens (image_keys is))) same rows ∙ ap (λ (os : List Open). at_record k.tables leg r.images (busy_in os (image_keys r.images))) (sym at)) undo
+undone_ok k opens leg r db images (Err n) same rows e x b step undo = tt

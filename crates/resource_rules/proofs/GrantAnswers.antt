@@ -1,5 +1,5 @@
 -- The coordinator's answers for open tickets of calls: by what was looked up they are the rules'.
-use Rattle.std.proofs.Common.{◌≡◌, ◌∙◌, ◌==◌, ◌+◌, ◌-◌, ◌≤◌, ◌<◌, ◌^◌, ℕ, Bool, true, false, List, length, Option, Some, None, option_map, is_none, Result, Ok, Err, refl, sym, ap, subst, arith}
+use Rattle.std.proofs.Common.{◌≡◌, ◌∙◌, ◌==◌, ◌+◌, ◌-◌, ◌<◌, ◌^◌, ℕ, Bool, true, false, List, Option, Some, None, option_map, is_none, Result, Ok, Err, refl, sym, ap, subst, arith}
 use Rattle.std.specs.Prelude.{nat_le, min, if◌then◌else◌, IfOk}
 use Rattle.std.proofs.lemmas.Bool.{and_from, leb-true, le-leb}
 use Rattle.std.proofs.lemmas.Bool.Decides.{nat_tests}
@@ -14,7 +14,7 @@ use Rattle.seata_types.specs.declared.ids.Leg.{Leg}
 use Rattle.seata_types.specs.declared.ids.Place.{Place}
 use Rattle.seata_types.specs.declared.ids.Ticket.{Ticket}
 use Rattle.seata_types.specs.declared.ids.Xid.{Xid}
-use Rattle.seata_types.specs.declared.limits.TheConstants.{FIELD_ITEMS}
+use Rattle.seata_types.specs.declared.messages.CallAnswer.TheVariants as called
 use Rattle.seata_types.specs.declared.messages.Input.{Input}
 use Rattle.seata_types.specs.declared.messages.Input.TheVariants as input
 use Rattle.seata_types.specs.declared.messages.Message.TheVariants as message
@@ -47,14 +47,17 @@ use Rattle.history_rules.specs.ResourceRules.{resource_answer, untouched}
 use Rattle.resource_log.specs.Records.{leg_of}
 use Rattle.resource_memory.specs.Changes.{runs}
 use Rattle.resource_memory.specs.Known.{Known}
-use Rattle.resource_rules.specs.Answers.{Answers, GrantPlaces, Hears, IsOpenOn, Shows, ignored}
+use Rattle.resource_rules.specs.Answers.{Answers, GrantPlaces, Hears, IsOpenFor, IsOpenOn, Shows, ignored}
+use Rattle.resource_rules.specs.Ready.{AreStmtsWithin, IsCallWithin, IsOwnedWithin, IsReady, ServesWithin}
 use Rattle.resource_rules.specs.Grants.{IsCountedTry, answered, at_granted, conflicted, counts, dropped, granted, tcc_granted, try_meant, try_touched}
 use Rattle.resource_rules.specs.declared.answers.Answer.{Answer}
 use Rattle.resource_rules.specs.declared.answers.Change.TheVariants as change
 use Rattle.resource_rules.specs.declared.setups.Setup.{Setup as TheSetup}
-use Rattle.resource_rules.proofs.AnswerLaws.{rests, asks}
+use Rattle.resource_rules.proofs.AnswerLaws.{Framed, rests, asks}
 use Rattle.resource_rules.proofs.Ends.{finished_by, none_by, normal_by}
+use Rattle.resource_rules.proofs.FramingLaws.{IsCause, call_of_ticket, done_told, failed_told, fault_cause, told_framed, untouched_cause}
 use Rattle.resource_rules.proofs.Owners.{owner_is, owner_none}
+use Rattle.resource_rules.proofs.ReadyLaws.{branch_granted, holder_of, open_within, tables_within}
 use Rattle.resource_rules.proofs.Seen.{entry_seen, fence_seen, opens_seen, tables_seen}
 use Rattle.resource_rules.proofs.TccEnds.{images_fit}
 
@@ -68,7 +71,7 @@ answer_input t xid from answer = input.Message from (message.RegisterAnswer t xi
 pub counted_try : (db : Database) (txn : OpenTxn) → (txn.xid.0 == 0) ≡ false → IsOpenOn db (open_of txn) → (w : Work) → txn.work ≡ w → IsCountedTry w
 counted_try db txn one open_on (work.At stmts) e = tt
 counted_try db txn one open_on (work.Tcc action) e =
-    subst (λ (w : Owner). length (tries_of w) ≤ FIELD_ITEMS) (owner_is txn.xid.0 txn.manager txn.call txn.work one ∙ ap (OfCall txn.manager txn.xid.0 txn.call) e) open_on.tries
+    subst (IsOpenFor db (open_of txn)) (owner_is txn.xid.0 txn.manager txn.call txn.work one ∙ ap (OfCall txn.manager txn.xid.0 txn.call) e) open_on
 
 -- the count of a ticket that waits on is exact, and it has tries left
 not_last : (tries n : ℕ) → tries < 2 ^ 32 → nat_le tries (min (n + 1) (2 ^ 32 - 1)) ≡ false → (min (n + 1) (2 ^ 32 - 1) ≡ n + 1) × (nat_le tries (n + 1) ≡ false)
@@ -85,7 +88,7 @@ module _ (is : TheSetup) (k : Known) (ts : Tickets) (t : Ticket) (xid : Xid) (fr
   pub unopened : (answer : Registered) → open_at ts.opens t ≡ None → (a : Answer) → a ≡ ignored → Answers is k ts (answer_input t xid from answer) a
   unopened answer none = rests change.Stays tt _
       (λ s m sh. sym (ap (λ (p : Option Open). rules.on_registered s m.left.records m.opens (next_ticket m) p answer) (ap (λ (os : List Open). open_at os t) (sym (opens_seen s m sh)) ∙ none)))
-      (λ s m. refl) (λ s m now sh. refl)
+      (λ s m. refl) (λ s m now sh. refl) (λ ready served. (tt, tt))
 
   module _ (txn : OpenTxn) (here : open_at ts.opens t ≡ Some (open_of txn)) where
     here_at : (s : Setup) (m : Memory) → Shows is k ts s m → open_at m.opens t ≡ Some (open_of txn)
@@ -111,7 +114,7 @@ module _ (is : TheSetup) (k : Known) (ts : Tickets) (t : Ticket) (xid : Xid) (fr
     pub of_none : (answer : Registered) → (txn.xid.0 == 0) ≡ true → (a : Answer) → a ≡ ignored → Answers is k ts (answer_input t xid from answer) a
     of_none answer e = rests change.Stays tt _
         (λ s m sh. of_local answer s m txn.call ∙ ticket_is (OfLocal txn.call) (owner_none txn.xid.0 txn.manager txn.call txn.work e) answer s m sh)
-        (λ s m. refl) (λ s m now sh. refl)
+        (λ s m. refl) (λ s m now sh. refl) (λ ready served. (tt, tt))
 
     module _ (one : (txn.xid.0 == 0) ≡ false) where
       owner : (w : Work) → txn.work ≡ w → (open_of txn).owner ≡ OfCall txn.manager txn.xid.0 txn.call w
@@ -121,11 +124,19 @@ module _ (is : TheSetup) (k : Known) (ts : Tickets) (t : Ticket) (xid : Xid) (fr
           → rules.ticket_answer s m.left.records m.opens (next_ticket m) (open_of txn) (OfCall txn.manager txn.xid.0 txn.call txn.work) answer ≡ resource_answer s m (answer_input t xid from answer)
       answers_as answer s m sh = ticket_is (OfCall txn.manager txn.xid.0 txn.call txn.work) (owner txn.work refl) answer s m sh
 
+      -- the numbers of its call have places
+      call_here : IsReady is k ts → IsCallWithin txn.xid.0 txn.call
+      call_here ready = call_of_ticket k.tables (open_of txn) txn.manager txn.xid.0 txn.call txn.work (subst (IsOwnedWithin k.tables (open_of txn)) (owner txn.work refl) (open_within is k ts ready t (open_of txn) here).owned)
+
+      dropped_framed : (answer : Registered) (cause : Why) → (IsReady is k ts → ServesWithin (answer_input t xid from answer) → IsCause cause)
+          → Framed is k ts (answer_input t xid from answer) (change.Closes txn.ticket) (dropped txn cause).step
+      dropped_framed answer cause causes = λ ready served. (told_framed txn.xid txn.call (called.Failed cause) (call_here ready) (failed_told cause (causes ready served)), tt)
+
       -- it is dropped
-      drops : (answer : Registered) (cause : Why)
+      drops : (answer : Registered) (cause : Why) → (IsReady is k ts → ServesWithin (answer_input t xid from answer) → IsCause cause)
           → ((s : Setup) (m : Memory) → Shows is k ts s m → (dropped txn cause).step ≡ rules.ticket_answer s m.left.records m.opens (next_ticket m) (open_of txn) (OfCall txn.manager txn.xid.0 txn.call txn.work) answer)
           → (a : Answer) → a ≡ dropped txn cause → Answers is k ts (answer_input t xid from answer) a
-      drops answer cause rule = rests (change.Closes txn.ticket) tt _ (λ s m sh. rule s m sh ∙ answers_as answer s m sh) (λ s m. refl) (λ s m now sh. refl)
+      drops answer cause causes rule = rests (change.Closes txn.ticket) tt _ (λ s m sh. rule s m sh ∙ answers_as answer s m sh) (λ s m. refl) (λ s m now sh. refl) (dropped_framed answer cause causes)
 
       -- ---- a conflict
 
@@ -136,16 +147,16 @@ module _ (is : TheSetup) (k : Known) (ts : Tickets) (t : Ticket) (xid : Xid) (fr
             ap (λ (c : Bool). if c then (dropped txn why.Tries).step else still (act.Conflicted txn.ticket (txn.conflicts + 1))) (sym e ∙ ap (λ (n : ℕ). nat_le n (txn.conflicts + 1)) (sym sh.setup.tries))
 
         counts_as : (b : Bool) → nat_le is.tries (raised (open_of txn)) ≡ b → (a : Answer) → a ≡ (if b then dropped txn why.Tries else counts txn) → Answers is k ts (answer_input t xid from (registered.Conflict key holder false)) a
-        counts_as true e = drops (registered.Conflict key holder false) why.Tries (meets true (last_too is.tries txn.conflicts e))
+        counts_as true e = drops (registered.Conflict key holder false) why.Tries (λ ready served. record { layout = tt; limits = tt }) (meets true (last_too is.tries txn.conflicts e))
         counts_as false e =
             let left = not_last is.tries txn.conflicts small e in
             rests (change.Counts txn.ticket) tt _
             (λ s m sh. ap (λ (n : ℕ). still (act.Conflicted txn.ticket n)) left.0 ∙ meets false left.1 s m sh ∙ answers_as (registered.Conflict key holder false) s m sh)
             (λ s m. refl)
-            (λ s m now sh. ap (λ (o : Option Open). record m { opens = counted o txn.ticket m.opens }) (sym (own_at s m sh)))
+            (λ s m now sh. ap (λ (o : Option Open). record m { opens = counted o txn.ticket m.opens }) (sym (own_at s m sh))) (λ ready served. (tt, tt))
 
         pub conflicts : (rolling : Bool) (a : Answer) → a ≡ conflicted is.tries txn holder rolling → Answers is k ts (answer_input t xid from (registered.Conflict key holder rolling)) a
-        conflicts true = drops (registered.Conflict key holder true) (why.Rolling holder) (λ s m sh. refl)
+        conflicts true = drops (registered.Conflict key holder true) (why.Rolling holder) (λ ready served. record { layout = holder_of t xid key holder true served; limits = tt }) (λ s m sh. refl)
         conflicts false = counts_as (nat_le is.tries (raised (open_of txn))) refl
 
       -- ---- a grant
@@ -172,18 +183,19 @@ module _ (is : TheSetup) (k : Known) (ts : Tickets) (t : Ticket) (xid : Xid) (fr
           committed_as s m sh =
               sym (ap (option_map (committed_of txn.xid b)) (own_at s m sh) ∙ ap (λ (w : Owner). Some (log.Committed txn.xid b (call_of w) txn.images txn.reads)) (owner (work.At stmts) e))
 
-          at_by : (found : Option UndoEntry) → entry_at k.undo_log leg ≡ found → (a : Answer) → a ≡ at_granted txn b found → Answers is k ts (answer_input t xid from (registered.Granted b)) a
+          at_by : (found : Option UndoEntry) → entry_at k.undo_log leg ≡ found → (a : Answer) → a ≡ at_granted txn leg found → Answers is k ts (answer_input t xid from (registered.Granted b)) a
           at_by (Some (entry.Normal r)) is_r = rests change.Stays tt _
               (λ s m sh. let v = normal_by (undo_of m.left.records txn.xid.0 b.0) (is_marked m.left.records txn.xid.0 b.0) r (sym (entry_seen s m sh leg) ∙ is_r) in
               at_as (Some v.0) (is_marked m.left.records txn.xid.0 b.0) s m sh v.1 refl)
-              (λ s m. refl) (λ s m now sh. refl)
+              (λ s m. refl) (λ s m now sh. refl) (λ ready served. (tt, tt))
           at_by (Some entry.Finished) is_f = rests (change.Closes txn.ticket) tt _
               (λ s m sh. let v = finished_by (undo_of m.left.records txn.xid.0 b.0) (is_marked m.left.records txn.xid.0 b.0) (sym (entry_seen s m sh leg) ∙ is_f) in at_as None true s m sh v.0 v.1)
-              (λ s m. refl) (λ s m now sh. refl)
+              (λ s m. refl) (λ s m now sh. refl) (dropped_framed (registered.Granted b) why.Marker (λ ready served. record { layout = tt; limits = tt }))
           at_by None none = asks (change.Closes txn.ticket) (log.Committed txn.xid b txn.call txn.images txn.reads) tt (durable.Committed txn.xid b txn.ticket) _
               (λ s m sh. let v = none_by (undo_of m.left.records txn.xid.0 b.0) (is_marked m.left.records txn.xid.0 b.0) (sym (entry_seen s m sh leg) ∙ none) in at_as None false s m sh v.0 v.1)
               committed_as (λ s m. refl) (λ n. refl)
-              (record { allowed = and_from _ _ (ap is_none none) open_on.rows; runs = refl; placed = places_as (work.At stmts) e })
+              (record { allowed = and_from _ _ (ap is_none none) (subst (IsOpenFor k.tables (open_of txn)) (owner (work.At stmts) e) open_on); runs = refl; placed = places_as (work.At stmts) e })
+              (λ ready served. (told_framed txn.xid txn.call (called.Done b) (call_here ready) (done_told b (branch_granted t xid b served)), tt))
 
         -- of a TCC branch
         module _ (action : Action) (e : txn.work ≡ work.Tcc action) (rows : AreRows k.tables) where
@@ -202,32 +214,41 @@ module _ (is : TheSetup) (k : Known) (ts : Tickets) (t : Ticket) (xid : Xid) (fr
               ∙ ap (λ (w : Owner). Some (log.Tried txn.xid b (call_of w) (effect_on (tables (opening_tables s) m.left.records) (tries_of w)).images)) (owner (work.Tcc action) e)
               ∙ ap (λ (q : Meaning). Some (log.Tried txn.xid b txn.call (or_none q).images)) (meant (Ok images) is_e s m sh))
 
+          -- its statements have places
+          tries_within : IsReady is k ts → AreStmtsWithin action.tries
+          tries_within ready = (subst (IsOwnedWithin k.tables (open_of txn)) (owner (work.Tcc action) e) (open_within is k ts ready t (open_of txn) here).owned).1
+
           module _ (ran : on_try (fence_at k.fences leg) ≡ Runs) where
             meant_as : (r : Meaning) → effect k.tables action.tries ≡ r → (s : Setup) (m : Memory) → Shows is k ts s m
                 → rules.try_meant s m.left.records m.opens (next_ticket m) (open_of txn) txn.manager txn.xid.0 txn.call b.0 r ≡ resource_answer s m (answer_input t xid from (registered.Granted b))
             meant_as r is_r s m sh =
                 sym (ap (rules.try_meant s m.left.records m.opens (next_ticket m) (open_of txn) txn.manager txn.xid.0 txn.call b.0) (meant r is_r s m sh)) ∙ tcc_as Runs ran s m sh
 
-            touches : (x : Effect) → effect k.tables action.tries ≡ Ok x → (index : Option ℕ) → untouched 1 x.touched ≡ index → (a : Answer) → a ≡ try_touched txn b x.images index → Answers is k ts (answer_input t xid from (registered.Granted b)) a
+            touches : (x : Effect) → effect k.tables action.tries ≡ Ok x → (index : Option ℕ) → untouched 1 x.touched ≡ index → (a : Answer) → a ≡ try_touched txn leg x.images index → Answers is k ts (answer_input t xid from (registered.Granted b)) a
             touches x is_x (Some index) first = rests (change.Closes txn.ticket) tt _
                 (λ s m sh. sym (ap (rules.try_touched s m.left.records m.opens (next_ticket m) (open_of txn) txn.manager txn.xid.0 txn.call b.0) first) ∙ meant_as (Ok x) is_x s m sh)
-                (λ s m. refl) (λ s m now sh. refl)
+                (λ s m. refl) (λ s m now sh. refl) (dropped_framed (registered.Granted b) (why.NoRow index) (λ ready served. untouched_cause k.tables action.tries (tries_within ready).count x is_x index first))
             touches x is_x None first = asks (change.Closes txn.ticket) (log.Tried txn.xid b txn.call x.images) tt (durable.Tried txn.xid b txn.ticket) _
                 (λ s m sh. sym (ap (rules.try_touched s m.left.records m.opens (next_ticket m) (open_of txn) txn.manager txn.xid.0 txn.call b.0) first) ∙ meant_as (Ok x) is_x s m sh)
                 (tried_as x is_x) (λ s m. refl) (λ n. refl)
                 (record { allowed = and_from _ _ (ap runs ran) (images_fit k.tables action.tries x rows is_x); runs = refl; placed = λ places. places_as (work.Tcc action) e places x is_x })
+                (λ ready served. (told_framed txn.xid txn.call (called.Done b) (call_here ready) (done_told b (branch_granted t xid b served)), tt))
 
-            means : (r : Meaning) → effect k.tables action.tries ≡ r → (a : Answer) → a ≡ try_meant txn b r → Answers is k ts (answer_input t xid from (registered.Granted b)) a
+            means : (r : Meaning) → effect k.tables action.tries ≡ r → (a : Answer) → a ≡ try_meant txn leg r → Answers is k ts (answer_input t xid from (registered.Granted b)) a
             means (Ok x) is_x = touches x is_x (untouched 1 x.touched) refl
             means (Err (index, error)) is_r = rests (change.Closes txn.ticket) tt _ (λ s m sh. meant_as (Err (index, error)) is_r s m sh) (λ s m. refl) (λ s m now sh. refl)
+                (dropped_framed (registered.Granted b) (why.Stmt index error) (λ ready served. fault_cause k.tables (tables_within k ready.knows) ready.knows.resource action.tries (tries_within ready) index error is_r))
 
-          tcc_by : (f : FenceAnswer) → on_try (fence_at k.fences leg) ≡ f → (a : Answer) → a ≡ tcc_granted txn b (effect k.tables action.tries) f → Answers is k ts (answer_input t xid from (registered.Granted b)) a
+          fenced : Framed is k ts (answer_input t xid from (registered.Granted b)) (change.Closes txn.ticket) (dropped txn why.Fence).step
+          fenced = dropped_framed (registered.Granted b) why.Fence (λ ready served. record { layout = tt; limits = tt })
+
+          tcc_by : (f : FenceAnswer) → on_try (fence_at k.fences leg) ≡ f → (a : Answer) → a ≡ tcc_granted txn leg (effect k.tables action.tries) f → Answers is k ts (answer_input t xid from (registered.Granted b)) a
           tcc_by Runs is_f = means is_f (effect k.tables action.tries) refl
-          tcc_by WasDone is_f = rests (change.Closes txn.ticket) tt _ (λ s m sh. tcc_as WasDone is_f s m sh) (λ s m. refl) (λ s m now sh. refl)
-          tcc_by Suspends is_f = rests (change.Closes txn.ticket) tt _ (λ s m sh. tcc_as Suspends is_f s m sh) (λ s m. refl) (λ s m now sh. refl)
-          tcc_by Refuses is_f = rests (change.Closes txn.ticket) tt _ (λ s m sh. tcc_as Refuses is_f s m sh) (λ s m. refl) (λ s m now sh. refl)
+          tcc_by WasDone is_f = rests (change.Closes txn.ticket) tt _ (λ s m sh. tcc_as WasDone is_f s m sh) (λ s m. refl) (λ s m now sh. refl) fenced
+          tcc_by Suspends is_f = rests (change.Closes txn.ticket) tt _ (λ s m sh. tcc_as Suspends is_f s m sh) (λ s m. refl) (λ s m now sh. refl) fenced
+          tcc_by Refuses is_f = rests (change.Closes txn.ticket) tt _ (λ s m sh. tcc_as Refuses is_f s m sh) (λ s m. refl) (λ s m now sh. refl) fenced
 
-        grants : AreRows k.tables → (w : Work) → txn.work ≡ w → (a : Answer) → a ≡ granted k txn b w → Answers is k ts (answer_input t xid from (registered.Granted b)) a
+        grants : AreRows k.tables → (w : Work) → txn.work ≡ w → (a : Answer) → a ≡ granted k txn leg w → Answers is k ts (answer_input t xid from (registered.Granted b)) a
         grants rows (work.At stmts) e = at_by stmts e (entry_at k.undo_log leg) refl
         grants rows (work.Tcc action) e = tcc_by action e rows (on_try (fence_at k.fences leg)) refl
 
@@ -236,8 +257,8 @@ module _ (is : TheSetup) (k : Known) (ts : Tickets) (t : Ticket) (xid : Xid) (fr
       pub answers : IsOpenOn k.tables (open_of txn) → AreRows k.tables → is.tries < 2 ^ 32 → (answer : Registered) (a : Answer) → a ≡ answered is.tries k txn answer → Answers is k ts (answer_input t xid from answer) a
       answers open_on rows small (registered.Granted b) = grants b open_on rows txn.work refl
       answers open_on rows small (registered.Conflict key holder rolling) = conflicts key holder small rolling
-      answers open_on rows small (registered.Closed status) = drops (registered.Closed status) (why.Closed status) (λ s m sh. refl)
-      answers open_on rows small registered.Late = drops registered.Late why.Late (λ s m sh. refl)
+      answers open_on rows small (registered.Closed status) = drops (registered.Closed status) (why.Closed status) (λ ready served. record { layout = tt; limits = tt }) (λ s m sh. refl)
+      answers open_on rows small registered.Late = drops registered.Late why.Late (λ ready served. record { layout = tt; limits = tt }) (λ s m sh. refl)
 
 -- where there is memory for it
 pub answers_ok : (is : TheSetup) (k : Known) (ts : Tickets) (t : Ticket) (txn : OpenTxn) (answer : Registered) → open_at ts.opens t ≡ Some (open_of txn) → (txn.xid.0 == 0) ≡ false → IsOpenOn k.tables (open_of txn)

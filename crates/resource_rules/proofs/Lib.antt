@@ -1,7 +1,12 @@
 pub mod RowTests
 pub mod BusyLaws
 pub mod Seen
+pub mod TicketLists
 pub mod AnswerLaws
+pub mod KeyFrames
+pub mod StatementLaws
+pub mod FramingLaws
+pub mod ReadyLaws
 pub mod Ends
 pub mod TccEnds
 pub mod CountedEffects

@@ -1,5 +1,5 @@
 -- Guarded local transactions and outside writes: by what was looked up the answers are the rules'.
-use Rattle.std.proofs.Common.{◌≡◌, ◌∙◌, ◌==◌, ℕ, ◌+◌, true, false, List, ◌∷◌, is_some, Option, Some, None, option_map, Result, Ok, Err, refl, sym, ap, ap₂, subst}
+use Rattle.std.proofs.Common.{◌≡◌, ◌∙◌, ◌==◌, ◌<◌, ◌^◌, ℕ, ◌+◌, true, false, List, ◌∷◌, is_some, Option, Some, None, option_map, Result, Ok, Err, refl, sym, ap, ap₂, subst}
 use Rattle.std.specs.Prelude.{find, IfOk}
 use Rattle.seata_types.specs.declared.acts.Act.TheVariants as act
 use Rattle.seata_types.specs.declared.acts.Durable.TheVariants as durable
@@ -13,6 +13,7 @@ use Rattle.seata_types.specs.declared.messages.Input.TheVariants as input
 use Rattle.seata_types.specs.declared.messages.Message.TheVariants as message
 use Rattle.seata_types.specs.declared.rows.RowKey.{RowKey}
 use Rattle.seata_types.specs.declared.statements.Stmt.{Stmt}
+use Rattle.byte_fields.specs.Layout.{FitsTicket}
 use Rattle.local_tables.specs.Calls.{effect}
 use Rattle.local_tables.specs.Rows.{AreRows, Database}
 use Rattle.local_tables.specs.declared.schemas.Effect.{Effect}
@@ -27,14 +28,18 @@ use Rattle.history_rules.specs.ResourceMemory.{Setup, Memory, effect_on, local_c
 use Rattle.history_rules.specs.ResourceRules as rules
 use Rattle.history_rules.specs.ResourceRules.{requests, resource_answer}
 use Rattle.resource_memory.specs.Known.{Known}
-use Rattle.resource_rules.specs.Answers.{Answers, Hears, IsOpenOn, LocalPlace, Shows, answer, ignored}
+use Rattle.resource_rules.specs.Answers.{Answers, Hears, IsOpenFor, IsOpenOn, LocalPlace, Shows, answer, ignored}
+use Rattle.resource_rules.specs.Apart.{WritesWith}
+use Rattle.resource_rules.specs.Ready.{IsReady, IsTicketWithin, ServesWithin}
 use Rattle.resource_rules.specs.Locals.{local_free, local_meant, lock_answered, opening, outside_free, outside_meant}
 use Rattle.resource_rules.specs.declared.answers.Answer.{Answer}
 use Rattle.resource_rules.specs.declared.answers.Change.TheVariants as change
 use Rattle.resource_rules.specs.declared.setups.Setup.{Setup as TheSetup}
 use Rattle.resource_rules.proofs.AnswerLaws.{rests, asks}
 use Rattle.resource_rules.proofs.CallAnswers.{found_none, found_open, some_ticket}
+use Rattle.resource_rules.proofs.FramingLaws.{request_framed}
 use Rattle.resource_rules.proofs.Owners.{owner_is, owner_none}
+use Rattle.resource_rules.proofs.ReadyLaws.{local_within, rows_of_effect, tables_within}
 use Rattle.resource_rules.proofs.Seen.{local_seen, next_seen, opens_seen, tables_seen}
 use Rattle.resource_rules.proofs.TccEnds.{fit_alone, images_fit}
 
@@ -50,7 +55,7 @@ module _ (is : TheSetup) (k : Known) (ts : Tickets) (t : Ticket) (from : Place) 
   pub lock_unopened : open_at ts.opens t ≡ None → (a : Answer) → a ≡ ignored → Answers is k ts lock_input a
   lock_unopened none = rests change.Stays tt _
       (λ s m sh. sym (ap (λ (p : Option Open). rules.on_lock_answer s m.left.records m.opens (next_ticket m) p held) (ap (λ (os : List Open). open_at os t) (sym (opens_seen s m sh)) ∙ none)))
-      (λ s m. refl) (λ s m now sh. refl)
+      (λ s m. refl) (λ s m now sh. refl) (λ ready served. (tt, tt))
 
   module _ (txn : OpenTxn) (here : open_at ts.opens t ≡ Some (open_of txn)) where
     lock_as : (w : Owner) → (open_of txn).owner ≡ w → (s : Setup) (m : Memory) → Shows is k ts s m
@@ -61,7 +66,7 @@ module _ (is : TheSetup) (k : Known) (ts : Tickets) (t : Ticket) (from : Place) 
 
     pub lock_of_call : (txn.xid.0 == 0) ≡ false → (a : Answer) → a ≡ ignored → Answers is k ts lock_input a
     lock_of_call e = rests change.Stays tt _
-        (λ s m sh. lock_as (OfCall txn.manager txn.xid.0 txn.call txn.work) (owner_is txn.xid.0 txn.manager txn.call txn.work e) s m sh) (λ s m. refl) (λ s m now sh. refl)
+        (λ s m sh. lock_as (OfCall txn.manager txn.xid.0 txn.call txn.work) (owner_is txn.xid.0 txn.manager txn.call txn.work e) s m sh) (λ s m. refl) (λ s m now sh. refl) (λ ready served. (tt, tt))
 
 module _ (is : TheSetup) (k : Known) (ts : Tickets) (t : Ticket) (from : Place) (txn : OpenTxn) (here : open_at ts.opens t ≡ Some (open_of txn)) (none : (txn.xid.0 == 0) ≡ true) where
   owner : (open_of txn).owner ≡ OfLocal txn.call
@@ -73,11 +78,12 @@ module _ (is : TheSetup) (k : Known) (ts : Tickets) (t : Ticket) (from : Place) 
 
   pub lock_answers : IsOpenOn k.tables (open_of txn) → (held : Option (RowKey × Xid)) (a : Answer) → a ≡ lock_answered txn held → Answers is k ts (lock_input is k ts t from held) a
   lock_answers open_on (Some (key, holder)) = rests (change.Closes txn.ticket) tt _
-      (λ s m sh. lock_as is k ts t from (Some (key, holder)) txn here (OfLocal txn.call) owner s m sh) (λ s m. refl) (λ s m now sh. refl)
+      (λ s m sh. lock_as is k ts t from (Some (key, holder)) txn here (OfLocal txn.call) owner s m sh) (λ s m. refl) (λ s m now sh. refl) (λ ready served. (tt, tt))
   lock_answers open_on None = asks (change.Closes txn.ticket) (log.LocalCommitted txn.call txn.images) tt (durable.LocalCommitted txn.call txn.ticket) _
       (λ s m sh. lock_as is k ts t from None txn here (OfLocal txn.call) owner s m sh)
       commits_as (λ s m. refl) (λ n. refl)
-      (record { allowed = fit_alone k.tables txn.images txn.reads open_on.rows; runs = refl; placed = λ places. subst (LocalPlace (open_of txn)) owner (places (open_of txn) here) })
+      (record { allowed = fit_alone k.tables txn.images txn.reads (subst (IsOpenFor k.tables (open_of txn)) owner open_on); runs = refl; placed = λ places. subst (LocalPlace (open_of txn)) owner (places (open_of txn) here) })
+      (λ ready served. (tt, tt))
 
 pub lock_ok : (k : Known) (ts : Tickets) (t : Ticket) (txn : OpenTxn) (held : Option (RowKey × Xid)) → open_at ts.opens t ≡ Some (open_of txn) → (txn.xid.0 == 0) ≡ true → IsOpenOn k.tables (open_of txn)
     → (result : Result Answer NoMemory) → IfOk result (λ a. a ≡ lock_answered txn held) → IfOk result (λ a. (is : TheSetup) → Hears is k ts (message.LockAnswer t held) a)
@@ -89,9 +95,9 @@ lock_ok k ts t txn held here none open_on (Err n) given = tt
 module _ (is : TheSetup) (k : Known) (ts : Tickets) (n : ℕ) where
   pub outside_unknown : local_in n is.locals ≡ None → (a : Answer) → a ≡ ignored → Answers is k ts (input.Outside n) a
   outside_unknown none = rests change.Stays tt _
-      (λ s m sh. sym (ap (rules.on_outside s m.left.records m.opens (next_ticket m) n) (sym (local_seen s m sh n) ∙ none))) (λ s m. refl) (λ s m now sh. refl)
+      (λ s m sh. sym (ap (rules.on_outside s m.left.records m.opens (next_ticket m) n) (sym (local_seen s m sh n) ∙ none))) (λ s m. refl) (λ s m now sh. refl) (λ ready served. (tt, tt))
 
-  module _ (stmts : List Stmt) (here : local_in n is.locals ≡ Some stmts) (rows : AreRows k.tables) where
+  module _ (stmts : List Stmt) (here : local_in n is.locals ≡ Some stmts) (rows : AreRows k.tables) (small : n < 2 ^ 16) where
     means_as : (r : Meaning) → effect k.tables stmts ≡ r → (s : Setup) (m : Memory) → Shows is k ts s m
         → rules.outside_meant s m.left.records m.opens (next_ticket m) n r ≡ resource_answer s m (input.Outside n)
     means_as r e s m sh =
@@ -110,27 +116,28 @@ module _ (is : TheSetup) (k : Known) (ts : Tickets) (n : ℕ) where
         ∙ ap (λ (q : Meaning). Some (log.Outside n (or_none q).images)) (ap (λ (db : Database). effect db stmts) (sym (tables_seen s m sh)) ∙ means))
 
     writes : (e : Effect) → effect k.tables stmts ≡ Ok e → (b : Option (RowKey × Ticket)) → busy_row ts.opens e ≡ b → (a : Answer) → a ≡ outside_free n e b → Answers is k ts (input.Outside n) a
-    writes e means (Some (key, by)) is_b = rests change.Stays tt _ (λ s m sh. rows_as e means (Some (key, by)) is_b s m sh) (λ s m. refl) (λ s m now sh. refl)
+    writes e means (Some (key, by)) is_b = rests change.Stays tt _ (λ s m sh. rows_as e means (Some (key, by)) is_b s m sh) (λ s m. refl) (λ s m now sh. refl) (λ ready served. (tt, tt))
     writes e means None is_b = asks change.Stays (log.Outside n e.images) tt (durable.Outside n) _
         (λ s m sh. rows_as e means None is_b s m sh) (written_as e means) (λ s m. refl) (λ c. refl)
-        (record { allowed = images_fit k.tables stmts e rows means; runs = refl; placed = λ places. places stmts here e means })
+        (record { allowed = images_fit k.tables stmts e rows means; runs = refl; placed = λ places. places stmts here small e means })
+        (λ ready served. (tt, tt))
 
     pub outsides : (r : Meaning) → effect k.tables stmts ≡ r → (a : Answer) → a ≡ outside_meant ts.opens n r → Answers is k ts (input.Outside n) a
     outsides (Ok e) means = writes e means (busy_row ts.opens e) refl
-    outsides (Err (index, error)) means = rests change.Stays tt _ (λ s m sh. means_as (Err (index, error)) means s m sh) (λ s m. refl) (λ s m now sh. refl)
+    outsides (Err (index, error)) means = rests change.Stays tt _ (λ s m sh. means_as (Err (index, error)) means s m sh) (λ s m. refl) (λ s m now sh. refl) (λ ready served. (tt, tt))
 
-pub outside_ok : (is : TheSetup) (k : Known) (ts : Tickets) (n : ℕ) (stmts : List Stmt) (db : Database) (ss : List Stmt) → local_in n is.locals ≡ Some stmts → AreRows k.tables → db ≡ k.tables → ss ≡ stmts
-    → (result : Result Answer NoMemory) → IfOk result (λ a. a ≡ outside_meant ts.opens n (effect db ss)) → IfOk result (Answers is k ts (input.Outside n))
-outside_ok is k ts n stmts db ss here rows same of (Ok a) given =
-    outsides is k ts n stmts here rows (effect k.tables stmts) refl a (given ∙ ap₂ (λ (t : Database) (l : List Stmt). outside_meant ts.opens n (effect t l)) same of)
-outside_ok is k ts n stmts db ss here rows same of (Err e) given = tt
+pub outside_ok : (k : Known) (opens : List Open) (n : ℕ) (stmts : List Stmt) (db : Database) → AreRows k.tables → n < 2 ^ 16 → db ≡ k.tables
+    → (result : Result Answer NoMemory) → IfOk result (λ a. a ≡ outside_meant opens n (effect db stmts)) → IfOk result (WritesWith k opens n stmts)
+outside_ok k opens n stmts db rows small same (Ok a) given = λ is ts here at.
+    outsides is k ts n stmts here rows small (effect k.tables stmts) refl a (given ∙ ap₂ (λ (t : Database) (os : List Open). outside_meant os n (effect t stmts)) same (sym at))
+outside_ok k opens n stmts db rows small same (Err e) given = tt
 
 -- ---- openings
 
 module _ (is : TheSetup) (k : Known) (ts : Tickets) (n : ℕ) where
   pub local_unknown : local_in n is.locals ≡ None → (a : Answer) → a ≡ ignored → Answers is k ts (input.Local n) a
   local_unknown none = rests change.Stays tt _
-      (λ s m sh. sym (ap (rules.on_local s m.left.records m.opens (next_ticket m) n) (sym (local_seen s m sh n) ∙ none))) (λ s m. refl) (λ s m now sh. refl)
+      (λ s m sh. sym (ap (rules.on_local s m.left.records m.opens (next_ticket m) n) (sym (local_seen s m sh n) ∙ none))) (λ s m. refl) (λ s m now sh. refl) (λ ready served. (tt, tt))
 
   module _ (stmts : List Stmt) (here : local_in n is.locals ≡ Some stmts) where
     local_is : (o : Option Open) → find (is_for 0 n) ts.opens ≡ o → (s : Setup) (m : Memory) → Shows is k ts s m
@@ -142,9 +149,15 @@ module _ (is : TheSetup) (k : Known) (ts : Tickets) (n : ℕ) where
     pub local_waits : is_some (option_map ticket_of (find (is_for 0 n) ts.opens)) ≡ true → (a : Answer) → a ≡ answer None (still (act.WaitingLocal n)) → Answers is k ts (input.Local n) a
     local_waits open_is =
         let there = found_open (find (is_for 0 n) ts.opens) (sym (some_ticket (find (is_for 0 n) ts.opens)) ∙ open_is) in
-        rests change.Stays tt _ (λ s m sh. local_is (Some there.0) there.1 s m sh) (λ s m. refl) (λ s m now sh. refl)
+        rests change.Stays tt _ (λ s m sh. local_is (Some there.0) there.1 s m sh) (λ s m. refl) (λ s m now sh. refl) (λ ready served. (tt, tt))
 
-    module _ (closed : is_some (option_map ticket_of (find (is_for 0 n) ts.opens)) ≡ false) where
+    module _ (closed : is_some (option_map ticket_of (find (is_for 0 n) ts.opens)) ≡ false) (named : FitsTicket (new_ticket ts)) where
+      opens_within : (e : Effect) → effect k.tables stmts ≡ Ok e → IsReady is k ts → ServesWithin (input.Local n) → IsTicketWithin k.tables (open_of (opening ts n stmts e))
+      opens_within e means ready served = record {
+        named = named;
+        owned = (served, rows_of_effect k.tables (tables_within k ready.knows) stmts (local_within is.locals n stmts ready.locals here) (new_ticket ts) (OfLocal n) e means);
+      }
+
       local_means : (r : Meaning) → effect k.tables stmts ≡ r → (s : Setup) (m : Memory) → Shows is k ts s m
           → rules.local_meant s m.left.records m.opens (next_ticket m) n r ≡ resource_answer s m (input.Local n)
       local_means r e s m sh =
@@ -157,7 +170,7 @@ module _ (is : TheSetup) (k : Known) (ts : Tickets) (n : ℕ) where
           sym (ap (rules.local_free s m.left.records m.opens (next_ticket m) n e) (ap (λ (os : List Open). busy_row os e) (sym (opens_seen s m sh)) ∙ is_b)) ∙ local_means (Ok e) means s m sh
 
       local_opens : (e : Effect) → effect k.tables stmts ≡ Ok e → (b : Option (RowKey × Ticket)) → busy_row ts.opens e ≡ b → (a : Answer) → a ≡ local_free is.number ts n stmts e b → Answers is k ts (input.Local n) a
-      local_opens e means (Some (key, by)) is_b = rests change.Stays tt _ (λ s m sh. local_rows e means (Some (key, by)) is_b s m sh) (λ s m. refl) (λ s m now sh. refl)
+      local_opens e means (Some (key, by)) is_b = rests change.Stays tt _ (λ s m sh. local_rows e means (Some (key, by)) is_b s m sh) (λ s m. refl) (λ s m now sh. refl) (λ ready served. (tt, tt))
       local_opens e means None is_b =
           rests (change.Opens (opening ts n stmts e)) (record { named = refl; free = is_b }, refl) _
           (λ s m sh. (λ i. requests (sym sh.setup.number i) (act.OpenedLocal n (next_seen s m sh i)) (opening_of (next_seen s m sh i) (OfLocal n) e)) ∙ local_rows e means None is_b s m sh)
@@ -165,13 +178,14 @@ module _ (is : TheSetup) (k : Known) (ts : Tickets) (n : ℕ) where
           (λ s m now sh. ap (λ (x : Effect). record m { opens = opening_of (new_ticket ts) (OfLocal n) x ∷ m.opens; opened = m.opened + 1 })
           (ap (λ (o : Option (List Stmt)). effect_on (tables (opening_tables s) m.left.records) (or_empty o)) (sym (local_seen s m sh n) ∙ here)
           ∙ ap or_none (ap (λ (db : Database). effect db stmts) (sym (tables_seen s m sh)) ∙ means)))
+          (λ ready served. let within = opens_within e means ready served in (request_framed is.number k.tables (open_of (opening ts n stmts e)) ready.counted ready.knows.resource within, within))
 
       pub local_is_new : (r : Meaning) → effect k.tables stmts ≡ r → (a : Answer) → a ≡ local_meant is.number ts n stmts r → Answers is k ts (input.Local n) a
       local_is_new (Ok e) means = local_opens e means (busy_row ts.opens e) refl
-      local_is_new (Err (index, error)) means = rests change.Stays tt _ (λ s m sh. local_means (Err (index, error)) means s m sh) (λ s m. refl) (λ s m now sh. refl)
+      local_is_new (Err (index, error)) means = rests change.Stays tt _ (λ s m sh. local_means (Err (index, error)) means s m sh) (λ s m. refl) (λ s m now sh. refl) (λ ready served. (tt, tt))
 
-pub local_ok : (is : TheSetup) (k : Known) (ts : Tickets) (n : ℕ) (stmts : List Stmt) (db : Database) → local_in n is.locals ≡ Some stmts → is_some (option_map ticket_of (find (is_for 0 n) ts.opens)) ≡ false → db ≡ k.tables
+pub local_ok : (is : TheSetup) (k : Known) (ts : Tickets) (n : ℕ) (stmts : List Stmt) (db : Database) → local_in n is.locals ≡ Some stmts → is_some (option_map ticket_of (find (is_for 0 n) ts.opens)) ≡ false → FitsTicket (new_ticket ts) → db ≡ k.tables
     → (result : Result Answer NoMemory) → IfOk result (λ a. a ≡ local_meant is.number ts n stmts (effect db stmts)) → IfOk result (Answers is k ts (input.Local n))
-local_ok is k ts n stmts db here closed same (Ok a) given =
-    local_is_new is k ts n stmts here closed (effect k.tables stmts) refl a (given ∙ ap (λ (t : Database). local_meant is.number ts n stmts (effect t stmts)) same)
-local_ok is k ts n stmts db here closed same (Err e) given = tt
+local_ok is k ts n stmts db here closed named same (Ok a) given =
+    local_is_new is k ts n stmts here closed named (effect k.tables stmts) refl a (given ∙ ap (λ (t : Database). local_meant is.number ts n stmts (effect t stmts)) same)
+local_ok is k ts n stmts db here closed named same (Err e) given = tt

@@ -55,4 +55,4 @@ pub ignores : (is : TheSetup) (k : Known) (ts : Tickets) (heard : Message) → (
     → ((ticket : _) (held : _) → heard ≡ message.LockAnswer ticket held → ⊥)
     → ((xid : _) (id : _) (mode : _) (manager call : ℕ) → heard ≡ message.BranchCommit xid id mode manager call → ⊥)
     → ((xid : _) (id : _) (mode : _) (manager call : ℕ) → heard ≡ message.BranchRollback xid id mode manager call → ⊥) → (a : Answer) → a ≡ ignored → Hears is k ts heard a
-ignores is k ts heard a b c d e given same = λ from. rests change.Stays tt _ (λ s m sh. others s m heard a b c d e) (λ s m. refl) (λ s m now sh. refl) given same
+ignores is k ts heard a b c d e given same = λ from. rests change.Stays tt _ (λ s m sh. others s m heard a b c d e) (λ s m. refl) (λ s m now sh. refl) (λ ready served. (tt, tt)) given same

@@ -18,6 +18,7 @@ use Rattle.seata_types.specs.declared.rows.ReadRow.{ReadRow}
 use Rattle.seata_types.specs.declared.statements.Action.{Action}
 use Rattle.seata_types.specs.declared.statements.Stmt.{Stmt}
 use Rattle.seata_types.specs.declared.statuses.BranchKind.TheVariants as kind
+use Rattle.seata_types.specs.declared.statuses.BranchStatus.TheVariants as branch
 use Rattle.local_tables.specs.Calls.{effect}
 use Rattle.local_tables.specs.Fitting.{is_image, is_read}
 use Rattle.local_tables.specs.Rows.{AreRows, Database}
@@ -34,13 +35,16 @@ use Rattle.history_rules.specs.ResourceRules.{resource_answer}
 use Rattle.resource_memory.specs.Changes.{fit, rise, runs, suspends}
 use Rattle.resource_memory.specs.Known.{Known}
 use Rattle.resource_memory.proofs.EffectFits.{effects_fit}
-use Rattle.resource_rules.specs.Answers.{Answers, Hears, Shows, ignored}
+use Rattle.resource_rules.specs.Answers.{Answers, Shows, ignored}
+use Rattle.resource_rules.specs.Apart.{CancelsWith, ConfirmsWith, cancels_on, confirms_on}
 use Rattle.resource_rules.specs.Ends.{confirming, cancelling, tcc_commit, tcc_rollback}
 use Rattle.resource_rules.specs.Setups.{actions_of}
 use Rattle.resource_rules.specs.declared.answers.Answer.{Answer}
 use Rattle.resource_rules.specs.declared.answers.Change.TheVariants as change
 use Rattle.resource_rules.specs.declared.setups.Setup.{Setup as TheSetup}
 use Rattle.resource_rules.proofs.AnswerLaws.{rests, asks, suspended_placed}
+use Rattle.resource_rules.proofs.FramingLaws.{fault_counted}
+use Rattle.resource_rules.proofs.ReadyLaws.{action_within, commit_told, rollback_told, tables_within}
 use Rattle.resource_rules.proofs.Seen.{action_seen, fence_seen, tables_seen}
 
 -- ---- images of an effect
@@ -80,12 +84,12 @@ module _ (is : TheSetup) (k : Known) (ts : Tickets) (leg : Leg) (manager call : 
   pub no_commit : action_in manager call (actions_of is.actions) ≡ None → (a : Answer) → a ≡ ignored → Answers is k ts commit a
   no_commit none = rests change.Stays tt _
       (λ s m sh. sym (ap (rules.with_action s m.left.records m.opens (next_ticket m) (λ a. rules.tcc_commit s m.left.records m.opens (next_ticket m) leg.xid.0 leg.branch.0 a (on_confirm (fence m.left.records leg.xid.0 leg.branch.0)))) (action_is None none s m sh)))
-      (λ s m. refl) (λ s m now sh. refl)
+      (λ s m. refl) (λ s m now sh. refl) (λ ready served. (tt, tt))
 
   pub no_rollback : action_in manager call (actions_of is.actions) ≡ None → (a : Answer) → a ≡ ignored → Answers is k ts rollback a
   no_rollback none = rests change.Stays tt _
       (λ s m sh. sym (ap (rules.with_action s m.left.records m.opens (next_ticket m) (λ a. rules.tcc_rollback s m.left.records m.opens (next_ticket m) leg.xid.0 leg.branch.0 a (on_cancel (fence m.left.records leg.xid.0 leg.branch.0)))) (action_is None none s m sh)))
-      (λ s m. refl) (λ s m now sh. refl)
+      (λ s m. refl) (λ s m now sh. refl) (λ ready served. (tt, tt))
 
   module _ (action : Action) (here : action_in manager call (actions_of is.actions) ≡ Some action) (rows : AreRows k.tables) where
     meant : (stmts : List Stmt) (r : Meaning) → effect k.tables stmts ≡ r → (s : Setup) (m : Memory) → Shows is k ts s m → effect (tables (opening_tables s) m.left.records) stmts ≡ r
@@ -106,15 +110,17 @@ module _ (is : TheSetup) (k : Known) (ts : Tickets) (leg : Leg) (manager call : 
         ∙ ap (λ (q : Meaning). Some (log.Confirmed leg.xid leg.branch (or_none q).images)) (meant action.confirms (Ok e) means s m sh)))
         (λ s m. refl) (λ n. refl)
         (record { allowed = and_from _ _ (ap runs f) (images_fit k.tables action.confirms e rows means); runs = refl; placed = λ places. places action here e means })
+        (λ ready served. (commit_told leg kind.Tcc manager call branch.PhaseTwoCommitted 0 (omega arith) served, tt))
     confirms (Err (index, error)) means f = rests change.Stays tt _
         (λ s m sh. sym (ap (rules.confirm_runs s m.left.records m.opens (next_ticket m) leg.xid.0 leg.branch.0) (meant action.confirms (Err (index, error)) means s m sh)) ∙ commits Runs f s m sh)
         (λ s m. refl) (λ s m now sh. refl)
+        (λ ready served. (commit_told leg kind.Tcc manager call branch.PhaseTwoCommitFailedUnretryable index (fault_counted k.tables (tables_within k ready.knows) ready.knows.resource action.confirms (action_within is.actions manager call action ready.actions here).confirms index error means).1 served, tt))
 
     pub confirmed : (f : FenceAnswer) → on_confirm (fence_at k.fences leg) ≡ f → (a : Answer) → a ≡ tcc_commit leg (effect k.tables action.confirms) f → Answers is k ts commit a
     confirmed Runs f = confirms (effect k.tables action.confirms) refl f
-    confirmed WasDone f = rests change.Stays tt _ (commits WasDone f) (λ s m. refl) (λ s m now sh. refl)
-    confirmed Suspends f = rests change.Stays tt _ (commits Suspends f) (λ s m. refl) (λ s m now sh. refl)
-    confirmed Refuses f = rests change.Stays tt _ (commits Refuses f) (λ s m. refl) (λ s m now sh. refl)
+    confirmed WasDone f = rests change.Stays tt _ (commits WasDone f) (λ s m. refl) (λ s m now sh. refl) (λ ready served. (commit_told leg kind.Tcc manager call branch.PhaseTwoCommitted 0 (omega arith) served, tt))
+    confirmed Suspends f = rests change.Stays tt _ (commits Suspends f) (λ s m. refl) (λ s m now sh. refl) (λ ready served. (commit_told leg kind.Tcc manager call branch.PhaseTwoCommitFailedRetryable 0 (omega arith) served, tt))
+    confirmed Refuses f = rests change.Stays tt _ (commits Refuses f) (λ s m. refl) (λ s m now sh. refl) (λ ready served. (commit_told leg kind.Tcc manager call branch.PhaseTwoCommitFailedRetryable 0 (omega arith) served, tt))
 
     -- ---- rollback
 
@@ -131,31 +137,46 @@ module _ (is : TheSetup) (k : Known) (ts : Tickets) (leg : Leg) (manager call : 
         ∙ ap (λ (q : Meaning). Some (log.Cancelled leg.xid leg.branch (or_none q).images)) (meant action.cancels (Ok e) means s m sh)))
         (λ s m. refl) (λ n. refl)
         (record { allowed = and_from _ _ (ap runs f) (images_fit k.tables action.cancels e rows means); runs = refl; placed = λ places. places action here e means })
+        (λ ready served. (rollback_told leg kind.Tcc manager call branch.PhaseTwoRollbacked 0 (omega arith) served, tt))
     cancels (Err (index, error)) means f = rests change.Stays tt _
         (λ s m sh. sym (ap (rules.cancel_runs s m.left.records m.opens (next_ticket m) leg.xid.0 leg.branch.0) (meant action.cancels (Err (index, error)) means s m sh)) ∙ rolls Runs f s m sh)
         (λ s m. refl) (λ s m now sh. refl)
+        (λ ready served. (rollback_told leg kind.Tcc manager call branch.PhaseTwoRollbackFailedUnretryable index (fault_counted k.tables (tables_within k ready.knows) ready.knows.resource action.cancels (action_within is.actions manager call action ready.actions here).cancels index error means).1 served, tt))
 
     module _ (x : leg.xid.0 < 2 ^ 64) (b : leg.branch.0 < 2 ^ 64) where
       pub cancelled : (f : FenceAnswer) → on_cancel (fence_at k.fences leg) ≡ f → (a : Answer) → a ≡ tcc_rollback leg (effect k.tables action.cancels) f → Answers is k ts rollback a
       cancelled Runs f = cancels (effect k.tables action.cancels) refl f
-      cancelled WasDone f = rests change.Stays tt _ (rolls WasDone f) (λ s m. refl) (λ s m now sh. refl)
+      cancelled WasDone f = rests change.Stays tt _ (rolls WasDone f) (λ s m. refl) (λ s m now sh. refl) (λ ready served. (rollback_told leg kind.Tcc manager call branch.PhaseTwoRollbacked 0 (omega arith) served, tt))
       cancelled Suspends f = asks change.Stays (log.Suspended leg.xid leg.branch) tt (durable.Suspended leg.xid leg.branch) _
           (rolls Suspends f) (λ s m sh. refl) (λ s m. refl) (λ n. refl) (record { allowed = ap suspends f; runs = refl; placed = λ places. suspended_placed leg x b })
-      cancelled Refuses f = rests change.Stays tt _ (rolls Refuses f) (λ s m. refl) (λ s m now sh. refl)
+          (λ ready served. (rollback_told leg kind.Tcc manager call branch.PhaseTwoRollbacked 0 (omega arith) served, tt))
+      cancelled Refuses f = rests change.Stays tt _ (rolls Refuses f) (λ s m. refl) (λ s m now sh. refl) (λ ready served. (rollback_told leg kind.Tcc manager call branch.PhaseTwoRollbackFailedRetryable 0 (omega arith) served, tt))
 
 -- ---- where there is memory for it
 
-module _ (is : TheSetup) (k : Known) (leg : Leg) (manager call : ℕ) (action : Action) (here : action_in manager call (actions_of is.actions) ≡ Some action) (rows : AreRows k.tables)
-    (db : Database) (stmts : List Stmt) (f : FenceAnswer) (same : db ≡ k.tables) where
-  pub confirmed_ok : (result : Result Answer NoMemory) → stmts ≡ action.confirms → on_confirm (fence_at k.fences leg) ≡ f → IfOk result (λ a. a ≡ tcc_commit leg (effect db stmts) f)
-      → IfOk result (λ a. (ts : Tickets) → Hears is k ts (message.BranchCommit leg.xid leg.branch kind.Tcc manager call) a)
-  confirmed_ok (Ok a) of e given = λ ts from. confirmed is k ts leg manager call from action here rows f e a (given ∙ ap₂ (λ (t : Database) (ss : List Stmt). tcc_commit leg (effect t ss) f) same of)
-  confirmed_ok (Err n) of e given = tt
+module _ (k : Known) (leg : Leg) (rows : AreRows k.tables) (db : Database) (stmts : List Stmt) (f : FenceAnswer) (same : db ≡ k.tables) where
+  pub confirmed_ok : (result : Result Answer NoMemory) → on_confirm (fence_at k.fences leg) ≡ f → IfOk result (λ a. a ≡ tcc_commit leg (effect db stmts) f) → IfOk result (ConfirmsWith k leg stmts)
+  confirmed_ok (Ok a) e given = λ is ts manager call action here of from.
+      confirmed is k ts leg manager call from action here rows f e a (given ∙ ap₂ (λ (t : Database) (ss : List Stmt). tcc_commit leg (effect t ss) f) same of)
+  confirmed_ok (Err n) e given = tt
 
-  pub cancelled_ok : leg.xid.0 < 2 ^ 64 → leg.branch.0 < 2 ^ 64 → (result : Result Answer NoMemory) → stmts ≡ action.cancels → on_cancel (fence_at k.fences leg) ≡ f
-      → IfOk result (λ a. a ≡ tcc_rollback leg (effect db stmts) f) → IfOk result (λ a. (ts : Tickets) → Hears is k ts (message.BranchRollback leg.xid leg.branch kind.Tcc manager call) a)
-  cancelled_ok x b (Ok a) of e given = λ ts from. cancelled is k ts leg manager call from action here rows x b f e a (given ∙ ap₂ (λ (t : Database) (ss : List Stmt). tcc_rollback leg (effect t ss) f) same of)
-  cancelled_ok x b (Err n) of e given = tt
+  pub cancelled_ok : leg.xid.0 < 2 ^ 64 → leg.branch.0 < 2 ^ 64 → (result : Result Answer NoMemory) → on_cancel (fence_at k.fences leg) ≡ f
+      → IfOk result (λ a. a ≡ tcc_rollback leg (effect db stmts) f) → IfOk result (CancelsWith k leg stmts)
+  cancelled_ok x b (Ok a) e given = λ is ts manager call action here of from.
+      cancelled is k ts leg manager call from action here rows x b f e a (given ∙ ap₂ (λ (t : Database) (ss : List Stmt). tcc_rollback leg (effect t ss) f) same of)
+  cancelled_ok x b (Err n) e given = tt
+
+-- and by what is known
+module _ (k : Known) (leg : Leg) (db : Database) (stmts : List Stmt) (f : FenceAnswer) (same : db ≡ k.tables) where
+  pub confirmed_known : (result : Result Answer NoMemory) → on_confirm (fence_at k.fences leg) ≡ f → IfOk result (λ a. a ≡ tcc_commit leg (effect db stmts) f)
+      → IfOk result (λ a. a ≡ confirms_on k leg stmts)
+  confirmed_known (Ok a) e given = given ∙ ap₂ (λ (t : Database) (g : FenceAnswer). tcc_commit leg (effect t stmts) g) same (sym e)
+  confirmed_known (Err n) e given = tt
+
+  pub cancelled_known : (result : Result Answer NoMemory) → on_cancel (fence_at k.fences leg) ≡ f → IfOk result (λ a. a ≡ tcc_rollback leg (effect db stmts) f)
+      → IfOk result (λ a. a ≡ cancels_on k leg stmts)
+  cancelled_known (Ok a) e given = given ∙ ap₂ (λ (t : Database) (g : FenceAnswer). tcc_rollback leg (effect t stmts) g) same (sym e)
+  cancelled_known (Err n) e given = tt
 
 pub none_found : {A : Type 0} (o : Option A) → ((a : A) → o ≡ Some a → ⊥) → o ≡ None
 none_found None n = refl

@@ -15,11 +15,14 @@ use Rattle.history_rules.specs.ResourceRules.{requests}
 use Rattle.resource_memory.specs.Known.{Known}
 use Rattle.resource_rules.specs.Answers.{Answers, answer}
 use Rattle.resource_rules.specs.Openings.{resent}
+use Rattle.resource_rules.specs.Ready.{IsTicketWithin}
 use Rattle.resource_rules.specs.declared.answers.Answer.{Answer}
 use Rattle.resource_rules.specs.declared.answers.Change.TheVariants as change
 use Rattle.resource_rules.specs.declared.setups.Setup.{Setup as TheSetup}
 use Rattle.resource_rules.proofs.AnswerLaws.{rests}
+use Rattle.resource_rules.proofs.FramingLaws.{request_framed}
 use Rattle.resource_rules.proofs.Seen.{opens_seen}
+use Rattle.resource_rules.proofs.TicketLists.{last_within}
 
 -- ---- the ticket that was sent longest ago
 
@@ -37,12 +40,14 @@ module _ (is : TheSetup) (k : Known) (ts : Tickets) where
   pub nothing : last_of ts.opens ≡ None → (a : Answer) → a ≡ answer None (still act.Nothing) → Answers is k ts input.Turn a
   nothing none = rests change.Stays tt _
       (λ s m sh. sym (ap (rules.on_turn s m.left.records m.opens (next_ticket m)) (ap (λ (os : List Open). last_of os) (sym (opens_seen s m sh)) ∙ none))) (λ s m. refl) (λ s m now sh. refl)
+      (λ ready served. (tt, tt))
 
   pub asks_again : (txn : OpenTxn) → last_of ts.opens ≡ Some (open_of txn) → (a : Answer) → a ≡ resent is.number txn → Answers is k ts input.Turn a
   asks_again txn last = rests (change.Sends txn.ticket) tt _
       (λ s m sh. ap (λ (n : ℕ). requests n (act.Resent txn.ticket) (open_of txn)) (sym sh.setup.number)
       ∙ sym (ap (rules.on_turn s m.left.records m.opens (next_ticket m)) (ap (λ (os : List Open). last_of os) (sym (opens_seen s m sh)) ∙ last)))
       (λ s m. refl) (λ s m now sh. refl)
+      (λ ready served. (request_framed is.number k.tables (open_of txn) ready.counted ready.knows.resource (last_within (IsTicketWithin k.tables) ts.opens (open_of txn) ready.tickets last), tt))
 
 pub turns_ok : (is : TheSetup) (ts : Tickets) (txn : OpenTxn) → last_of ts.opens ≡ Some (open_of txn) → (result : Result Answer NoMemory) → IfOk result (λ a. a ≡ resent is.number txn)
     → IfOk result (λ a. (k : Known) → Answers is k ts input.Turn a)

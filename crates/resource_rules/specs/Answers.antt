@@ -1,5 +1,5 @@
 -- What an answer of a resource is by its rules: said of each memory of the rules that what the resource is, knows and has open is of.
-use Rattle.std.specs.Prelude.{◌≡◌, ℕ, ◌+◌, ◌≤◌, true, List, [], ◌∷◌, length, Option, Some, None, IfSome, Ok}
+use Rattle.std.specs.Prelude.{◌≡◌, ℕ, ◌+◌, ◌≤◌, ◌<◌, ◌^◌, true, List, [], ◌∷◌, length, Option, Some, None, IfSome, Ok}
 use Rattle.seata_types.specs.declared.acts.Act.{Act}
 use Rattle.seata_types.specs.declared.acts.Act.TheVariants as act
 use Rattle.seata_types.specs.declared.acts.Durable.{Durable}
@@ -8,7 +8,7 @@ use Rattle.seata_types.specs.declared.ids.Leg.{Leg}
 use Rattle.seata_types.specs.declared.ids.Place.{Place}
 use Rattle.seata_types.specs.declared.ids.Place.TheVariants as place
 use Rattle.seata_types.specs.declared.ids.Ticket.{Ticket}
-use Rattle.seata_types.specs.declared.limits.TheConstants.{BODY_BYTES, FIELD_ITEMS}
+use Rattle.seata_types.specs.declared.limits.TheConstants.{FIELD_ITEMS}
 use Rattle.seata_types.specs.declared.messages.Input.{Input}
 use Rattle.seata_types.specs.declared.messages.Input.TheVariants as input
 use Rattle.seata_types.specs.declared.messages.Message.{Message}
@@ -21,6 +21,7 @@ use Rattle.seata_types.specs.declared.statements.Stmt.{Stmt}
 use Rattle.seata_types.specs.declared.statements.Work.TheVariants as work
 use Rattle.seata_types.specs.declared.statuses.BranchKind.TheVariants as kind
 use Rattle.seata_types.specs.declared.statuses.BranchStatus.{BranchStatus}
+use Rattle.frame_codec.specs.Limits.{IsFramable}
 use Rattle.local_tables.specs.Calls.{effect}
 use Rattle.local_tables.specs.Rows.{Database}
 use Rattle.local_tables.specs.declared.schemas.Effect.{Effect}
@@ -33,12 +34,13 @@ use Rattle.local_txn.specs.Answers.{Tickets, counted, new_ticket, open_of}
 use Rattle.local_txn.specs.declared.transactions.OpenTxn.{OpenTxn}
 use Rattle.history_rules.specs.CoordinatorRules.{xid_of}
 use Rattle.history_rules.specs.Own.{Given, Left, Own, sends, still}
-use Rattle.history_rules.specs.ResourceMemory.{Setup, Memory, action_in, local_in, tries_of, opening_tables, resource_asked, memory_after}
+use Rattle.history_rules.specs.ResourceMemory.{Setup, Memory, action_in, local_in, opening_tables, resource_asked, memory_after}
 use Rattle.history_rules.specs.ResourceRules.{resource_answer}
-use Rattle.resource_log.specs.Records.{FitsRecord, record_bytes}
 use Rattle.resource_memory.specs.Changes as changes
 use Rattle.resource_memory.specs.Changes.{fit, may_come}
 use Rattle.resource_memory.specs.Known.{Known, known_of}
+use Rattle.record_places.specs.Within.{HasPlace}
+use Rattle.resource_rules.specs.Ready.{AreTicketsWithin, IsReady, ServesWithin}
 use Rattle.resource_rules.specs.Setups.{actions_of}
 use Rattle.resource_rules.specs.declared.answers.Answer.{Answer}
 use Rattle.resource_rules.specs.declared.answers.Change.{Change}
@@ -119,12 +121,15 @@ pub record AreCounted (is : TheSetup) : Type 0 where
   pub actions : (manager call : ℕ) (a : Action) → action_in manager call (actions_of is.actions) ≡ Some a → IsCounted a
   pub locals : (number : ℕ) (stmts : List Stmt) → local_in number is.locals ≡ Some stmts → length stmts ≤ FIELD_ITEMS
 
--- an open ticket has rows that fit these tables, and its Try no more statements than are counted
-pub record IsOpenOn (db : Database) (o : Open) : Type 0 where
-  pub rows : fit db o.images o.reads ≡ true
-  pub tries : length (tries_of o.owner) ≤ FIELD_ITEMS
+-- an open ticket has rows that fit these tables, or a Try with no more statements than are counted
+abbrev pub IsOpenFor : Database → Open → Owner → Type 0
+IsOpenFor db o (OfCall m x c (work.Tcc action)) = length action.tries ≤ FIELD_ITEMS
+IsOpenFor db o _ = fit db o.images o.reads ≡ true
 
--- each open ticket has such rows and statements
+abbrev pub IsOpenOn : Database → Open → Type 0
+IsOpenOn db o = IsOpenFor db o o.owner
+
+-- each open ticket has such rows or statements
 abbrev pub AreOpenOn : Known → Tickets → Type 0
 AreOpenOn k ts = (t : Ticket) (o : Open) → open_at ts.opens t ≡ Some o → IsOpenOn k.tables o
 
@@ -139,11 +144,6 @@ pub record IsOfRules (s : Setup) (m : Memory) (given : Input) (a : Answer) : Typ
   pub step : a.step ≡ resource_answer s m given
   pub asked : a.asked ≡ resource_asked s m (own_step given 0 a.step)
   pub left : (now : ℕ) → memory_after s (own_step given now a.step) m ≡ after a m
-
--- a record has a place in a journal
-pub record HasPlace (r : ResourceRecord) : Type 0 where
-  pub fits : FitsRecord r
-  pub small : length (record_bytes r) ≤ BODY_BYTES
 
 -- where statements have an effect on these tables, the record of its images has a place
 abbrev pub HavePlaces : Database → List Stmt → (List Image → ResourceRecord) → Type 0
@@ -168,7 +168,7 @@ Places is k ts (input.Message from (message.BranchCommit xid b kind.Tcc manager 
 Places is k ts (input.Message from (message.BranchRollback xid b kind.Tcc manager call)) =
     (a : Action) → action_in manager call (actions_of is.actions) ≡ Some a → HavePlaces k.tables a.cancels (log.Cancelled xid b)
 Places is k ts (input.Message from (message.LockAnswer t None)) = (o : Open) → open_at ts.opens t ≡ Some o → LocalPlace o o.owner
-Places is k ts (input.Outside n) = (stmts : List Stmt) → local_in n is.locals ≡ Some stmts → HavePlaces k.tables stmts (log.Outside n)
+Places is k ts (input.Outside n) = (stmts : List Stmt) → local_in n is.locals ≡ Some stmts → n < 2 ^ 16 → HavePlaces k.tables stmts (log.Outside n)
 Places is k ts given = Unit {0}
 
 -- a record that a resource takes: it may come, it is no boot, and where records with images have places it has one
@@ -191,12 +191,22 @@ OpensNext ts asked _ = Unit {0}
 abbrev pub IsDurable : Act → Type 0
 IsDurable done = (d : Durable) × (done ≡ act.Durable d)
 
+-- What an answer leaves of places: what it sends can be framed, and each ticket that is open then has places.
+pub record HoldsPlaces (k : Known) (ts : Tickets) (a : Answer) : Type 0 where
+  pub frames : IfSome a.step.sent (λ out. IsFramable out.message)
+  pub tickets : AreTicketsWithin k.tables (opens_by a.change ts.opens)
+
+-- where a resource is ready, and what it is given has places
+abbrev pub StaysWithin : TheSetup → Known → Tickets → Input → Answer → Type 0
+StaysWithin is k ts given a = IsReady is k ts → ServesWithin given → HoldsPlaces k ts a
+
 -- An answer to an input, by what a resource is, what it knows and the tickets that it has open.
 pub record Answers (is : TheSetup) (k : Known) (ts : Tickets) (given : Input) (a : Answer) : Type 0 where
   pub rules : (s : Setup) (m : Memory) → Shows is k ts s m → IsOfRules s m given a
   pub taken : IfSome a.asked (IsTakenBy is k ts given)
   pub at : IfSome a.asked (λ r. IsDurable a.step.act)
   pub opens : OpensNext ts a.asked a.change
+  pub within : StaysWithin is k ts given a
 
 -- the same of a message, wherever it came from
 abbrev pub Hears : TheSetup → Known → Tickets → Message → Answer → Type 0

@@ -14,11 +14,11 @@ use Rattle.local_tables.specs.Rows.{Database, row_at}
 use Rattle.local_tables.specs.declared.schemas.Effect.{Effect}
 use Rattle.durable_records.specs.declared.resources.ResourceRecord.TheVariants as log
 use Rattle.durable_records.specs.Fences.{FenceAnswer, Runs, WasDone, Suspends, Refuses}
-use Rattle.local_txn.specs.Answers.{Tickets}
 use Rattle.history_rules.specs.ResourceMemory.{Setup, Memory, resource_asked, memory_after}
 use Rattle.history_rules.specs.ResourceRules.{dirty_image}
-use Rattle.resource_rules.specs.Answers.{OpensNext, answer, after, own_step, tells_committed, tells_rollbacked}
+use Rattle.resource_rules.specs.Answers.{answer, after, own_step, tells_committed, tells_rollbacked}
 use Rattle.resource_rules.specs.declared.answers.Answer.{Answer}
+use Rattle.resource_rules.specs.declared.answers.Change.TheVariants as change
 
 -- ---- AT
 
@@ -44,7 +44,7 @@ pub record IsUndo (leg : Leg) (a : Answer) : Type 0 where
   pub left : (s : Setup) (m : Memory) (given : Input) (now : ℕ) → memory_after s (own_step given now a.step) m ≡ after a m
   pub undone : IfSome a.asked (λ r. r ≡ log.Undone leg.xid leg.branch)
   pub at : IfSome a.asked (λ r. a.step.act ≡ act.Durable (durable.Undone leg.xid leg.branch))
-  pub opens : (ts : Tickets) → OpensNext ts a.asked a.change
+  pub stays : a.change ≡ change.Stays
 
 -- ---- TCC
 

@@ -1,4 +1,4 @@
--- For the proofs alone: the coordinator's answers for the ticket of a call, by what was looked up.
+-- The coordinator's answers for the ticket of a call, by what was looked up.
 use Rattle.std.specs.Prelude.{ℕ, nat_le, Bool, true, false, if◌then◌else◌, List, ◌≤◌, length, Option, Some, None, Result, Ok, Err}
 use Rattle.seata_types.specs.declared.acts.Act.TheVariants as act
 use Rattle.seata_types.specs.declared.acts.Durable.{Durable}
@@ -7,6 +7,7 @@ use Rattle.seata_types.specs.declared.errors.StmtError.{StmtError}
 use Rattle.seata_types.specs.declared.errors.Why.{Why}
 use Rattle.seata_types.specs.declared.errors.Why.TheVariants as why
 use Rattle.seata_types.specs.declared.ids.BranchId.{BranchId}
+use Rattle.seata_types.specs.declared.ids.Leg.{Leg}
 use Rattle.seata_types.specs.declared.ids.Place.TheVariants as place
 use Rattle.seata_types.specs.declared.ids.Xid.{Xid}
 use Rattle.seata_types.specs.declared.limits.TheConstants.{FIELD_ITEMS}
@@ -60,27 +61,27 @@ IsCountedTry (work.At stmts) = Unit {0}
 IsCountedTry (work.Tcc action) = length action.tries ≤ FIELD_ITEMS
 
 -- to an AT branch, by what stands at it: ignored where it is committed, dropped where it is marked, else committed
-abbrev pub at_granted : OpenTxn → BranchId → Option UndoEntry → Answer
-at_granted txn b (Some (entry.Normal r)) = ignored
-at_granted txn b (Some entry.Finished) = dropped txn why.Marker
-at_granted txn b None = done txn b (durable.Committed txn.xid b txn.ticket) (log.Committed txn.xid b txn.call txn.images txn.reads)
+abbrev pub at_granted : OpenTxn → Leg → Option UndoEntry → Answer
+at_granted txn leg (Some (entry.Normal r)) = ignored
+at_granted txn leg (Some entry.Finished) = dropped txn why.Marker
+at_granted txn leg None = done txn leg.branch (durable.Committed leg.xid leg.branch txn.ticket) (log.Committed leg.xid leg.branch txn.call txn.images txn.reads)
 
 -- a Try: dropped where a statement touched no row, or has no meaning, or where the fence refuses, else tried
-abbrev pub try_touched : OpenTxn → BranchId → List Image → Option ℕ → Answer
-try_touched txn b images (Some index) = dropped txn (why.NoRow index)
-try_touched txn b images None = done txn b (durable.Tried txn.xid b txn.ticket) (log.Tried txn.xid b txn.call images)
+abbrev pub try_touched : OpenTxn → Leg → List Image → Option ℕ → Answer
+try_touched txn leg images (Some index) = dropped txn (why.NoRow index)
+try_touched txn leg images None = done txn leg.branch (durable.Tried leg.xid leg.branch txn.ticket) (log.Tried leg.xid leg.branch txn.call images)
 
-abbrev pub try_meant : OpenTxn → BranchId → Result Effect (ℕ × StmtError) → Answer
-try_meant txn b (Err (index, error)) = dropped txn (why.Stmt index error)
-try_meant txn b (Ok e) = try_touched txn b e.images (untouched 1 e.touched)
+abbrev pub try_meant : OpenTxn → Leg → Result Effect (ℕ × StmtError) → Answer
+try_meant txn leg (Err (index, error)) = dropped txn (why.Stmt index error)
+try_meant txn leg (Ok e) = try_touched txn leg e.images (untouched 1 e.touched)
 
-abbrev pub tcc_granted : OpenTxn → BranchId → Result Effect (ℕ × StmtError) → FenceAnswer → Answer
-tcc_granted txn b meaning Runs = try_meant txn b meaning
-tcc_granted txn b meaning _ = dropped txn why.Fence
+abbrev pub tcc_granted : OpenTxn → Leg → Result Effect (ℕ × StmtError) → FenceAnswer → Answer
+tcc_granted txn leg meaning Runs = try_meant txn leg meaning
+tcc_granted txn leg meaning _ = dropped txn why.Fence
 
-abbrev pub granted : Known → OpenTxn → BranchId → Work → Answer
-granted k txn b (work.At stmts) = at_granted txn b (entry_at k.undo_log (leg_of txn.xid b))
-granted k txn b (work.Tcc action) = tcc_granted txn b (effect k.tables action.tries) (on_try (fence_at k.fences (leg_of txn.xid b)))
+abbrev pub granted : Known → OpenTxn → Leg → Work → Answer
+granted k txn leg (work.At stmts) = at_granted txn leg (entry_at k.undo_log leg)
+granted k txn leg (work.Tcc action) = tcc_granted txn leg (effect k.tables action.tries) (on_try (fence_at k.fences leg))
 
 -- ---- and the others
 
@@ -94,7 +95,7 @@ conflicted tries txn holder true = dropped txn (why.Rolling holder)
 conflicted tries txn holder false = if nat_le tries (raised (open_of txn)) then dropped txn why.Tries else counts txn
 
 abbrev pub answered : (tries : ℕ) → Known → OpenTxn → Registered → Answer
-answered tries k txn (registered.Granted b) = granted k txn b txn.work
+answered tries k txn (registered.Granted b) = granted k txn (leg_of txn.xid b) txn.work
 answered tries k txn (registered.Conflict key holder rolling) = conflicted tries txn holder rolling
 answered tries k txn (registered.Closed status) = dropped txn (why.Closed status)
 answered tries k txn registered.Late = dropped txn why.Late

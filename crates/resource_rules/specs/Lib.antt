@@ -1,7 +1,9 @@
 pub mod Setups
 pub mod Meanings
+pub mod Ready
 pub mod Answers
 pub mod Ends
+pub mod Apart
 pub mod Grants
 pub mod Locals
 pub mod Asked

@@ -8,6 +8,7 @@ ghost use Rattle.durable_records.specs.ResourceOrder.{image_keys};
 ghost use Rattle.local_txn.specs.OpenTickets.{busy_in};
 ghost use Rattle.local_txn.specs.Answers.{Tickets};
 ghost use Rattle.resource_rules.specs.Answers.{Hears};
+ghost use Rattle.resource_rules.specs.Apart.{RollsBack};
 ghost use Rattle.resource_rules.specs.Ends.{IsUndo, at_record, empty};
 ghost use Rattle.resource_rules.specs.declared.setups.Setup.{Setup as TheSetup};
 
@@ -24,7 +25,7 @@ use std::alloc::Global;
 use undo_log::UndoEntry;
 
 /// A branch is to commit: its undo record is cleared, if it has one. Takes no memory.
-pub(crate) fn at_commit(memory: &Memory, leg: Leg) -> Answer
+pub fn at_commit(memory: &Memory, leg: Leg) -> Answer
     ensures { (is : TheSetup) (ts : Tickets) (manager call : ℕ) →
         Hears is memory.now ts (message.BranchCommit leg.xid leg.branch kind.At manager call) result }
 {
@@ -55,14 +56,13 @@ fn empty(leg: Leg) -> Answer
 /// A branch is to roll back: the rows of its undo record are put back, where no open local transaction has one of them and each
 /// is as the branch left it. A branch without an undo record is marked, so that it never commits. What is compared with a
 /// present row is what the branch left there alone, where Seata looks at the row before too.
-pub(crate) fn at_rollback(
+pub fn at_rollback(
     alloc: Global,
     memory: &Memory,
     txns: &LocalTxns,
     leg: Leg,
 ) -> Result<Answer, NoMemory>
-    ensures { IfOk result (λ a. (is : TheSetup) (manager call : ℕ) →
-        Hears is memory.now txns.now (message.BranchRollback leg.xid leg.branch kind.At manager call) a) }
+    ensures { IfOk result (RollsBack memory.now txns.now.opens leg) }
 {
     let Leg { xid, branch } = leg;
     in_range(xid.0, branch.0);

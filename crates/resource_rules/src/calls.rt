@@ -13,7 +13,7 @@ use crate::callers::Caller;
 use crate::meanings::meaning;
 use crate::requests::request;
 use crate::setups::Setup;
-use crate::telling::{ignored, is_nobody, rests, tells};
+use crate::telling::{ignored, in_range, in_ticket, is_nobody, rests, tells};
 use local_tables::{Effect, Tables};
 use local_txn::{LocalTxns, OpenTxn};
 use resource_memory::Memory;
@@ -44,11 +44,14 @@ pub(crate) fn call(
     }
     let Caller { xid, call, .. } = caller;
     if let Some(branch) = done_for(memory, caller, work) {
+        in_range(xid.0, branch.0);
         return Ok(again(caller, branch));
     }
     if txns.find_call(xid, call).is_some() {
         return Ok(rests(Act::Waiting { xid, call }, None));
     }
+    let ticket = txns.next();
+    in_ticket(ticket.boot, ticket.seq);
     new_call(alloc, memory.tables(), setup.number, txns, caller, work)
 }
 

@@ -62,7 +62,13 @@ fn answered(
     ensures { IfOk result (λ a. a ≡ looked.answered tries memory.now txn.now answer.now) }
 {
     match answer {
-        Registered::Granted { branch } => granted(alloc, memory, txn, *branch),
+        Registered::Granted { branch } => {
+            let leg = Leg {
+                xid: txn.xid,
+                branch: *branch,
+            };
+            granted(alloc, memory, txn, leg)
+        }
         Registered::Conflict {
             key: _,
             holder,
@@ -73,26 +79,19 @@ fn answered(
     }
 }
 
-// The branch of a ticket was granted.
-fn granted(
-    alloc: Global,
-    memory: &Memory,
-    txn: &OpenTxn,
-    branch: BranchId,
-) -> Result<Answer, NoMemory>
+/// The branch of the ticket of a call was granted: the local transaction commits, or the Try runs. The ticket is dropped where the
+/// branch is marked, where its fence refuses, and where a statement of its Try has no meaning or touched no row; a branch that
+/// committed before is ignored.
+pub fn granted(alloc: Global, memory: &Memory, txn: &OpenTxn, leg: Leg) -> Result<Answer, NoMemory>
     requires { looked.IsCountedTry txn.now.work }
-    ensures { IfOk result (λ a. a ≡ looked.granted memory.now txn.now branch txn.now.work) }
+    ensures { IfOk result (λ a. a ≡ looked.granted memory.now txn.now leg txn.now.work) }
 {
-    let leg = Leg {
-        xid: txn.xid,
-        branch,
-    };
     match &txn.work {
-        Work::At(_) => at_granted(alloc, txn, branch, entry(memory, leg)),
+        Work::At(_) => at_granted(alloc, txn, leg, entry(memory, leg)),
         Work::Tcc(action) => {
             let fence = memory.fence().on_try(leg);
             let stmts = action.get().tries.as_slice();
-            tcc_granted(alloc, memory.tables(), txn, branch, fence, stmts)
+            tcc_granted(alloc, memory.tables(), txn, leg, fence, stmts)
         }
     }
 }
@@ -101,24 +100,25 @@ fn granted(
 fn at_granted(
     alloc: Global,
     txn: &OpenTxn,
-    branch: BranchId,
+    leg: Leg,
     found: Option<&UndoEntry>,
 ) -> Result<Answer, NoMemory>
-    ensures { IfOk result (λ a. a ≡ looked.at_granted txn.now branch (option_copied found.entry)) }
+    ensures { IfOk result (λ a. a ≡ looked.at_granted txn.now leg (option_copied found.entry)) }
 {
     match found {
         Some(UndoEntry::Normal(_)) => Ok(ignored()),
         Some(UndoEntry::Finished) => dropped(alloc, txn, Why::Marker),
         None => {
+            let Leg { xid, branch } = leg;
             let item = ResourceRecord::Committed {
-                xid: txn.xid,
+                xid,
                 branch,
                 call: txn.call,
                 images: txn.images.copy(alloc)?,
                 reads: txn.reads.copy(alloc)?,
             };
             let asked = Durable::Committed {
-                xid: txn.xid,
+                xid,
                 branch,
                 ticket: txn.ticket,
             };
@@ -132,15 +132,15 @@ fn tcc_granted(
     alloc: Global,
     tables: &Tables,
     txn: &OpenTxn,
-    branch: BranchId,
+    leg: Leg,
     fence: FenceAnswer,
     stmts: &[Stmt],
 ) -> Result<Answer, NoMemory>
     requires { length stmts.now ≤ FIELD_ITEMS }
-    ensures { IfOk result (λ a. a ≡ looked.tcc_granted txn.now branch (effect tables.now stmts.now) (answer_of fence)) }
+    ensures { IfOk result (λ a. a ≡ looked.tcc_granted txn.now leg (effect tables.now stmts.now) (answer_of fence)) }
 {
     match fence {
-        FenceAnswer::Run => run_try(alloc, tables, txn, branch, stmts),
+        FenceAnswer::Run => run_try(alloc, tables, txn, leg, stmts),
         FenceAnswer::Already => dropped(alloc, txn, Why::Fence),
         FenceAnswer::Suspend => dropped(alloc, txn, Why::Fence),
         FenceAnswer::Refuse => dropped(alloc, txn, Why::Fence),
@@ -152,22 +152,23 @@ fn run_try(
     alloc: Global,
     tables: &Tables,
     txn: &OpenTxn,
-    branch: BranchId,
+    leg: Leg,
     stmts: &[Stmt],
 ) -> Result<Answer, NoMemory>
     requires { length stmts.now ≤ FIELD_ITEMS }
-    ensures { IfOk result (λ a. a ≡ looked.try_meant txn.now branch (effect tables.now stmts.now)) }
+    ensures { IfOk result (λ a. a ≡ looked.try_meant txn.now leg (effect tables.now stmts.now)) }
 {
     match meaning(alloc, tables, stmts)? {
-        Ok(effect) => tried(alloc, txn, branch, effect),
+        Ok(effect) => tried(alloc, txn, leg, effect),
         Err((index, why)) => dropped(alloc, txn, Why::Stmt { index, why }),
     }
 }
 
-fn tried(alloc: Global, txn: &OpenTxn, branch: BranchId, effect: Effect) -> Result<Answer, NoMemory>
+fn tried(alloc: Global, txn: &OpenTxn, leg: Leg, effect: Effect) -> Result<Answer, NoMemory>
     requires { length effect.touched ≤ FIELD_ITEMS }
-    ensures { IfOk result (λ a. a ≡ looked.try_meant txn.now branch (Ok effect)) }
+    ensures { IfOk result (λ a. a ≡ looked.try_meant txn.now leg (Ok effect)) }
 {
+    let Leg { xid, branch } = leg;
     let Effect {
         images,
         touched,
@@ -177,13 +178,13 @@ fn tried(alloc: Global, txn: &OpenTxn, branch: BranchId, effect: Effect) -> Resu
         return dropped(alloc, txn, Why::NoRow { index });
     }
     let item = ResourceRecord::Tried {
-        xid: txn.xid,
+        xid,
         branch,
         call: txn.call,
         images,
     };
     let asked = Durable::Tried {
-        xid: txn.xid,
+        xid,
         branch,
         ticket: txn.ticket,
     };

@@ -5,6 +5,7 @@ ghost use Rattle.seata_types.specs.declared.messages.Input.TheVariants as input;
 ghost use Rattle.seata_types.specs.declared.messages.Message.TheVariants as message;
 ghost use Rattle.local_tables.specs.Calls.{effect};
 ghost use Rattle.resource_rules.specs.Answers.{Answers, AreCounted, AreOpenOn, Hears};
+ghost use Rattle.resource_rules.specs.Apart.{WritesWith};
 ghost use Rattle.resource_rules.specs.Locals as looked;
 ghost use Rattle.resource_rules.specs.declared.setups.Setup.{Setup as TheSetup};
 
@@ -12,7 +13,7 @@ use crate::answers::{Answer, Change};
 use crate::meanings::meaning;
 use crate::requests::request;
 use crate::setups::{Setup, local_of};
-use crate::telling::{ignored, is_nobody, rests};
+use crate::telling::{ignored, in_ticket, is_nobody, rests};
 use durable_records::ResourceRecord;
 use local_tables::{Effect, Tables};
 use local_txn::{LocalTxns, OpenTxn};
@@ -41,6 +42,8 @@ pub(crate) fn local(
     if txns.find_call(Xid(0), number).is_some() {
         return Ok(rests(Act::WaitingLocal { number }, None));
     }
+    let ticket = txns.next();
+    in_ticket(ticket.boot, ticket.seq);
     new_local(alloc, memory.tables(), setup.number, txns, number, stmts)
 }
 
@@ -202,8 +205,22 @@ pub(crate) fn outside(
     let Some(stmts) = local_of(setup, number) else {
         return Ok(ignored());
     };
+    outside_for(alloc, memory, txns, number, stmts.get().as_slice())
+}
+
+/// An outside write, by its number and its statements: refused, busy, or done.
+pub fn outside_for(
+    alloc: Global,
+    memory: &Memory,
+    txns: &LocalTxns,
+    number: u16,
+    stmts: &[Stmt],
+) -> Result<Answer, NoMemory>
+    requires { length stmts.now ≤ FIELD_ITEMS }
+    ensures { IfOk result (WritesWith memory.now txns.now.opens number stmts.now) }
+{
     let known = memory.kept();
-    outside_meant(alloc, known.tables(), txns, number, stmts.get().as_slice())
+    outside_meant(alloc, known.tables(), txns, number, stmts)
 }
 
 fn outside_meant(

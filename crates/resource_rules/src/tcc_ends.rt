@@ -6,6 +6,7 @@ ghost use Rattle.seata_types.specs.declared.statuses.BranchKind.TheVariants as k
 ghost use Rattle.local_tables.specs.Calls.{effect};
 ghost use Rattle.local_txn.specs.Answers.{Tickets};
 ghost use Rattle.resource_rules.specs.Answers.{AreCounted, Hears};
+ghost use Rattle.resource_rules.specs.Apart.{CancelsWith, ConfirmsWith, cancels_on, confirms_on};
 ghost use Rattle.tcc_fence.specs.Meanings.{answer_of};
 ghost use Rattle.resource_rules.specs.Ends.{confirming, cancelling, tcc_commit, tcc_rollback, unconfirmed};
 
@@ -20,8 +21,7 @@ use seata_types::{Act, BranchStatus, Durable, Leg, NoMemory, Stmt};
 use std::alloc::Global;
 use tcc_fence::FenceAnswer;
 
-/// A branch is to commit: its Confirm runs, where its fence lets it and each statement has a meaning; they need not touch a row. A
-/// branch whose call has no actions here is ignored.
+/// A branch is to commit: its Confirm runs, as `confirm_for` says. A branch whose call has no actions here is ignored.
 pub(crate) fn confirm(
     alloc: Global,
     memory: &Memory,
@@ -37,15 +37,24 @@ pub(crate) fn confirm(
     let Some(action) = action_of(setup, manager, call) else {
         return Ok(ignored());
     };
+    confirm_for(alloc, memory, leg, action.confirms.as_slice())
+}
+
+/// A branch whose Confirm has these statements is to commit: they run, where its fence lets them and each has a meaning; they need
+/// not touch a row.
+pub fn confirm_for(
+    alloc: Global,
+    memory: &Memory,
+    leg: Leg,
+    stmts: &[Stmt],
+) -> Result<Answer, NoMemory>
+    requires { length stmts.now ≤ FIELD_ITEMS }
+    ensures rules { IfOk result (ConfirmsWith memory.now leg stmts.now) }
+    ensures known { IfOk result (λ a. a ≡ confirms_on memory.now leg stmts.now) }
+{
     let known = memory.kept();
     let fence = known.fence().on_confirm(leg);
-    confirm_by(
-        alloc,
-        known.tables(),
-        leg,
-        fence,
-        action.confirms.as_slice(),
-    )
+    confirm_by(alloc, known.tables(), leg, fence, stmts)
 }
 
 // The same by what the fence answers.
@@ -110,8 +119,7 @@ fn run_confirm(alloc: Global, tables: &Tables, leg: Leg, stmts: &[Stmt]) -> Resu
     }
 }
 
-/// A branch is to roll back: its Cancel runs, where its fence lets it and each statement has a meaning; they need not touch a row.
-/// A branch without a fence is suspended: its Try never runs. One whose call has no actions here is ignored.
+/// A branch is to roll back: its Cancel runs, as `cancel_for` says. A branch whose call has no actions here is ignored.
 pub(crate) fn cancel(
     alloc: Global,
     memory: &Memory,
@@ -127,10 +135,25 @@ pub(crate) fn cancel(
     let Some(action) = action_of(setup, manager, call) else {
         return Ok(ignored());
     };
+    cancel_for(alloc, memory, leg, action.cancels.as_slice())
+}
+
+/// A branch whose Cancel has these statements is to roll back: they run, where its fence lets them and each has a meaning; they need
+/// not touch a row. A branch without a fence is suspended: its Try never runs.
+pub fn cancel_for(
+    alloc: Global,
+    memory: &Memory,
+    leg: Leg,
+    stmts: &[Stmt],
+) -> Result<Answer, NoMemory>
+    requires { length stmts.now ≤ FIELD_ITEMS }
+    ensures rules { IfOk result (CancelsWith memory.now leg stmts.now) }
+    ensures known { IfOk result (λ a. a ≡ cancels_on memory.now leg stmts.now) }
+{
     in_range(leg.xid.0, leg.branch.0);
     let known = memory.kept();
     let fence = known.fence().on_cancel(leg);
-    cancel_by(alloc, known.tables(), leg, fence, action.cancels.as_slice())
+    cancel_by(alloc, known.tables(), leg, fence, stmts)
 }
 
 // The same by what the fence answers.

@@ -113,6 +113,12 @@ pub(crate) fn in_range(xid: u64, branch: u64)
     ensures branch { branch < 2 ^ 64 }
 {}
 
+/// The numbers of a ticket have 32 bits.
+pub(crate) fn in_ticket(boot: u32, seq: u32)
+    ensures boot { boot < 2 ^ 32 }
+    ensures seq { seq < 2 ^ 32 }
+{}
+
 /// Whether this is the number of no transaction.
 pub(crate) fn is_nobody(xid: Xid) -> bool
     ensures { result ≡ (xid.0 == 0) }

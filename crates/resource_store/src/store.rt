@@ -27,7 +27,7 @@ pub struct Store<D> {
 
 impl<D: Disk> Store<D> {
     ghost use Rattle.std.specs.Borrow.{sem};
-    ghost use Rattle.std.specs.Prelude.{◌≡◌, ◌⊎◌, ◌≤◌, ℕ, true, false, All, List as Items, Some, IfOk, IfErr, OnOk, OnErr};
+    ghost use Rattle.std.specs.Prelude.{◌≡◌, ◌⊎◌, ◌≤◌, ℕ, true, false, All, List as Items, Some, IfOk, IfErr, IfSome, OnOk, OnErr};
     ghost use Rattle.disk_model.specs.Disk.{IsSettled, HasCause, present};
     ghost use Rattle.disk_model.specs.declared.disk.TheConstants.{LAST_PICK};
     ghost use Rattle.byte_fields.specs.Parts.{FitsNamedRow};
@@ -44,6 +44,7 @@ impl<D: Disk> Store<D> {
     ghost use Rattle.resource_memory.specs.Lookups.{tried_leg};
     ghost use Rattle.resource_store.specs.Meaning.{setting, meaning_of};
     ghost use Rattle.resource_store.specs.Standing.{StandsForRecords};
+    ghost use Rattle.resource_store.specs.Answers.{Does, Leaves};
     ghost use Rattle.resource_store.specs.Keeping.{store_of, setting_of, known, twin, found_of, is_down, KeepsEach, Changes, IsTaken, boot_record, SameDisks, IsNoDamage, GoesOnAs, GoesOnWithBoot, BootsAs, BootsFrom, BringsBack, first_after, second_after, LendsActive, StandsAlways};
 
     /// Reads two disks, and changes no byte. The disks come back where it fails.
@@ -156,7 +157,7 @@ impl<D: Disk> Store<D> {
         let Some(number) = self.boot().checked_add(1) else {
             return Err(StoreError::Full(UNCOUNTED));
         };
-        self.make(alloc, ResourceRecord::Boot { number })
+        self.add(alloc, ResourceRecord::Boot { number })
     }
 
     /// Whether a record may come: what each change asks of what is known, of its branch and of its images and reads. Takes no
@@ -167,8 +168,8 @@ impl<D: Disk> Store<D> {
         self.kept.memory().allows(item)
     }
 
-    // Makes a record that may come.
-    fn make(&mut self, alloc: Global, item: ResourceRecord) -> Result<(), StoreError>
+    /// Adds a record that may come.
+    pub fn add(&mut self, alloc: Global, item: ResourceRecord) -> Result<(), StoreError>
         requires up { is_down self.old ≡ false }
         requires taken { IsTaken item self.old }
         ensures { Changes D.state item result self.old self.new }
@@ -178,6 +179,19 @@ impl<D: Disk> Store<D> {
             return Err(StoreError::NoMemory);
         };
         self.kept.take(alloc, item, &body)
+    }
+
+    /// Adds the record that an answer asks for, if it asks for one. Without one nothing changes, and nothing fails.
+    pub fn settle(&mut self, alloc: Global, asked: Option<ResourceRecord>) -> Result<(), StoreError>
+        requires up { is_down self.old ≡ false }
+        requires taken { IfSome asked (λ r. IsTaken r self.old) }
+        ensures does { Does D.state asked result self.old self.new }
+        ensures leaves { Leaves D.state result self.old self.new }
+    {
+        match asked {
+            Some(item) => self.add(alloc, item),
+            None => Ok(()),
+        }
     }
 
     /// A branch without an undo record or a marker commits what its open local transaction did.
@@ -199,7 +213,7 @@ impl<D: Disk> Store<D> {
             images,
             reads,
         };
-        self.make(alloc, item)
+        self.add(alloc, item)
     }
 
     /// The rows of a branch's undo record are put back, and the record is taken out.
@@ -212,7 +226,7 @@ impl<D: Disk> Store<D> {
             xid: leg.xid,
             branch: leg.branch,
         };
-        self.make(alloc, item)
+        self.add(alloc, item)
     }
 
     /// A branch's undo record is taken out.
@@ -225,7 +239,7 @@ impl<D: Disk> Store<D> {
             xid: leg.xid,
             branch: leg.branch,
         };
-        self.make(alloc, item)
+        self.add(alloc, item)
     }
 
     /// A branch without an undo record or a marker is marked as rolled back.
@@ -238,7 +252,7 @@ impl<D: Disk> Store<D> {
             xid: leg.xid,
             branch: leg.branch,
         };
-        self.make(alloc, item)
+        self.add(alloc, item)
     }
 
     /// The Try of a branch without a fence ran for a call, counted from 1.
@@ -259,7 +273,7 @@ impl<D: Disk> Store<D> {
             call,
             images,
         };
-        self.make(alloc, item)
+        self.add(alloc, item)
     }
 
     /// The Confirm of a tried branch ran.
@@ -278,7 +292,7 @@ impl<D: Disk> Store<D> {
             branch: leg.branch,
             images,
         };
-        self.make(alloc, item)
+        self.add(alloc, item)
     }
 
     /// The Cancel of a tried branch ran.
@@ -297,7 +311,7 @@ impl<D: Disk> Store<D> {
             branch: leg.branch,
             images,
         };
-        self.make(alloc, item)
+        self.add(alloc, item)
     }
 
     /// A Cancel came to a branch without a fence, whose Try never runs from now on.
@@ -310,7 +324,7 @@ impl<D: Disk> Store<D> {
             xid: leg.xid,
             branch: leg.branch,
         };
-        self.make(alloc, item)
+        self.add(alloc, item)
     }
 
     /// A local transaction whose rows no transaction holds committed; they are counted from 1.
@@ -324,7 +338,7 @@ impl<D: Disk> Store<D> {
         requires taken { IsTaken (log.LocalCommitted number images) self.old }
         ensures { Changes D.state (log.LocalCommitted number images) result self.old self.new }
     {
-        self.make(alloc, ResourceRecord::LocalCommitted { number, images })
+        self.add(alloc, ResourceRecord::LocalCommitted { number, images })
     }
 
     /// A local transaction wrote without asking for the global lock.
@@ -338,7 +352,7 @@ impl<D: Disk> Store<D> {
         requires taken { IsTaken (log.Outside number images) self.old }
         ensures { Changes D.state (log.Outside number images) result self.old self.new }
     {
-        self.make(alloc, ResourceRecord::Outside { number, images })
+        self.add(alloc, ResourceRecord::Outside { number, images })
     }
 
     /// How often the resource was opened; takes no memory.

@@ -1,7 +1,7 @@
 //! What is left of a node's seat at its end, without the node.
 ghost use Rattle.std.specs.Prelude.{◌≡◌, true, IfSome};
 ghost use Rattle.node_steps.specs.Nodes.{IsLawful};
-ghost use Rattle.node_seat.specs.Running.{IsSeat};
+ghost use Rattle.node_seat.specs.Running.{KeepsSeat};
 ghost use Rattle.run_ends.specs.Ending.{GivesSender, LosesSenders, SendsThere, TakeAt, ending_of, without_takers};
 
 use history_text::Entry;
@@ -44,7 +44,7 @@ pub fn end_of<N: Node, K: RunName>(seat: Seat<N, K>) -> (N, Ended<K>)
     requires run { seat.runs ≡ true }
     ensures node { result.0 ≡ seat.node }
     ensures ended { result.1 ≡ ending_of (N.state seat.node).place seat }
-    ensures keeps { IsSeat (N.state seat.node) K.world K.past K.run seat }
+    ensures keeps { KeepsSeat (N.state seat.node) K.world K.held K.run seat }
     ensures lawful { IsLawful (N.state seat.node) }
 {
     let place = seat.node().place();

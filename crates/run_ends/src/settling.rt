@@ -1,5 +1,6 @@
 //! The end of a run: its links are gathered, so that the traces of its nodes are those of one history.
 ghost use Rattle.std.specs.Prelude.{◌≡◌, ◌≤◌, [], length, map, vec_capacity, IfSome, OnSome};
+ghost use Rattle.history_rules.specs.Nodes.{Past};
 ghost use Rattle.run_ends.specs.Ending.{trace_of};
 ghost use Rattle.run_ends.specs.Joining.{AreJoined, AreLeft, AreNamed, AreOfRun, IsNamed, Joins, JoinsAll, StandsThere};
 ghost use Rattle.run_ends.specs.Settled.{AreSettled};
@@ -76,12 +77,13 @@ pub fn settle<K: RunName>(
     nodes: Vec<Ended<K>>,
     traces: Vec<List<Entry>>,
 ) -> Option<List<List<Entry>>>
-    requires run { AreOfRun K.world K.past nodes.items }
+    requires run { (past : Past) → AreOfRun K.world past nodes.items }
     requires empty { traces.items ≡ [] }
     requires room { length nodes.items ≤ vec_capacity traces }
     ensures traces { IfSome result (λ traces. traces ≡ map trace_of nodes.items) }
     ensures joined { OnSome result (AreJoined nodes.items) }
-    ensures settled { OnSome result (AreSettled K.world K.past K.run.stops nodes.items) }
+    ensures settled { OnSome result ((past : Past) →
+        AreSettled K.world past K.run.stops nodes.items) }
 {
     let mut left = nodes;
     join_nodes(alloc, left.as_mut_slice())?;

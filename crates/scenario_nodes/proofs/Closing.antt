@@ -37,7 +37,7 @@ module _ {D N : Type 0} (f : N → D × D) (defs : List ResourceDef) (all : List
     -- as many definitions are left as resources
     left_alike : length (map resource_name (drop k defs)) ≡ length left
     left_alike =
-        let one = each_length (AreGivenBack now) c.nodes_closed c.disks_closed c.gives.back in
+        let one = each_length (AreGivenBack old now) c.nodes_closed c.disks_closed c.gives.back in
         let two = ap length c.nodes_are ∙ length-append c.nodes_closed (map resource_name (drop k defs)) in
         let three = ap length c.disks_are ∙ length-append c.disks_closed (map f left) in
         let four = length-map defs resource_name in
@@ -73,8 +73,8 @@ module _ {D N : Type 0} (f : N → D × D) (defs : List ResourceDef) (all : List
       next_taken have = closing_taken (map resource_name defs) (map f all) old now def.name (map resource_name (drop (k + 1) defs)) (f one) (map f rest) opened have
 
       -- its disks were given back under a text that is its name
-      pub next_closed : (new : ShelfState D) (called : List ℕ) (given : D × D) → called ≡ def.name → given ≡ f one → AreApart (map resource_name defs) → AreGivenBack new called given
+      pub next_closed : (new : ShelfState D) (called : List ℕ) (given : D × D) → called ≡ def.name → given ≡ f one → AreApart (map resource_name defs) → AreGivenBack now new called given
           → KeepsOthers (IsDiskName called) now new → SamePlaces now new → ReturnsAll now new → IsClosing old new (k + 1) rest
       next_closed new called given named same apart back keeps places returned =
           closing_next (map resource_name defs) (map f all) old now def.name (map resource_name (drop (k + 1) defs)) (f one) (map f rest) opened new apart
-          (subst (λ (n : List ℕ). AreGivenBack new n (f one)) named (subst (AreGivenBack new called) same back)) (subst (λ (n : List ℕ). KeepsOthers (IsDiskName n) now new) named keeps) places returned
+          (subst (λ (n : List ℕ). AreGivenBack now new n (f one)) named (subst (AreGivenBack now new called) same back)) (subst (λ (n : List ℕ). KeepsOthers (IsDiskName n) now new) named keeps) places returned

@@ -17,7 +17,7 @@ use Rattle.frame_codec.specs.Limits.{IsStmtWithin}
 use Rattle.frame_codec.specs.Works.{FitsStmt}
 use Rattle.resource_core.specs.Ready.{IsActionWithin}
 use Rattle.resource_core.specs.Ready.{AreStmtsWithin as HavePlaces}
-use Rattle.resource_core.proofs.StatementLaws.{stmts_within}
+use Rattle.resource_rules.proofs.StatementLaws.{stmts_within}
 use Rattle.scenario_nodes.proofs.Tables.{plain_text}
 use Rattle.scenario_nodes.specs.Calls.{AreFramable, AreRead, IsFramableAction, IsRead, IsReadAction, IsReadWork, action_here}
 

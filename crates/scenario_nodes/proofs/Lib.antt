@@ -2,10 +2,10 @@ pub mod AllBack
 mod AllLoaded
 mod AllStarted
 mod Apart
-mod Blank
 mod Closing
 mod Cut
 mod Framable
+pub mod Holding
 mod LoadedResource
 mod Made
 mod NewCoordinator

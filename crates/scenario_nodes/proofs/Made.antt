@@ -6,7 +6,7 @@ use Rattle.seata_types.specs.declared.statements.Stmt.{Stmt}
 use Rattle.seata_types.specs.declared.statements.Work.{Work}
 use Rattle.seata_types.specs.declared.statements.Work.TheVariants as work
 use Rattle.history_text.specs.Worlds.{call_actions, locals_at}
-use Rattle.resource_core.specs.Setups.{action_entry, actions_of}
+use Rattle.resource_rules.specs.Setups.{action_entry, actions_of}
 use Rattle.scenario_nodes.specs.Calls.{action_here}
 
 -- an item of a list, and what follows it

@@ -2,32 +2,35 @@
 use Rattle.std.proofs.Common.{◌≡◌, ℕ, List, sym, subst}
 use Rattle.disk_model.specs.Disk.{DiskState}
 use Rattle.disk_model.specs.Shelf.{KeepsOthers, ShelfState}
-use Rattle.history_rules.specs.Nodes.{Role}
+use Rattle.scenario_form.specs.declared.scenarios.Scenario.{Scenario}
 use Rattle.node_steps.specs.Nodes.{place_of}
 use Rattle.node_seat.specs.declared.faults.RunFault.{RunFault}
-use Rattle.scenario_nodes.specs.Nodes.{Server}
-use Rattle.scenario_nodes.specs.Opening.{HaveCounted, IsBack, IsReturned, IsUnopened, ShowsUnread}
+use Rattle.scenario_nodes.specs.Nodes.{HaveSize, Holds, Server}
+use Rattle.scenario_nodes.specs.Opening.{HaveCounted, IsBack, IsDamageOn, IsReturned, IsUnopened, ShowsUnread}
 use Rattle.scenario_nodes.specs.Shelves.{AllTell, AreGivenBack, HasBoth, IsDiskName, pair_of, second_name}
+use Rattle.scenario_nodes.proofs.Returned.{back_since}
 
-pub handed_back : {D : Type 0} (state : D → DiskState) (before after : ShelfState D) (role : Role) (called name : List ℕ) (bytes : ℕ) (missed told : RunFault) (a b : D) → called ≡ name
-    → HasBoth before called → KeepsOthers (IsDiskName called) before after → AreGivenBack after called (a, b) → told ≡ missed
-    → HaveCounted (place_of role) (pair_of state (a, b)) missed → (AllTell state → IsUnopened role bytes (pair_of state (a, b)) missed)
-    → IsReturned state after role name bytes told
-handed_back state before after role called name bytes missed told a b named both keeps back is counted unopened = record {
-  disks = (a, b);
-  taken = subst (HasBoth after) named (record { first = keeps.places called both.first; second = keeps.places (second_name called) both.second });
-  back = subst (λ (n : List ℕ). AreGivenBack after n (a, b)) named back;
-  counted = subst (λ (f : RunFault). HaveCounted (place_of role) (pair_of state (a, b)) f) (sym is) counted;
-  unopened = λ all. subst (λ (f : RunFault). IsUnopened role bytes (pair_of state (a, b)) f) (sym is) (unopened all);
-}
+-- its disks were taken of a shelf, and given back under a text that is its name
+module _ {D : Type 0} (state : D → DiskState) (s : Scenario) (old before after : ShelfState D) (v : Server) (called : List ℕ) (missed told : RunFault) (a b : D) (named : called ≡ v.name) (both : HasBoth before called)
+    (took : KeepsOthers (IsDiskName called) old before) (keeps : KeepsOthers (IsDiskName called) before after) (back : AreGivenBack before after called (a, b)) (is : told ≡ missed) where
+  taken : HasBoth after v.name
+  taken = subst (HasBoth after) named (record { first = keeps.places called both.first; second = keeps.places (second_name called) both.second })
 
--- the same of a node whose disks couldn't be read
-pub unread_back : {D : Type 0} (state : D → DiskState) (bytes : ℕ) (before after : ShelfState D) (server : Server) (called : List ℕ) (missed told : RunFault) (a b : D) → called ≡ server.name
-    → HasBoth before called → KeepsOthers (IsDiskName called) before after → AreGivenBack after called (a, b) → told ≡ missed → ShowsUnread state bytes missed server.role (a, b)
-    → IsBack (ShowsUnread state bytes told) after server
-unread_back state bytes before after server called missed told a b named both keeps back is shows = record {
-  disks = (a, b);
-  taken = subst (HasBoth after) named (record { first = keeps.places called both.first; second = keeps.places (second_name called) both.second });
-  back = subst (λ (n : List ℕ). AreGivenBack after n (a, b)) named back;
-  shows = subst (λ (f : RunFault). ShowsUnread state bytes f server.role (a, b)) (sym is) shows;
-}
+  given : AreGivenBack old after v.name (a, b)
+  given = subst (λ (n : List ℕ). AreGivenBack old after n (a, b)) named (back_since (IsDiskName called) old before after called (a, b) took back)
+
+  pub handed_back : HaveSize s.disk (pair_of state (a, b)) → HaveCounted (place_of v.role) (pair_of state (a, b)) missed → (AllTell state → IsDamageOn state old s v missed) → (AllTell state → Holds state old s v → IsUnopened v s.disk (pair_of state (a, b)) missed)
+      → IsReturned state s old after v told
+  handed_back sized counted damaged unopened = record {
+    disks = (a, b);
+    taken = taken;
+    back = given;
+    sized = sized;
+    counted = subst (λ (f : RunFault). HaveCounted (place_of v.role) (pair_of state (a, b)) f) (sym is) counted;
+    damaged = λ all. subst (λ (f : RunFault). IsDamageOn state old s v f) (sym is) (damaged all);
+    unopened = λ all holds. subst (λ (f : RunFault). IsUnopened v s.disk (pair_of state (a, b)) f) (sym is) (unopened all holds);
+  }
+
+  -- the same of a node whose disks couldn't be read
+  pub unread_back : ShowsUnread state s old missed v (a, b) → IsBack (ShowsUnread state s old told) old after v
+  unread_back shows = record { disks = (a, b); taken = taken; back = given; shows = subst (λ (f : RunFault). ShowsUnread state s old f v (a, b)) (sym is) shows }

@@ -4,7 +4,7 @@ use Rattle.std.proofs.lemmas.List.{map-append}
 use Rattle.scenario_form.specs.declared.scenarios.ResourceDef.{ResourceDef}
 use Rattle.scenario_form.specs.declared.scenarios.Scenario.{Scenario}
 use Rattle.scenario_form.specs.Runnable.{resource_name}
-use Rattle.scenario_nodes.specs.Nodes.{name_of, resource_server}
+use Rattle.scenario_nodes.specs.Nodes.{Held, name_of, resource_server}
 use Rattle.scenario_nodes.specs.Together.{numbered}
 
 pub numbered_append : {A : Type 0} (n : ℕ) (xs ys : List A) → numbered n (xs ++ ys) ≡ numbered n xs ++ numbered (n + length xs) ys
@@ -35,12 +35,12 @@ number_of {A} n (x ∷ xs) (b ∷ before) one behind e =
     omega (arith, number)
 
 -- the names of resources behind their numbers
-abbrev pub names_of : Scenario → List (ℕ × ResourceDef) → List (List ℕ)
-names_of s defs = map name_of (map (resource_server s) defs)
+abbrev pub names_of : Scenario → Held → List (ℕ × ResourceDef) → List (List ℕ)
+names_of s held defs = map name_of (map (resource_server s held) defs)
 
-pub names_append : (s : Scenario) (xs ys : List (ℕ × ResourceDef)) → names_of s (xs ++ ys) ≡ names_of s xs ++ names_of s ys
-names_append s xs ys = ap (map name_of) (map-append (resource_server s) xs ys) ∙ map-append name_of (map (resource_server s) xs) (map (resource_server s) ys)
+pub names_append : (s : Scenario) (held : Held) (xs ys : List (ℕ × ResourceDef)) → names_of s held (xs ++ ys) ≡ names_of s held xs ++ names_of s held ys
+names_append s held xs ys = ap (map name_of) (map-append (resource_server s held) xs ys) ∙ map-append name_of (map (resource_server s held) xs) (map (resource_server s held) ys)
 
-pub names_numbered : (s : Scenario) (n : ℕ) (defs : List ResourceDef) → names_of s (numbered n defs) ≡ map resource_name defs
-names_numbered s n [] = refl
-names_numbered s n (def ∷ defs) = ap (λ (names : List (List ℕ)). def.name ∷ names) (names_numbered s (n + 1) defs)
+pub names_numbered : (s : Scenario) (held : Held) (n : ℕ) (defs : List ResourceDef) → names_of s held (numbered n defs) ≡ map resource_name defs
+names_numbered s held n [] = refl
+names_numbered s held n (def ∷ defs) = ap (λ (names : List (List ℕ)). def.name ∷ names) (names_numbered s held (n + 1) defs)

@@ -1,8 +1,12 @@
 -- Calls of a shelf one after the other: what they keep, and that each disk that was taken is given back, but those that are out.
-use Rattle.std.proofs.Common.{◌≡◌, ◌⊎◌, ⊎_elim, inl, inr, ◌∙◌, ℕ, Bool, List, IsTrue, codes, length, length-append, ap, sym, subst, arith}
+use Rattle.std.proofs.Common.{◌≡◌, ◌⊎◌, ⊎_elim, inl, inr, ◌∙◌, ◌≤◌, ℕ, Bool, List, IsTrue, codes, length, length-append, ap, sym, subst, arith}
+use Rattle.disk_model.specs.Disk.{DiskState}
 use Rattle.disk_model.specs.Shelf.{IsGivenBack, KeepsOthers, SamePlaces, SameUnder, ShelfState}
 use Rattle.disk_model.proofs.Named.{same_or_other}
-use Rattle.scenario_nodes.specs.Shelves.{AreGivenBack, HasDisk, IsDiskName, ReturnsAll, ReturnsBut, second_name, with_places}
+use Rattle.disk_model.proofs.Taken.{next_since, taken_since}
+use Rattle.scenario_nodes.specs.Nodes.{Holds, Server}
+use Rattle.scenario_nodes.specs.Shelves.{AreGivenBack, AreNext, AreTaken, HasDisk, IsDiskName, IsGivenIn, ReturnsAll, ReturnsBut, second_name}
+use Rattle.scenario_form.specs.declared.scenarios.Scenario.{Scenario}
 
 pub still : (t u : Bool) → u ≡ t → IsTrue t → IsTrue u
 still t u same told = subst (λ (v : Bool). IsTrue v) (sym same) told
@@ -28,6 +32,8 @@ module _ {D : Type 0} where
     places = λ n had. two.places n (one.places n had);
     made = λ n has. ⊎_elim (λ had. ⊎_elim (λ was. inl was) (λ its. inr (first n its)) (one.made n had)) (λ its. inr (second n its)) (two.made n has);
     others = λ n other. same_then n a b c (one.others n (λ its. other (first n its))) (two.others n (λ its. other (second n its)));
+    unmoved = λ n other. two.unmoved n (λ its. other (second n its)) ∙ one.unmoved n (λ its. other (first n its));
+    gives = λ n. let before = one.gives n in let after = two.gives n in omega (arith, before, after);
     faults = omega (arith, one.faults, two.faults);
     tells = two.tells ∙ one.tells;
   }
@@ -37,6 +43,8 @@ module _ {D : Type 0} where
     places = one.places;
     made = λ n has. ⊎_elim (λ was. inl was) (λ its. inr (wider n its)) (one.made n has);
     others = λ n other. one.others n (λ its. other (wider n its));
+    unmoved = λ n other. one.unmoved n (λ its. other (wider n its));
+    gives = one.gives;
     faults = one.faults;
     tells = one.tells;
   }
@@ -59,11 +67,11 @@ module _ {D : Type 0} where
     kept = λ told n had. (had.0, (everywhere name a b same keeps n had.0).1 had.1);
   }
 
-  -- one was taken
-  pub one_made : (name : List ℕ) (a b : ShelfState D) → SameUnder name a b → KeepsOthers (λ n. n ≡ name) a b → ReturnsBut (λ n. n ≡ name) a b
-  one_made name a b same keeps = record {
-    made = λ told n has. inl (keeps.made n has);
-    kept = λ told n had. (had.0, (everywhere name a b same keeps n had.0).1 had.1);
+  -- one was taken, and is out
+  pub one_made : (name : List ℕ) (a b : ShelfState D) → KeepsOthers (λ n. n ≡ name) a b → ReturnsBut (λ n. n ≡ name) a b
+  one_made name a b keeps = record {
+    made = λ told n has. ⊎_elim (λ was. inl (inl was)) (λ its. inr its) (keeps.made n has);
+    kept = λ told n had. ⊎_elim (λ is. inr is) (λ other. inl (had.0, (keeps.others n other had.0).1 had.1)) (same_or_other n name);
   }
 
   -- one was given back
@@ -75,20 +83,53 @@ module _ {D : Type 0} where
   }
 
   -- both disks of a node were
-  pub node_back : (shelf : ShelfState D) (name : List ℕ) (disks : D × D) → AreGivenBack shelf name disks → IsTrue shelf.tells → (n : List ℕ) → IsDiskName name n → HasDisk shelf n
-  node_back shelf name disks back told n named =
-      ⊎_elim (λ first. subst (λ (m : List ℕ). HasDisk shelf m) (sym first) (disks.0, back.first.given told))
-      (λ second. subst (λ (m : List ℕ). HasDisk shelf m) (sym second) (disks.1, back.second.given told)) named
+  pub node_back : (old shelf : ShelfState D) (name : List ℕ) (disks : D × D) → AreGivenBack old shelf name disks → IsTrue shelf.tells → (n : List ℕ) → IsDiskName name n → HasDisk shelf n
+  node_back old shelf name disks back told n named =
+      ⊎_elim (λ first. subst (λ (m : List ℕ). HasDisk shelf m) (sym first) (disks.0, back.first.back.given told))
+      (λ second. subst (λ (m : List ℕ). HasDisk shelf m) (sym second) (disks.1, back.second.back.given told)) named
+
+  -- in a call that did more before
+  pub given_since : (z a b : ShelfState D) (name : List ℕ) (disk : D) → a.tells ≡ z.tells → z.gives name ≤ a.gives name → IsGivenIn a b name disk → IsGivenIn z b name disk
+  given_since z a b name disk tells rises given = record {
+    back = given.back;
+    counted = λ told. let rose = given.counted (still z.tells a.tells tells told) in omega (arith, rose, rises);
+  }
+
+  pub back_since : (Others : List ℕ → Type 0) (z a b : ShelfState D) (name : List ℕ) (disks : D × D) → KeepsOthers Others z a → AreGivenBack a b name disks → AreGivenBack z b name disks
+  back_since Others z a b name disks keeps back = record {
+    first = given_since z a b name disks.0 keeps.tells (keeps.gives name) back.first;
+    second = given_since z a b (second_name name) disks.1 keeps.tells (keeps.gives (second_name name)) back.second;
+  }
+
+  -- ---- what a shelf gives next
+
+  -- the same under the names of a node
+  pub are_next_since : (state : D → DiskState) (bytes : ℕ) (name x y : List ℕ) (a b : ShelfState D) → SameUnder name a b → SameUnder (second_name name) a b → AreNext state a bytes name x y → AreNext state b bytes name x y
+  are_next_since state bytes name x y a b first second next = record {
+    first = next_since state (a.given_back name) (b.given_back name) bytes first x next.first;
+    second = next_since state (a.given_back (second_name name)) (b.given_back (second_name name)) bytes second y next.second;
+  }
+
+  pub holds_since : (state : D → DiskState) (s : Scenario) (v : Server) (a b : ShelfState D) → SameUnder v.name a b → SameUnder (second_name v.name) a b → Holds state a s v → Holds state b s v
+  holds_since state s v a b first second h = record {
+    first = h.first;
+    second = h.second;
+    next = are_next_since state s.disk v.name h.first h.second a b first second h.next;
+    stand = h.stand;
+  }
+
+  -- and the same back
+  pub same_back : (n : List ℕ) (a b : ShelfState D) → SameUnder n a b → SameUnder n b a
+  same_back n a b same disk = ((same disk).1, (same disk).0)
+
+  pub are_taken_since : (state : D → DiskState) (bytes : ℕ) (name : List ℕ) (disks : D × D) (a b : ShelfState D) → SameUnder name a b → SameUnder (second_name name) a b → AreTaken state a bytes name disks
+      → AreTaken state b bytes name disks
+  are_taken_since state bytes name disks a b first second t = record {
+    first = taken_since state (a.given_back name) (b.given_back name) bytes first (state disks.0) t.first;
+    second = taken_since state (a.given_back (second_name name)) (b.given_back (second_name name)) bytes second (state disks.1) t.second;
+  }
 
   -- ---- calls one after the other
-
-  -- what is said of the places before them
-  wider : (a more b : ShelfState D) → (IsTrue more.tells → IsTrue a.tells) → ((n : List ℕ) → HasDisk more n → HasDisk a n)
-      → (IsTrue more.tells → (n : List ℕ) → a.has_place n → more.has_place n ⊎ HasDisk b n) → ReturnsAll a b → ReturnsAll more b
-  wider a more b tells had turn r = record {
-    made = λ told n has. ⊎_elim (λ was. turn told n was) (λ disk. inr disk) (r.made (tells told) n has);
-    kept = λ told n has. r.kept (tells told) n (had n has);
-  }
 
   pub all_after : (a b c : ShelfState D) → b.tells ≡ a.tells → ReturnsAll a b → ReturnsAll b c → ReturnsAll a c
   all_after a b c same one two = record {
@@ -98,28 +139,41 @@ module _ {D : Type 0} where
   }
 
   pub but_of_all : (out : List ℕ → Type 0) (a b : ShelfState D) → ReturnsAll a b → ReturnsBut out a b
-  but_of_all out a b r = wider a (with_places out a) b (λ told. told) (λ n had. had) (λ told n had. inl (inl had)) r
+  but_of_all out a b r = record { made = λ told n has. inl (r.made told n has); kept = λ told n had. inl (r.kept told n had) }
 
   -- the disks of more names may be out
   pub but_wider : (out wide : List ℕ → Type 0) (a b : ShelfState D) → ((n : List ℕ) → out n → wide n) → ReturnsBut out a b → ReturnsBut wide a b
-  but_wider out wide a b more r =
-      wider (with_places out a) (with_places wide a) b (λ told. told) (λ n had. had) (λ told n had. inl (⊎_elim (λ was. inl was) (λ taken. inr (more n taken)) had)) r
+  but_wider out wide a b more r = record {
+    made = λ told n has. ⊎_elim (λ here. inl here) (λ taken. inr (more n taken)) (r.made told n has);
+    kept = λ told n had. ⊎_elim (λ here. inl here) (λ taken. inr (more n taken)) (r.kept told n had);
+  }
 
   pub but_after : (first second out : List ℕ → Type 0) (a b c : ShelfState D) → b.tells ≡ a.tells → ((n : List ℕ) → first n → out n) → ((n : List ℕ) → second n → out n)
       → ReturnsBut first a b → ReturnsBut second b c → ReturnsBut out a c
-  but_after first second out a b c same one two r s =
-      all_after (with_places out a) (with_places out b) c same
-      (record { made = λ told n has. ⊎_elim (λ had. found told n had) (λ taken. inl (inr taken)) has; kept = r.kept }) (but_wider second out b c two s)
+  but_after first second out a b c same one two r s = record {
+    made = λ told n has. ⊎_elim (λ here. ⊎_elim (λ had. before told n had) (λ disk. inl (inr disk)) here) (λ taken. inr (two n taken)) (s.made (still a.tells b.tells same told) n has);
+    kept = λ told n had. ⊎_elim (λ disk. later told n disk) (λ taken. inr (one n taken)) (r.kept told n had);
+  }
     where
-      found : IsTrue a.tells → (n : List ℕ) → b.has_place n → (a.has_place n ⊎ out n) ⊎ HasDisk b n
-      found told n had = ⊎_elim (λ was. inl (⊎_elim (λ old. inl old) (λ taken. inr (one n taken)) was)) (λ disk. inr disk) (r.made told n had)
+      later : IsTrue a.tells → (n : List ℕ) → HasDisk b n → HasDisk c n ⊎ out n
+      later told n disk = ⊎_elim (λ here. inl here) (λ taken. inr (two n taken)) (s.kept (still a.tells b.tells same told) n disk)
+
+      before : IsTrue a.tells → (n : List ℕ) → b.has_place n → (a.has_place n ⊎ HasDisk c n) ⊎ out n
+      before told n had =
+          ⊎_elim (λ here. ⊎_elim (λ was. inl (inl was)) (λ disk. ⊎_elim (λ still_there. inl (inr still_there)) (λ taken. inr taken) (later told n disk)) here)
+          (λ taken. inr (one n taken)) (r.made told n had)
 
   -- the disks that were out were given back
   pub all_in : (out : List ℕ → Type 0) (a b c : ShelfState D) → b.tells ≡ a.tells → ReturnsBut out a b → ReturnsAll b c → (IsTrue a.tells → (n : List ℕ) → out n → HasDisk c n) → ReturnsAll a c
-  all_in out a b c same r s back =
-      wider (with_places out a) a c (λ told. told) (λ n had. had) (λ told n had. ⊎_elim (λ was. inl was) (λ taken. inr (back told n taken)) had)
-      (all_after (with_places out a) b c same r s)
+  all_in out a b c same r s back = record {
+    made = λ told n has. ⊎_elim (λ had. before told n had) (λ disk. inr disk) (s.made (still a.tells b.tells same told) n has);
+    kept = λ told n had. ⊎_elim (λ disk. s.kept (still a.tells b.tells same told) n disk) (λ taken. back told n taken) (r.kept told n had);
+  }
+    where
+      before : IsTrue a.tells → (n : List ℕ) → b.has_place n → a.has_place n ⊎ HasDisk c n
+      before told n had =
+          ⊎_elim (λ here. ⊎_elim (λ was. inl was) (λ disk. inr (s.kept (still a.tells b.tells same told) n disk)) here) (λ taken. inr (back told n taken)) (r.made told n had)
 
-  pub node_in : (name : List ℕ) (disks : D × D) (a b c : ShelfState D) → b.tells ≡ a.tells → c.tells ≡ b.tells → ReturnsBut (IsDiskName name) a b → ReturnsAll b c → AreGivenBack c name disks → ReturnsAll a c
+  pub node_in : (name : List ℕ) (disks : D × D) (a b c : ShelfState D) → b.tells ≡ a.tells → c.tells ≡ b.tells → ReturnsBut (IsDiskName name) a b → ReturnsAll b c → AreGivenBack b c name disks → ReturnsAll a c
   node_in name disks a b c same still_told r s back =
-      all_in (IsDiskName name) a b c same r s (λ told n named. node_back c name disks back (still b.tells c.tells still_told (still a.tells b.tells same told)) n named)
+      all_in (IsDiskName name) a b c same r s (λ told n named. node_back b c name disks back (still b.tells c.tells still_told (still a.tells b.tells same told)) n named)

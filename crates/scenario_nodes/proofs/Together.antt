@@ -4,9 +4,9 @@ use Rattle.std.proofs.lemmas.List.{append-nil, append_assoc}
 use Rattle.std.proofs.lemmas.Option.{same_Some}
 use Rattle.std.specs.List.{AllByRecursion}
 use Rattle.disk_model.specs.Shelf.{IsGivenBack, KeepsOthers, SamePlaces, SameUnder, ShelfState}
-use Rattle.scenario_nodes.specs.Shelves.{AreGivenBack, HasBoth, HasDisk, IsDiskName, ReturnsAll, ReturnsBut, second_name}
+use Rattle.scenario_nodes.specs.Shelves.{AreGivenBack, HasBoth, HasDisk, IsDiskName, IsGivenIn, ReturnsAll, ReturnsBut, second_name}
 use Rattle.scenario_nodes.specs.Together.{AreApart, AreEach, GivesBack, HaveBoth, IsOfOne, Takes, TakesOrReturns}
-use Rattle.scenario_nodes.proofs.Returned.{all_after, all_in, all_same, but_after, but_of_all, but_wider, keeps_then, keeps_wider, node_back, places_here, places_then, still}
+use Rattle.scenario_nodes.proofs.Returned.{all_after, all_in, all_same, back_since, but_after, but_of_all, but_wider, keeps_then, keeps_wider, node_back, places_here, places_then, still}
 
 -- ---- one for each
 
@@ -178,29 +178,47 @@ module _ {D : Type 0} where
     only = λ d is. back.only d ((same d).0 is);
   }
 
-  pub back_stays : (a b : ShelfState D) (name : List ℕ) (disks : D × D) → b.tells ≡ a.tells → SameUnder name a b → SameUnder (second_name name) a b → AreGivenBack a name disks → AreGivenBack b name disks
-  back_stays a b name disks tells first second back = record {
-    first = disk_stays a b name disks.0 tells first back.first;
-    second = disk_stays a b (second_name name) disks.1 tells second back.second;
+  given_stays : (z a b : ShelfState D) (name : List ℕ) (disk : D) → b.tells ≡ a.tells → SameUnder name a b → b.gives name ≡ a.gives name → IsGivenIn z a name disk → IsGivenIn z b name disk
+  given_stays z a b name disk tells same unmoved given = record {
+    back = disk_stays a b name disk tells same given.back;
+    counted = λ told. let rose = given.counted told in omega (arith, rose, unmoved);
   }
 
-  -- a call for other nodes
-  pub backs_stay : (nodes : List (List ℕ)) (disks : List (D × D)) (Others : List ℕ → Type 0) (a b : ShelfState D) → ((n : List ℕ) → IsOfOne nodes n → ¬ Others n) → KeepsOthers Others a b
-      → AreEach (AreGivenBack a) nodes disks → AreEach (AreGivenBack b) nodes disks
-  backs_stay [] [] Others a b away keeps each = tt
-  backs_stay (x ∷ xs) (d ∷ ds) Others a b away keeps each = (
-    back_stays a b x d keeps.tells (keeps.others x (away x (inl (inl refl)))) (keeps.others (second_name x) (away (second_name x) (inl (inr refl)))) each.0,
-    backs_stay xs ds Others a b (λ n o. away n (inr o)) keeps each.1,
-  )
-  backs_stay [] (d ∷ ds) Others a b away keeps each = absurd each
-  backs_stay (x ∷ xs) [] Others a b away keeps each = absurd each
+  -- a call for other nodes; what is said of disks that were given back in an earlier one, or in both
+  pub one_stays : (Others : List ℕ → Type 0) (z a b : ShelfState D) (name : List ℕ) (disk : D) → ¬ Others name → KeepsOthers Others a b → IsGivenIn z a name disk → IsGivenIn z b name disk
+  one_stays Others z a b name disk away keeps given = given_stays z a b name disk keeps.tells (keeps.others name away) (keeps.unmoved name away) given
+
+  pub back_stays : (Others : List ℕ → Type 0) (z a b : ShelfState D) (name : List ℕ) (disks : D × D) → ((n : List ℕ) → IsDiskName name n → ¬ Others n) → KeepsOthers Others a b
+      → AreGivenBack z a name disks → AreGivenBack z b name disks
+  back_stays Others z a b name disks away keeps back = record {
+    first = one_stays Others z a b name disks.0 (away name (inl refl)) keeps back.first;
+    second = one_stays Others z a b (second_name name) disks.1 (away (second_name name) (inr refl)) keeps back.second;
+  }
+
+  pub backs_stay : (nodes : List (List ℕ)) (disks : List (D × D)) (Others : List ℕ → Type 0) (z a b : ShelfState D) → ((n : List ℕ) → IsOfOne nodes n → ¬ Others n) → KeepsOthers Others a b
+      → AreEach (AreGivenBack z a) nodes disks → AreEach (AreGivenBack z b) nodes disks
+  backs_stay [] [] Others z a b away keeps each = tt
+  backs_stay (x ∷ xs) (d ∷ ds) Others z a b away keeps each = (back_stays Others z a b x d (λ n named. away n (inl named)) keeps each.0, backs_stay xs ds Others z a b (λ n o. away n (inr o)) keeps each.1)
+  backs_stay [] (d ∷ ds) Others z a b away keeps each = absurd each
+  backs_stay (x ∷ xs) [] Others z a b away keeps each = absurd each
+
+  pub backs_since : (nodes : List (List ℕ)) (disks : List (D × D)) (Others : List ℕ → Type 0) (z a b : ShelfState D) → KeepsOthers Others z a → AreEach (AreGivenBack a b) nodes disks → AreEach (AreGivenBack z b) nodes disks
+  backs_since nodes disks Others z a b keeps each = each_weaker (AreGivenBack a b) (AreGivenBack z b) nodes disks (λ name d back. back_since Others z a b name d keeps back) each
 
   -- ---- taken
 
   pub takes_none : (a : ShelfState D) → Takes [] a a
   takes_none a = record {
     both = tt;
-    keeps = record { places = λ n had. had; made = λ n has. inl has; others = λ n other disk. ((λ here. here), (λ here. here)); faults = omega arith; tells = refl };
+    keeps = record {
+      places = λ n had. had;
+      made = λ n has. inl has;
+      others = λ n other disk. ((λ here. here), (λ here. here));
+      unmoved = λ n other. refl;
+      gives = λ n. omega arith;
+      faults = omega arith;
+      tells = refl;
+    };
     out = but_of_all (IsOfOne []) a a (all_same a);
   }
 
@@ -227,7 +245,7 @@ module _ {D : Type 0} where
   pub gives_none : (a : ShelfState D) → GivesBack [] [] a a
   gives_none a = record { back = tt; keeps = (takes_none a).keeps; places = places_here a; returned = all_same a }
 
-  pub gives_one : (name : List ℕ) (disks : D × D) (a b : ShelfState D) → AreGivenBack b name disks → KeepsOthers (IsDiskName name) a b → SamePlaces a b → ReturnsAll a b → GivesBack (name ∷ []) (disks ∷ []) a b
+  pub gives_one : (name : List ℕ) (disks : D × D) (a b : ShelfState D) → AreGivenBack a b name disks → KeepsOthers (IsDiskName name) a b → SamePlaces a b → ReturnsAll a b → GivesBack (name ∷ []) (disks ∷ []) a b
   gives_one name disks a b back keeps places returned = record {
     back = (back, tt);
     keeps = keeps_wider (IsDiskName name) (IsOfOne (name ∷ [])) a b (λ n named. inl named) keeps;
@@ -237,22 +255,22 @@ module _ {D : Type 0} where
 
   pub gives_then : (xs ys : List (List ℕ)) (ds es : List (D × D)) (a b c : ShelfState D) → ((n : List ℕ) → IsOfOne xs n → ¬ IsOfOne ys n) → GivesBack xs ds a b → GivesBack ys es b c → GivesBack (xs ++ ys) (ds ++ es) a c
   gives_then xs ys ds es a b c away one two = record {
-    back = each_append (AreGivenBack c) xs ys ds es (backs_stay xs ds (IsOfOne ys) b c away two.keeps one.back) two.back;
+    back = each_append (AreGivenBack a c) xs ys ds es (backs_stay xs ds (IsOfOne ys) a b c away two.keeps one.back) (backs_since ys es (IsOfOne xs) a b c one.keeps two.back);
     keeps = keeps_then (IsOfOne xs) (IsOfOne ys) (IsOfOne (xs ++ ys)) a b c (of_front xs ys) (of_behind xs ys) one.keeps two.keeps;
     places = places_then a b c one.places two.places;
     returned = all_after a b c one.keeps.tells one.returned two.returned;
   }
 
-  pub each_back : (nodes : List (List ℕ)) (disks : List (D × D)) (shelf : ShelfState D) → IsTrue shelf.tells → AreEach (AreGivenBack shelf) nodes disks → (n : List ℕ) → IsOfOne nodes n → HasDisk shelf n
-  each_back [] disks shelf told each n o = absurd o
-  each_back (x ∷ xs) [] shelf told each n o = absurd each
-  each_back (x ∷ xs) (d ∷ ds) shelf told each n o = ⊎_elim (λ named. node_back shelf x d each.0 told n named) (λ later. each_back xs ds shelf told each.1 n later) o
+  pub each_back : (nodes : List (List ℕ)) (disks : List (D × D)) (old shelf : ShelfState D) → IsTrue shelf.tells → AreEach (AreGivenBack old shelf) nodes disks → (n : List ℕ) → IsOfOne nodes n → HasDisk shelf n
+  each_back [] disks old shelf told each n o = absurd o
+  each_back (x ∷ xs) [] old shelf told each n o = absurd each
+  each_back (x ∷ xs) (d ∷ ds) old shelf told each n o = ⊎_elim (λ named. node_back old shelf x d each.0 told n named) (λ later. each_back xs ds old shelf told each.1 n later) o
 
   -- the disks of nodes were taken, perhaps a call came after it that returned all that it took, and they were given back
   pub returned_all : (nodes : List (List ℕ)) (disks : List (D × D)) (a b c d : ShelfState D) → Takes nodes a b → c.tells ≡ b.tells → ReturnsAll b c → GivesBack nodes disks c d → ReturnsAll a d
   returned_all nodes disks a b c d takes tells between gives =
       all_in (IsOfOne nodes) a b d takes.keeps.tells takes.out (all_after b c d tells between gives.returned)
-      (λ told n o. each_back nodes disks d (still c.tells d.tells gives.keeps.tells (still b.tells c.tells tells (still a.tells b.tells takes.keeps.tells told))) gives.back n o)
+      (λ told n o. each_back nodes disks c d (still c.tells d.tells gives.keeps.tells (still b.tells c.tells tells (still a.tells b.tells takes.keeps.tells told))) gives.back n o)
 
 -- ---- nodes closed one after the other
 
@@ -275,7 +293,7 @@ module _ {D : Type 0} (nodes : List (List ℕ)) (disks : List (D × D)) where
         (have_still old now (name ∷ nodes_more) (λ n had. (c.gives.places n).1 had)
         (all_behind (HasBoth old) c.nodes_closed (name ∷ nodes_more) (subst (HaveBoth old) c.nodes_are have))).0
 
-    pub closing_next : (new : ShelfState D) → AreApart nodes → AreGivenBack new name d → KeepsOthers (IsDiskName name) now new → SamePlaces now new → ReturnsAll now new → AreClosing nodes disks old new nodes_more disks_more
+    pub closing_next : (new : ShelfState D) → AreApart nodes → AreGivenBack now new name d → KeepsOthers (IsDiskName name) now new → SamePlaces now new → ReturnsAll now new → AreClosing nodes disks old new nodes_more disks_more
     closing_next new apart back keeps places returned = record {
       nodes_closed = c.nodes_closed ++ name ∷ [];
       disks_closed = c.disks_closed ++ d ∷ [];

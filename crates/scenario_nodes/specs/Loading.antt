@@ -1,6 +1,7 @@
 -- The resources of a scenario, loaded one by one and then started one by one.
 use Rattle.std.specs.Prelude.{◌≡◌, ◌++◌, List, ◌∷◌, ℕ, Result, Ok, Err}
 use Rattle.disk_model.specs.Disk.{DiskState}
+use Rattle.disk_model.specs.Shelf.{ShelfState}
 use Rattle.seata_types.specs.declared.errors.OpenError.{OpenError}
 use Rattle.scenario_form.specs.declared.scenarios.ResourceDef.{ResourceDef}
 use Rattle.scenario_form.specs.declared.scenarios.Scenario.{Scenario}
@@ -11,9 +12,9 @@ use Rattle.resource_core.specs.Shown.{stands_at}
 use Rattle.scenario_nodes.specs.Nodes.{IsLoadedResource}
 use Rattle.scenario_nodes.specs.Together.{AreEach}
 
--- these are the resources of these numbers, whose disks were read
-abbrev pub AreLoaded : {D : Type 0} → (D → DiskState) → Scenario → List (ℕ × ResourceDef) → List (Loaded D) → Type 0
-AreLoaded state s defs loaded = AreEach (λ one l. IsLoadedResource state s one.0 one.1 l) defs loaded
+-- these are the resources of these numbers, whose disks were taken of a shelf and read
+abbrev pub AreLoaded : {D : Type 0} → (D → DiskState) → ShelfState D → Scenario → List (ℕ × ResourceDef) → List (Loaded D) → Type 0
+AreLoaded state shelf s defs loaded = AreEach (λ one l. IsLoadedResource state shelf s one.0 one.1 l) defs loaded
 
 -- a resource that was loaded wrote its boot, and stands where it stood
 pub record WritesBoot {D : Type 0} (state : D → DiskState) (l : Loaded D) (r : Resource D) : Type 0 where

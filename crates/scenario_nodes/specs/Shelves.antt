@@ -1,7 +1,7 @@
 -- The two disks of a node on a shelf.
 use Rattle.std.specs.Prelude.{◌≡◌, ◌⊎◌, ◌++◌, ℕ, IsTrue, IsSome, List, codes}
-use Rattle.disk_model.specs.Disk.{DiskState}
-use Rattle.disk_model.specs.Shelf.{IsGivenBack, ShelfState}
+use Rattle.disk_model.specs.Disk.{DiskState, Rose}
+use Rattle.disk_model.specs.Shelf.{IsGivenBack, IsTaken, ShelfState, TakenAs}
 use Rattle.disk_model.specs.Stop.{with_stop}
 use Rattle.disk_model.specs.declared.stoppable.Stop.TheVariants.{Off}
 use Rattle.journal_checkpoint.specs.Images.{Pair}
@@ -41,10 +41,25 @@ pub record HasBoth {D : Type 0} (shelf : ShelfState D) (name : List ℕ) : Type 
   pub first : shelf.has_place name
   pub second : shelf.has_place (second_name name)
 
--- both disks of a node were given back, and no other ones
-pub record AreGivenBack {D : Type 0} (shelf : ShelfState D) (name : List ℕ) (disks : D × D) : Type 0 where
-  pub first : IsGivenBack shelf name disks.0
-  pub second : IsGivenBack shelf (second_name name) disks.1
+-- a disk was given back under a name in a call, where the shelf tells it, and no other one is there
+pub record IsGivenIn {D : Type 0} (old new : ShelfState D) (name : List ℕ) (disk : D) : Type 0 where
+  pub back : IsGivenBack new name disk
+  pub counted : IsTrue old.tells → Rose (old.gives name) (new.gives name)
+
+-- both disks of a node were given back in a call, and no other ones
+pub record AreGivenBack {D : Type 0} (old new : ShelfState D) (name : List ℕ) (disks : D × D) : Type 0 where
+  pub first : IsGivenIn old new name disks.0
+  pub second : IsGivenIn old new (second_name name) disks.1
+
+-- these are the two disks of a node that a shelf gives next: those of so many bytes that were last given back, or blank ones
+pub record AreTaken {D : Type 0} (state : D → DiskState) (shelf : ShelfState D) (bytes : ℕ) (name : List ℕ) (disks : D × D) : Type 0 where
+  pub first : IsTaken state (shelf.given_back name) bytes (state disks.0)
+  pub second : IsTaken state (shelf.given_back (second_name name)) bytes (state disks.1)
+
+-- the two disks of a node that a shelf gives next have these bytes
+pub record AreNext {D : Type 0} (state : D → DiskState) (shelf : ShelfState D) (bytes : ℕ) (name a b : List ℕ) : Type 0 where
+  pub first : TakenAs state (shelf.given_back name) bytes a
+  pub second : TakenAs state (shelf.given_back (second_name name)) bytes b
 
 -- ---- each disk that was taken is given back
 
@@ -57,10 +72,7 @@ pub record ReturnsAll {D : Type 0} (old new : ShelfState D) : Type 0 where
   pub made : IsTrue old.tells → (n : List ℕ) → new.has_place n → old.has_place n ⊎ HasDisk new n
   pub kept : IsTrue old.tells → (n : List ℕ) → HasDisk old n → HasDisk new n
 
--- a shelf with the places of these names, as if their disks were taken before
-abbrev pub with_places : {D : Type 0} → (out : List ℕ → Type 0) → ShelfState D → ShelfState D
-with_places out shelf = record shelf { has_place = λ n. shelf.has_place n ⊎ out n }
-
--- the same but for the places of these names, whose disks may be out
-abbrev pub ReturnsBut : {D : Type 0} → (out : List ℕ → Type 0) → (old new : ShelfState D) → Type 0
-ReturnsBut out old new = ReturnsAll (with_places out old) new
+-- the same but for these names, whose disks may be out
+pub record ReturnsBut {D : Type 0} (out : List ℕ → Type 0) (old new : ShelfState D) : Type 0 where
+  pub made : IsTrue old.tells → (n : List ℕ) → new.has_place n → (old.has_place n ⊎ HasDisk new n) ⊎ out n
+  pub kept : IsTrue old.tells → (n : List ℕ) → HasDisk old n → HasDisk new n ⊎ out n

@@ -53,7 +53,7 @@ pub record TakesOrReturns {D A E : Type 0} (nodes : List (List ℕ)) (old new : 
 
 -- These pairs of disks were given back, one for each of these nodes, and nothing else was done.
 pub record GivesBack {D : Type 0} (nodes : List (List ℕ)) (disks : List (D × D)) (old new : ShelfState D) : Type 0 where
-  pub back : AreEach (AreGivenBack new) nodes disks
+  pub back : AreEach (AreGivenBack old new) nodes disks
   pub keeps : KeepsOthers (IsOfOne nodes) old new
   pub places : SamePlaces old new
   pub returned : ReturnsAll old new

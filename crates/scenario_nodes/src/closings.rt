@@ -45,7 +45,8 @@ pub(crate) fn close_loaded<H: Shelf>(
 fn close_resource<H: Shelf>(shelf: &mut H, name: &str, second: &str, resource: Resource<H::D>)
     requires second { second.now ≡ second_name name.now }
     requires both { HasBoth (H.state shelf.old) name.now }
-    ensures back { AreGivenBack (H.state shelf.new) name.now (resource_disks resource) }
+    ensures back { AreGivenBack (H.state shelf.old) (H.state shelf.new)
+        name.now (resource_disks resource) }
     ensures keeps { KeepsOthers (IsDiskName name.now) (H.state shelf.old) (H.state shelf.new) }
     ensures places { SamePlaces (H.state shelf.old) (H.state shelf.new) }
     ensures returned { ReturnsAll (H.state shelf.old) (H.state shelf.new) }

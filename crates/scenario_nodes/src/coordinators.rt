@@ -3,7 +3,7 @@ ghost use Rattle.std.specs.Prelude.{length, IfOk, IfErr, OnErr, OnOk};
 ghost use Rattle.disk_model.specs.Shelf.{KeepsOthers, SamePlaces};
 ghost use Rattle.scenario_form.specs.Runnable.{IsRunnable};
 ghost use Rattle.scenario_nodes.specs.Shelves.{AreGivenBack, HasBoth, IsDiskName, ReturnsAll, ReturnsBut, coordinator_name};
-ghost use Rattle.scenario_nodes.specs.Nodes.{IsNewCoordinator, coordinator_disks, coordinator_role};
+ghost use Rattle.scenario_nodes.specs.Nodes.{Held, IsNewCoordinator, coordinator_disks, coordinator_server};
 ghost use Rattle.scenario_nodes.specs.Opening.{IsNotOpened};
 
 use crate::disks::{FIRST_DISK, SECOND_DISK, give_disks, take_disks};
@@ -22,11 +22,12 @@ pub(crate) fn open_coordinator<H: Shelf>(
     shelf: &mut H,
 ) -> Result<Coordinator<H::D>, RunFault>
     requires { IsRunnable scenario.now }
-    ensures new { IfOk result (IsNewCoordinator H.D.state scenario.now
+    ensures new { IfOk result (IsNewCoordinator H.D.state (H.state shelf.old) scenario.now
         (length scenario.now.managers) (length scenario.now.resources)) }
     ensures both { OnOk result (HasBoth (H.state shelf.new) coordinator_name) }
-    ensures refused { IfErr result (IsNotOpened H.D.state (H.state shelf.old) (H.state shelf.new)
-        (coordinator_role scenario.now) coordinator_name scenario.now.disk) }
+    ensures refused { IfErr result (λ fault. (held : Held) →
+        IsNotOpened H.D.state scenario.now (H.state shelf.old) (H.state shelf.new)
+        (coordinator_server scenario.now held) fault) }
     ensures keeps { KeepsOthers (IsDiskName coordinator_name)
         (H.state shelf.old) (H.state shelf.new) }
     ensures out { OnOk result (ReturnsBut (IsDiskName coordinator_name)
@@ -65,7 +66,7 @@ pub(crate) fn open_coordinator<H: Shelf>(
 /// Gives the coordinator's two disks back.
 pub(crate) fn close_coordinator<H: Shelf>(shelf: &mut H, coordinator: Coordinator<H::D>)
     requires { HasBoth (H.state shelf.old) coordinator_name }
-    ensures back { AreGivenBack (H.state shelf.new)
+    ensures back { AreGivenBack (H.state shelf.old) (H.state shelf.new)
         coordinator_name (coordinator_disks coordinator) }
     ensures keeps { KeepsOthers (IsDiskName coordinator_name)
         (H.state shelf.old) (H.state shelf.new) }

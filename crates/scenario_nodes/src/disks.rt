@@ -1,7 +1,7 @@
 //! The two disks of a node, from the shelf and back.
 ghost use Rattle.std.specs.Prelude.{◌≡◌, ◌<◌, ◌^◌, IfOk, IfErr, OnErr, OnOk, string_bytes};
-ghost use Rattle.disk_model.specs.Shelf.{IsBlank, KeepsOthers, SamePlaces};
-ghost use Rattle.scenario_nodes.specs.Shelves.{AreGivenBack, HasBoth, IsDiskName, ReturnsAll, ReturnsBut};
+ghost use Rattle.disk_model.specs.Shelf.{KeepsOthers, SamePlaces};
+ghost use Rattle.scenario_nodes.specs.Shelves.{AreGivenBack, AreTaken, HasBoth, IsDiskName, ReturnsAll, ReturnsBut};
 ghost use Rattle.scenario_nodes.specs.Shelves.{second_name as name_of_second};
 ghost use Rattle.scenario_nodes.specs.Opening.{IsNotHad};
 
@@ -47,8 +47,7 @@ pub(crate) fn take_disks<H: Shelf>(
 ) -> Result<(H::D, H::D), RunFault>
     requires size { size < 2 ^ 32 }
     requires second { second.now ≡ name_of_second first.now }
-    ensures first { IfOk result (λ disks. IsBlank size (H.D.state disks.0)) }
-    ensures second { IfOk result (λ disks. IsBlank size (H.D.state disks.1)) }
+    ensures taken { IfOk result (AreTaken H.D.state (H.state shelf.old) size first.now) }
     ensures both { OnOk result (HasBoth (H.state shelf.new) first.now) }
     ensures refused { IfErr result (IsNotHad H.D.state size place
         (H.state shelf.old) (H.state shelf.new) first.now) }
@@ -74,7 +73,7 @@ pub(crate) fn take_disks<H: Shelf>(
 pub(crate) fn give_disks<H: Shelf>(shelf: &mut H, first: &str, second: &str, disks: (H::D, H::D))
     requires second { second.now ≡ name_of_second first.now }
     requires both { HasBoth (H.state shelf.old) first.now }
-    ensures back { AreGivenBack (H.state shelf.new) first.now disks }
+    ensures back { AreGivenBack (H.state shelf.old) (H.state shelf.new) first.now disks }
     ensures keeps { KeepsOthers (IsDiskName first.now) (H.state shelf.old) (H.state shelf.new) }
     ensures places { SamePlaces (H.state shelf.old) (H.state shelf.new) }
     ensures returned { ReturnsAll (H.state shelf.old) (H.state shelf.new) }

@@ -4,6 +4,7 @@
 mod closings;
 mod coordinators;
 mod disks;
+mod laws;
 mod loading;
 mod managers;
 mod openings;
@@ -12,6 +13,7 @@ mod setups;
 mod types;
 
 pub use closings::close_servers;
+pub use laws::unused_shelves_hold_none;
 pub use managers::new_manager;
 pub use openings::{open_servers, second_names};
 pub use servers::Servers;

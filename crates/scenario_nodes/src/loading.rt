@@ -8,7 +8,7 @@ ghost use Rattle.scenario_form.specs.Runnable.{IsRunnable, resource_name};
 ghost use Rattle.resource_core.specs.NodeOpening.{IsUp};
 ghost use Rattle.scenario_nodes.specs.Shelves.{IsDiskName, ReturnsAll, second_name};
 ghost use Rattle.scenario_nodes.specs.Together.{AreSecondNames, Takes, TakesOrReturns, numbered};
-ghost use Rattle.scenario_nodes.specs.Nodes.{IsLoadedResource, resource_server, resource_servers};
+ghost use Rattle.scenario_nodes.specs.Nodes.{Held, IsLoadedResource, resource_server, resource_servers};
 ghost use Rattle.scenario_nodes.specs.Opening.{IsNotLoaded, StopsLoading};
 ghost use Rattle.scenario_nodes.specs.Loading.{AreLoaded, WriteBoots};
 
@@ -37,11 +37,13 @@ fn load_resource<H: Shelf>(
     requires counted { IsBetween 1 (length scenario.now.resources) number }
     requires there { slice_get scenario.now.resources (number - 1) ≡ Some def.now }
     requires second { second.now ≡ second_name def.now.name }
-    ensures loaded { IfOk result (IsLoadedResource H.D.state scenario.now number def.now) }
+    ensures loaded { IfOk result (IsLoadedResource H.D.state (H.state shelf.old)
+        scenario.now number def.now) }
     ensures takes { OnOk result (Takes (def.now.name ∷ [])
         (H.state shelf.old) (H.state shelf.new)) }
-    ensures refused { IfErr result (IsNotLoaded H.D.state scenario.now.disk
-        (H.state shelf.old) (H.state shelf.new) (resource_server scenario.now (number, def.now))) }
+    ensures refused { IfErr result (λ fault. (held : Held) →
+        IsNotLoaded H.D.state scenario.now (H.state shelf.old) (H.state shelf.new)
+        (resource_server scenario.now held (number, def.now)) fault) }
     ensures keeps { KeepsOthers (IsDiskName def.now.name) (H.state shelf.old) (H.state shelf.new) }
     ensures returned { OnErr result (ReturnsAll (H.state shelf.old) (H.state shelf.new)) }
 {
@@ -79,10 +81,11 @@ pub(crate) fn load_resources<H: Shelf>(
     requires seconds { AreSecondNames (map resource_name scenario.now.resources) seconds.now }
     requires none { loaded.items ≡ [] }
     requires room { length scenario.now.resources ≤ deque_capacity loaded }
-    ensures loaded { IfOk result (λ loaded.
-        AreLoaded H.D.state scenario.now (numbered 1 scenario.now.resources) loaded.items) }
-    ensures refused { IfErr result (StopsLoading H.D.state scenario.now.disk
-        (resource_servers scenario.now) (H.state shelf.old) (H.state shelf.new)) }
+    ensures loaded { IfOk result (λ loaded. AreLoaded H.D.state (H.state shelf.old)
+        scenario.now (numbered 1 scenario.now.resources) loaded.items) }
+    ensures refused { IfErr result (λ fault. (held : Held) →
+        StopsLoading H.D.state scenario.now (resource_servers scenario.now held)
+        (H.state shelf.old) (H.state shelf.new) fault) }
     ensures shelf { TakesOrReturns (map resource_name scenario.now.resources)
         (H.state shelf.old) (H.state shelf.new) result }
 {

@@ -3,7 +3,7 @@ ghost use Rattle.std.specs.Prelude.{◌≡◌, ◌≤◌, [], map, length, vec_c
 ghost use Rattle.std.specs.VecDeque.{deque_capacity};
 ghost use Rattle.scenario_form.specs.Runnable.{IsRunnable, resource_name};
 ghost use Rattle.scenario_nodes.specs.Nodes.{AreNewResources, AreNewServers, resource_servers, server_names, servers_of};
-ghost use Rattle.scenario_nodes.specs.Opening.{AreNotOpened};
+ghost use Rattle.scenario_nodes.specs.Opening.{NodesNotOpened};
 ghost use Rattle.scenario_nodes.specs.Together.{AreSecondNames, TakesOrReturns, numbered};
 
 use crate::closings::close_all;
@@ -47,9 +47,9 @@ fn open_resources<H: Shelf>(
     requires room_loaded { length scenario.now.resources ≤ deque_capacity loaded }
     requires none_started { started.items ≡ [] }
     requires room_started { length scenario.now.resources ≤ vec_capacity started }
-    ensures new { IfOk result (λ resources. AreNewResources H.D.state scenario.now
-        (numbered 1 scenario.now.resources) resources.items) }
-    ensures refused { IfErr result (AreNotOpened H.D.state scenario.now.disk
+    ensures new { IfOk result (λ resources. AreNewResources H.D.state (H.state shelf.old)
+        scenario.now (numbered 1 scenario.now.resources) resources.items) }
+    ensures refused { IfErr result (NodesNotOpened H.D.state scenario.now
         (resource_servers scenario.now) (H.state shelf.old) (H.state shelf.new)) }
     ensures shelf { TakesOrReturns (map resource_name scenario.now.resources)
         (H.state shelf.old) (H.state shelf.new) result }
@@ -80,8 +80,8 @@ pub fn open_servers<H: Shelf>(
 ) -> Result<Servers<H::D>, RunFault>
     requires runnable { IsRunnable scenario.now }
     requires seconds { AreSecondNames (map resource_name scenario.now.resources) seconds.now }
-    ensures new { IfOk result (AreNewServers H.D.state scenario.now) }
-    ensures refused { IfErr result (AreNotOpened H.D.state scenario.now.disk
+    ensures new { IfOk result (AreNewServers H.D.state (H.state shelf.old) scenario.now) }
+    ensures refused { IfErr result (NodesNotOpened H.D.state scenario.now
         (servers_of scenario.now) (H.state shelf.old) (H.state shelf.new)) }
     ensures shelf { TakesOrReturns (server_names scenario.now)
         (H.state shelf.old) (H.state shelf.new) result }

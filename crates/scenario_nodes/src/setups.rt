@@ -8,7 +8,7 @@ ghost use Rattle.scenario_form.specs.Runnable.{IsRunnable};
 ghost use Rattle.history_text.specs.Worlds as worlds;
 ghost use Rattle.resource_core.specs.NodeOpening.{IsSetupWithin, setup_at};
 ghost use Rattle.resource_core.specs.Ready.{HasActionWithin, HasStmtsWithin};
-ghost use Rattle.resource_core.specs.Setups.{actions_of as entries_of};
+ghost use Rattle.resource_rules.specs.Setups.{actions_of as entries_of};
 ghost use Rattle.scenario_nodes.specs.Calls as calls;
 ghost use Rattle.scenario_nodes.specs.Calls.{HasReadCalls, IsReadCall, IsReadLocal};
 

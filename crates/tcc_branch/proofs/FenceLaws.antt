@@ -1,7 +1,6 @@
 -- What the fences that are known answer against those of the records, and so each answer.
-use Rattle.std.proofs.Common.{◌≡◌, ◌∙◌, ◌≤◌, ℕ, length, zero, suc, true, false, List, Option, Some, None, Result, refl, sym, ap, ap₂, subst, true≢false}
+use Rattle.std.proofs.Common.{◌≡◌, ◌∙◌, ℕ, zero, suc, true, List, Option, Some, None, Result, refl, sym, ap, ap₂, subst, true≢false}
 use Rattle.std.specs.Prelude.{IfSome}
-use Rattle.seata_types.specs.declared.limits.TheConstants.{FIELD_ITEMS}
 use Rattle.disk_model.specs.Disk.{DiskState}
 use Rattle.seata_types.specs.declared.errors.StoreError.{StoreError}
 use Rattle.seata_types.specs.declared.ids.Leg.{Leg}
@@ -11,20 +10,16 @@ use Rattle.seata_types.specs.declared.statements.Work.{Work}
 use Rattle.seata_types.specs.declared.statements.Work.TheVariants as work
 use Rattle.local_tables.specs.Calls.{effect}
 use Rattle.local_tables.specs.Rows.{Database}
-use Rattle.durable_records.specs.declared.resources.ResourceRecord.TheVariants as log
-use Rattle.durable_records.specs.Fences.{FenceAnswer, on_try, on_confirm, on_cancel}
-use Rattle.tcc_fence.specs.Meanings.{fence_at}
+use Rattle.durable_records.specs.Fences.{on_try}
 use Rattle.local_txn.specs.OpenTickets.{Open}
 use Rattle.local_txn.specs.Answers.{owner_by, open_of}
 use Rattle.local_txn.specs.declared.transactions.OpenTxn.{OpenTxn}
 use Rattle.history_rules.specs.ResourceMemory.{call_of, tries_of}
 use Rattle.resource_store.specs.declared.store.Store.{Store}
 use Rattle.resource_store.specs.Keeping.{setting_of, known}
-use Rattle.resource_store.specs.Answers.{Answer, Gives, GivesBy, HasPlaces, tables_now}
+use Rattle.resource_store.specs.Answers.{Answer, Gives, GivesBy, tables_now}
 use Rattle.resource_store.proofs.AnswerLaws.{fence_of, tables_of}
 use Rattle.tcc_branch.specs.Tries.{tcc_granted, granted, granted_on, is_tcc_call}
-use Rattle.tcc_branch.specs.SecondPhase.{tcc_commit, confirmed, confirmed_on, tcc_rollback, cancelled, cancelled_on}
-use Rattle.tcc_branch.specs.declared.answers.TccAnswer.{TccAnswer}
 use Rattle.tcc_branch.specs.declared.answers.TryAnswer.{TryAnswer}
 
 module _ {D : Type 0} (state : D → DiskState) (old new : Store D) (leg : Leg) where
@@ -35,24 +30,6 @@ module _ {D : Type 0} (state : D → DiskState) (old new : Store D) (leg : Leg) 
       (tables_of state (setting_of old) rs old k) (ap on_try (fence_of state (setting_of old) rs old k leg)) in
       subst (λ (f : Option Open). Gives state (granted leg f (tables_now (setting_of old) rs) rs) result old new) (sym is)
       (subst (λ (a : Answer TryAnswer). Gives state a result old new) path gives)
-
-  -- a Confirm
-  pub confirms : (action : Action) (result : Result TccAnswer StoreError) → Gives state (confirmed_on (known old) leg action.confirms) result old new → GivesBy state (confirmed leg action) result old new
-  confirms action result gives = λ rs k.
-      let path = ap₂ (λ (db : Database) answer. tcc_commit leg (effect db action.confirms) answer)
-      (tables_of state (setting_of old) rs old k) (ap on_confirm (fence_of state (setting_of old) rs old k leg)) in
-      subst (λ (a : Answer TccAnswer). Gives state a result old new) path gives
-
-  -- a Cancel
-  pub cancels : (action : Action) (result : Result TccAnswer StoreError) → Gives state (cancelled_on (known old) leg action.cancels) result old new → GivesBy state (cancelled leg action) result old new
-  cancels action result gives = λ rs k.
-      let path = ap₂ (λ (db : Database) answer. tcc_rollback leg (effect db action.cancels) answer)
-      (tables_of state (setting_of old) rs old k) (ap on_cancel (fence_of state (setting_of old) rs old k leg)) in
-      subst (λ (a : Answer TccAnswer). Gives state a result old new) path gives
-
-  -- by what the fence answers
-  pub fenced : {A : Type 0} (answers : FenceAnswer → Answer A) (result : Result A StoreError) (one other : FenceAnswer) → one ≡ other → Gives state (answers one) result old new → Gives state (answers other) result old new
-  fenced answers result one other same gives = subst (λ (a : FenceAnswer). Gives state (answers a) result old new) same gives
 
 -- ---- the call and the statements of a ticket
 
@@ -74,26 +51,11 @@ module _ (txn : OpenTxn) (a : Action) (is : txn.work ≡ work.Tcc a) (kind : is_
   kind_is : is_tcc_call (owner_by txn.xid.0 txn.manager txn.call (work.Tcc a)) ≡ true
   kind_is = subst (λ (w : Work). is_tcc_call (owner_by txn.xid.0 txn.manager txn.call w) ≡ true) is kind
 
-  call_at : call_of (open_of txn).owner ≡ txn.call
+  pub call_at : call_of (open_of txn).owner ≡ txn.call
   call_at = call_is txn.xid.0 txn.manager txn.call txn.work kind
 
-  tries_at : tries_of (open_of txn).owner ≡ a.tries
+  pub tries_at : tries_of (open_of txn).owner ≡ a.tries
   tries_at = ap (λ (w : Work). tries_of (owner_by txn.xid.0 txn.manager txn.call w)) is ∙ tries_are txn.xid.0 txn.manager txn.call a kind_is
-
-  module _ (ss : List Stmt) (same : ss ≡ a.tries) where
-    pub few_statements : length (tries_of (open_of txn).owner) ≤ FIELD_ITEMS → length ss ≤ FIELD_ITEMS
-    few_statements few = subst (λ (l : List Stmt). length l ≤ FIELD_ITEMS) (tries_at ∙ sym same) few
-
-    pub tries_places : (db : Database) (leg : Leg) → HasPlaces db (tries_of (open_of txn).owner) (log.Tried leg.xid leg.branch (call_of (open_of txn).owner)) → HasPlaces db ss (log.Tried leg.xid leg.branch txn.call)
-    tries_places db leg places =
-        subst (λ (l : List Stmt). HasPlaces db l (log.Tried leg.xid leg.branch txn.call)) (tries_at ∙ sym same)
-        (subst (λ (c : ℕ). HasPlaces db (tries_of (open_of txn).owner) (log.Tried leg.xid leg.branch c)) call_at places)
-
-    pub try_gives : {D : Type 0} (state : D → DiskState) (old new : Store D) (leg : Leg) (result : Result TryAnswer StoreError) →
-        Gives state (tcc_granted leg txn.call (effect (known old).tables ss) (on_try (fence_at (known old).fences leg))) result old new → Gives state (granted_on (known old) leg (open_of txn)) result old new
-    try_gives state old new leg result gives =
-        let path = ap₂ (λ (c : ℕ) (l : List Stmt). tcc_granted leg c (effect (known old).tables l) (on_try (fence_at (known old).fences leg))) (sym call_at) (same ∙ sym tries_at) in
-        subst (λ (x : Answer TryAnswer). Gives state x result old new) path gives
 
 -- and none of statements
 pub of_no_call : {A : Type 0} (txn : OpenTxn) (stmts : List Stmt) → txn.work ≡ work.At stmts → is_tcc_call (open_of txn).owner ≡ true → A

@@ -1,4 +1,5 @@
 pub mod FenceLaws
-pub mod FailureLaws
+pub mod GrantLaws
 pub mod StayLaws
 pub mod StepLaws
+pub mod EndLaws

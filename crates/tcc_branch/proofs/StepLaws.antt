@@ -14,8 +14,7 @@ use Rattle.history_rules.specs.CoordinatorRules.{xid_of, branch_of}
 use Rattle.history_rules.specs.ResourceMemory.{Setup, opening_tables}
 use Rattle.history_rules.specs.ResourceRules as rules
 use Rattle.tcc_branch.specs.Tries.{try_touched, try_meant}
-use Rattle.tcc_branch.specs.SecondPhase.{confirm_runs, cancel_runs}
-use Rattle.tcc_branch.specs.Steps.{try_step, confirm_step, cancel_step, TriesByRules, ConfirmsByRules, CancelsByRules}
+use Rattle.tcc_branch.specs.Steps.{try_step, TriesByRules}
 
 module _ (s : Setup) (rs : List ResourceRecord) (opens : List Open) (next : Ticket) (x b : ℕ) where
   abbrev leg : Leg
@@ -30,28 +29,8 @@ module _ (s : Setup) (rs : List ResourceRecord) (opens : List Open) (next : Tick
     meant (Err (index, error)) = refl
     meant (Ok e) = touched e (rules.untouched 1 e.touched)
 
-  confirm_is : (r : Result Effect (ℕ × StmtError)) → rules.confirm_runs s rs opens next x b r ≡ confirm_step x b (confirm_runs leg r).told
-  confirm_is (Err (index, error)) = refl
-  confirm_is (Ok e) = refl
-
-  cancel_is : (r : Result Effect (ℕ × StmtError)) → rules.cancel_runs s rs opens next x b r ≡ cancel_step x b (cancel_runs leg r).told
-  cancel_is (Err (index, error)) = refl
-  cancel_is (Ok e) = refl
-
 pub tries_by_rules : TriesByRules
 tries_by_rules s rs opens next o m x c b a Runs = meant s rs opens next x b o m c (effect (tables (opening_tables s) rs) a.tries)
 tries_by_rules s rs opens next o m x c b a WasDone = refl
 tries_by_rules s rs opens next o m x c b a Suspends = refl
 tries_by_rules s rs opens next o m x c b a Refuses = refl
-
-pub confirms_by_rules : ConfirmsByRules
-confirms_by_rules s rs opens next x b a Runs = confirm_is s rs opens next x b (effect (tables (opening_tables s) rs) a.confirms)
-confirms_by_rules s rs opens next x b a WasDone = refl
-confirms_by_rules s rs opens next x b a Suspends = refl
-confirms_by_rules s rs opens next x b a Refuses = refl
-
-pub cancels_by_rules : CancelsByRules
-cancels_by_rules s rs opens next x b a Runs = cancel_is s rs opens next x b (effect (tables (opening_tables s) rs) a.cancels)
-cancels_by_rules s rs opens next x b a WasDone = refl
-cancels_by_rules s rs opens next x b a Suspends = refl
-cancels_by_rules s rs opens next x b a Refuses = refl

@@ -1,4 +1,3 @@
 pub mod Tries
 pub mod SecondPhase
-pub mod Failures
 pub mod Steps

@@ -1,60 +1,61 @@
--- The second phase of a TCC branch: what its Confirm and its Cancel answer, by the records and the tables.
-use Rattle.std.specs.Prelude.{ℕ, List, Result, Ok, Err}
-use Rattle.seata_types.specs.declared.errors.StmtError.{StmtError}
+-- The second phase of a TCC branch: what its Confirm and its Cancel ask of a resource that has this action, and what the act that it
+-- answers by its rules tells.
+use Rattle.std.specs.Prelude.{List, [], ◌∷◌, Result}
+use Rattle.disk_model.specs.Disk.{DiskState}
+use Rattle.seata_types.specs.declared.acts.Act.{Act}
+use Rattle.seata_types.specs.declared.acts.Act.TheVariants as act
+use Rattle.seata_types.specs.declared.acts.Durable.TheVariants as durable
+use Rattle.seata_types.specs.declared.errors.StoreError.{StoreError}
 use Rattle.seata_types.specs.declared.ids.Leg.{Leg}
+use Rattle.seata_types.specs.declared.ids.Place.TheVariants as place
+use Rattle.seata_types.specs.declared.messages.Input.{Input}
+use Rattle.seata_types.specs.declared.messages.Input.TheVariants as input
+use Rattle.seata_types.specs.declared.messages.Message.TheVariants as message
 use Rattle.seata_types.specs.declared.statements.Action.{Action}
 use Rattle.seata_types.specs.declared.statements.Stmt.{Stmt}
-use Rattle.local_tables.specs.Calls.{effect}
-use Rattle.local_tables.specs.Rows.{Database}
-use Rattle.local_tables.specs.declared.schemas.Effect.{Effect}
-use Rattle.durable_records.specs.declared.resources.ResourceRecord.{ResourceRecord}
-use Rattle.durable_records.specs.declared.resources.ResourceRecord.TheVariants as log
-use Rattle.durable_records.specs.Fences.{FenceAnswer, Runs, WasDone, Suspends, Refuses, fence, on_confirm, on_cancel}
-use Rattle.tcc_fence.specs.Meanings.{fence_at}
+use Rattle.seata_types.specs.declared.statuses.BranchKind.TheVariants as kind
 use Rattle.resource_memory.specs.Known.{Known}
-use Rattle.resource_store.specs.Answers.{Answer, only, making}
+use Rattle.resource_rules.specs.Apart.{confirms_on, cancels_on}
+use Rattle.resource_rules.specs.declared.setups.Setup.{Setup as TheSetup}
+use Rattle.resource_store.specs.declared.store.Store.{Store}
+use Rattle.rule_calls.specs.Calls.{GivesAs}
 use Rattle.tcc_branch.specs.declared.answers.TccAnswer.{TccAnswer}
 use Rattle.tcc_branch.specs.declared.answers.TccAnswer.TheVariants as tcc
 
--- ---- Confirm
+-- ---- what is asked
 
--- a Confirm that runs: the first statement without meaning, else its statements ran
-abbrev pub confirm_runs : Leg → Result Effect (ℕ × StmtError) → Answer TccAnswer
-confirm_runs leg (Err (index, error)) = only (tcc.ActionFailed index error)
-confirm_runs leg (Ok e) = making (log.Confirmed leg.xid leg.branch e.images) tcc.Ran
+-- a resource with this action, as that of call 1 of manager 1
+abbrev pub acting : Action → TheSetup
+acting action = record { number = 0; tries = 0; actions = (1, 1, action) ∷ []; locals = [] }
 
--- by the fence
-abbrev pub tcc_commit : Leg → Result Effect (ℕ × StmtError) → FenceAnswer → Answer TccAnswer
-tcc_commit leg meaning WasDone = only tcc.Already
-tcc_commit leg meaning Runs = confirm_runs leg meaning
-tcc_commit leg meaning _ = only tcc.Refused
+-- the coordinator asks for the Confirm of a branch of that call, and for its Cancel
+abbrev pub confirming : Leg → Input
+confirming leg = input.Message place.Tc (message.BranchCommit leg.xid leg.branch kind.Tcc 1 1)
 
--- a Confirm, by the branch's fence and the effect of its statements on the tables
-abbrev pub confirmed : Leg → Action → Database → List ResourceRecord → Answer TccAnswer
-confirmed leg action db rs = tcc_commit leg (effect db action.confirms) (on_confirm (fence rs leg.xid.0 leg.branch.0))
+abbrev pub cancelling : Leg → Input
+cancelling leg = input.Message place.Tc (message.BranchRollback leg.xid leg.branch kind.Tcc 1 1)
 
--- ---- Cancel
+-- ---- what is told
 
--- a Cancel that runs: the first statement without meaning, else its statements ran
-abbrev pub cancel_runs : Leg → Result Effect (ℕ × StmtError) → Answer TccAnswer
-cancel_runs leg (Err (index, error)) = only (tcc.ActionFailed index error)
-cancel_runs leg (Ok e) = making (log.Cancelled leg.xid leg.branch e.images) tcc.Ran
+-- suspended, ran, already, failed, else refused
+abbrev pub ended_by : Act → TccAnswer
+ended_by (act.Durable (durable.Suspended xid branch)) = tcc.Suspended
+ended_by (act.Durable _) = tcc.Ran
+ended_by (act.Already xid branch) = tcc.Already
+ended_by (act.Unable xid branch index error) = tcc.ActionFailed index error
+ended_by _ = tcc.Refused
 
--- by the fence
-abbrev pub tcc_rollback : Leg → Result Effect (ℕ × StmtError) → FenceAnswer → Answer TccAnswer
-tcc_rollback leg meaning WasDone = only tcc.Already
-tcc_rollback leg meaning Refuses = only tcc.Refused
-tcc_rollback leg meaning Suspends = making (log.Suspended leg.xid leg.branch) tcc.Suspended
-tcc_rollback leg meaning Runs = cancel_runs leg meaning
+-- the same by what is known, whatever the disks keep
+abbrev pub confirmed_on : Known → Leg → (confirms : List Stmt) → TccAnswer
+confirmed_on k leg confirms = ended_by (confirms_on k leg confirms).step.act
 
--- a Cancel, by the branch's fence and the effect of its statements on the tables
-abbrev pub cancelled : Leg → Action → Database → List ResourceRecord → Answer TccAnswer
-cancelled leg action db rs = tcc_rollback leg (effect db action.cancels) (on_cancel (fence rs leg.xid.0 leg.branch.0))
+abbrev pub cancelled_on : Known → Leg → (cancels : List Stmt) → TccAnswer
+cancelled_on k leg cancels = ended_by (cancels_on k leg cancels).step.act
 
--- ---- the same by what is known
+-- ---- what is given, by the records that are kept
 
-abbrev pub confirmed_on : Known → Leg → (confirms : List Stmt) → Answer TccAnswer
-confirmed_on k leg confirms = tcc_commit leg (effect k.tables confirms) (on_confirm (fence_at k.fences leg))
+abbrev pub Confirms : {D : Type 0} → (D → DiskState) → Leg → Action → Result TccAnswer StoreError → Store D → Store D → Type 0
+Confirms state leg action result old new = GivesAs state ended_by (acting action) (confirming leg) [] result old new
 
-abbrev pub cancelled_on : Known → Leg → (cancels : List Stmt) → Answer TccAnswer
-cancelled_on k leg cancels = tcc_rollback leg (effect k.tables cancels) (on_cancel (fence_at k.fences leg))
+abbrev pub Cancels : {D : Type 0} → (D → DiskState) → Leg → Action → Result TccAnswer StoreError → Store D → Store D → Type 0
+Cancels state leg action result old new = GivesAs state ended_by (acting action) (cancelling leg) [] result old new

@@ -1,6 +1,8 @@
 -- What a grant does to a TCC branch: whether its Try runs, by the records, the tables and the open tickets.
 use Rattle.std.specs.Prelude.{◌≡◌, ℕ, ◌≤◌, Bool, true, false, List, length, Option, Some, None, Result, Ok, Err}
 use Rattle.seata_types.specs.declared.limits.TheConstants.{FIELD_ITEMS}
+use Rattle.seata_types.specs.declared.acts.Act.{Act}
+use Rattle.seata_types.specs.declared.acts.Act.TheVariants as act
 use Rattle.seata_types.specs.declared.errors.StmtError.{StmtError}
 use Rattle.seata_types.specs.declared.errors.StoreError.{StoreError}
 use Rattle.seata_types.specs.declared.errors.Why.TheVariants as why
@@ -69,6 +71,12 @@ StaysUnlessTried (Ok (tries.Refused cause)) old new = new ≡ old
 StaysUnlessTried (Ok tries.NotOpen) old new = new ≡ old
 StaysUnlessTried (Err e) old new = Unit {0}
 
+-- what the act of a resource's rules tells: tried, refused, else not open
+abbrev pub tried_by : Act → TryAnswer
+tried_by (act.Durable done) = tries.Tried
+tried_by (act.Dropped xid call t cause) = tries.Refused cause
+tried_by _ = tries.NotOpen
+
 -- ---- the same by what is known
 
 abbrev pub granted_on : Known → Leg → Open → Answer TryAnswer
@@ -77,7 +85,3 @@ granted_on k leg o = tcc_granted leg (call_of o.owner) (effect k.tables (tries_o
 abbrev pub told_on : Known → Leg → Option Open → TryAnswer
 told_on k leg None = tries.NotOpen
 told_on k leg (Some o) = (granted_on k leg o).told
-
--- for the proofs alone
-abbrev pub refused_by : ℕ → StmtError → TryAnswer
-refused_by index error = tries.Refused (why.Stmt index error)

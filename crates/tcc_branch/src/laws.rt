@@ -1,9 +1,7 @@
-//! That the answers are those of a resource's rules.
-ghost use Rattle.tcc_branch.specs.Steps.{TriesByRules, ConfirmsByRules, CancelsByRules};
+//! That the answers to grants are those of a resource's rules.
+ghost use Rattle.tcc_branch.specs.Steps.{TriesByRules};
 
-/// What each answer stands for, as an act and a message, is what a resource's rules give in that case.
+/// What each answer to a grant stands for, as an act and a message, is what a resource's rules give in that case.
 pub fn answers_are_those_of_the_rules()
-    ensures tries { TriesByRules }
-    ensures confirms { ConfirmsByRules }
-    ensures cancels { CancelsByRules }
+    ensures { TriesByRules }
 {}

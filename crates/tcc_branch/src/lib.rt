@@ -3,12 +3,9 @@
 #![tactic(auto)]
 
 pub mod answers;
-mod effects;
 mod first_phase;
 pub mod laws;
-mod ranges;
 mod second_phase;
-mod touched;
 
 pub use answers::{TccAnswer, TryAnswer};
 pub use first_phase::{on_grant, prepare};

@@ -42,6 +42,10 @@ all_at P [] k a all e = absurd (let no : None ≡ Some a = e in cc)
 all_at P (x ∷ xs) zero a all e = subst P (same_Some x a e) all.0
 all_at P (x ∷ xs) (suc k) a all e = all_at P xs k a all.1 e
 
+pub all_each : {A : Type 0} (P Q : A → Type 0) (xs : List A) → ((a : A) → P a → Q a) → AllByRecursion P xs → AllByRecursion Q xs
+all_each P Q [] to all = tt
+all_each P Q (x ∷ xs) to all = (to x all.0, all_each P Q xs to all.1)
+
 pub snoc_all : {A : Type 0} (P : A → Type 0) (xs : List A) (a : A) → AllByRecursion P xs → P a → AllByRecursion P (xs ++ a ∷ [])
 snoc_all P [] a all last = (last, tt)
 snoc_all P (x ∷ xs) a all last = (all.0, snoc_all P xs a all.1 last)

@@ -10,12 +10,11 @@ use Rattle.durable_records.specs.SessionOrder.{is_counted}
 use Rattle.frame_codec.specs.Packets.{Sent}
 use Rattle.scenario_form.specs.declared.scenarios.Scenario.{Scenario}
 use Rattle.scenario_form.specs.Runnable.{IsRunnable}
-use Rattle.history_rules.specs.Nodes.{World, Past, no_past}
-use Rattle.history_rules.specs.Chains.{IsBlankPast}
+use Rattle.history_rules.specs.Nodes.{World, Past}
 use Rattle.history_rules.specs.Histories.{Moment, Legal, same_place}
-use Rattle.history_law.specs.MessageSafety.{NamesNodes, ReachesNode}
+use Rattle.history_law.specs.MessageSafety.{AreOfResources, NamesNodes, ReachesNode}
 use Rattle.history_law.specs.Network.{EachSent, OnSent}
-use Rattle.history_law.proofs.MessageHistory.{messages_law}
+use Rattle.history_law.proofs.MessageHistory.{messages_over_any}
 use Rattle.history_text.specs.Worlds.{world_of}
 use Rattle.trace_rules.specs.Links.{said_to, sent_to, with_stamp}
 use Rattle.trace_rules.specs.Traces.{at}
@@ -59,9 +58,6 @@ each_names w past [] each m h = absurd h
 each_names w past (l ∷ ms) each m (inl is) = subst (λ (k : Moment). SaysOf (NamesNodes w) k.step.sent) (sym is) (names_of w past l.place l.step.sent each.1)
 each_names w past (l ∷ ms) each m (inr h) = each_names w past ms each.0 m h
 
-blank : IsBlankPast no_past
-blank = record { sessions = refl; resources = λ n. (0, refl) }
-
 both : (a b : Bool) → a ≡ true → b ≡ true → (a && b) ≡ true
 both a b one two = ap (λ x. x && b) one ∙ two
 
@@ -72,12 +68,12 @@ named_heard w plan users servers (message.Register xid resource call ticket kind
 named_heard w plan users servers _ named = refl
 
 -- what was sent to a node it may hear
-pub sent_heard : (s : Scenario) → IsRunnable s → (ms : List Moment) → Legal (world_of s) no_past ms → (plan : Plan) → plan.managers ≡ length s.managers → plan.resources ≡ length s.resources
+pub sent_heard : (s : Scenario) → IsRunnable s → (past : Past) → AreOfResources (world_of s) past.sessions → (ms : List Moment) → Legal (world_of s) past ms → (plan : Plan) → plan.managers ≡ length s.managers → plan.resources ≡ length s.resources
     → (p from : Place) (x : Sent) → In x (sent_to p (at from ms)) → may_hear plan p x.message ≡ true
-sent_heard s runs ms legal plan users servers place.Tc from x h =
+sent_heard s runs past of ms legal plan users servers place.Tc from x h =
     named_heard (world_of s) plan (users ∙ sym (length-managers s.lock_tries 1 s.managers)) (servers ∙ sym (length-resources s)) x.message
     (sent_has (NamesNodes (world_of s)) place.Tc (at from ms)
-    (λ m i. each_names (world_of s) no_past ms (messages_law (world_of s) no_past ms (world_of-names s runs) blank legal) m (of_at from ms m i).0) x h)
-sent_heard s runs ms legal plan users servers place.Net from x h = refl
-sent_heard s runs ms legal plan users servers (place.Res n) from x h = refl
-sent_heard s runs ms legal plan users servers (place.Man n) from x h = refl
+    (λ m i. each_names (world_of s) past ms (messages_over_any (world_of s) past ms (world_of-names s runs) of legal) m (of_at from ms m i).0) x h)
+sent_heard s runs past of ms legal plan users servers place.Net from x h = refl
+sent_heard s runs past of ms legal plan users servers (place.Res n) from x h = refl
+sent_heard s runs past of ms legal plan users servers (place.Man n) from x h = refl

@@ -7,7 +7,7 @@ use Rattle.seata_types.specs.declared.ids.Place.{Place}
 use Rattle.seata_types.specs.declared.ids.Place.TheVariants as place
 use Rattle.durable_records.specs.Members.{In}
 use Rattle.scenario_form.specs.declared.scenarios.Scenario.{Scenario}
-use Rattle.history_rules.specs.Nodes.{Past, Role, World, no_past, role_at}
+use Rattle.history_rules.specs.Nodes.{Past, Role, World, role_at}
 use Rattle.history_text.specs.Worlds.{world_of}
 use Rattle.node_steps.specs.Nodes.{NodeState}
 use Rattle.coordinator_core.specs.declared.nodes.Coordinator.{Coordinator}
@@ -23,6 +23,7 @@ use Rattle.run_ends.specs.Ending.{Ending}
 use Rattle.run_ends.specs.Joining.{AreApart, AreOfRun, StandsAt}
 use Rattle.run_rounds.specs.Seating.{place_in}
 use Rattle.run_rounds.specs.declared.seats.Seats.{Seats}
+use Rattle.node_steps.specs.Ends.{no_starts}
 use Rattle.scenario_nodes.specs.Nodes.{coordinator_disks, resource_disks}
 use Rattle.thread_runner.specs.Ending.{all_here, ending_at, endings, endings_at, here, node_of, seat_disks}
 use Rattle.thread_runner.specs.Ready.{AreSeats}
@@ -154,24 +155,24 @@ module _ {D : Type 0} (state : D → DiskState) (s : Scenario) (c : Seated (Coor
           let there : place.Man (at.k + 1) ≡ place.Tc = sym (plain.managers at.k m at.at) ∙ sym (ap (λ (x : Ending). x.place) is) ∙ same in
           cc
 
-  each_stands : (p : Place) (role : Role) → role_at (world_of s) no_past p ≡ Some role → StandsAt p (plain_endings state c rs ms)
-  each_stands place.Net role e = absurd (let no : None ≡ Some role = e in cc)
-  each_stands place.Tc role e = record { node = ending_at (coordinator.node_state state) c; among = inl refl; here = refl }
-  each_stands (place.Res n) role e =
-      let (k, def, number, there, is) = resource_def s n role e in
+  each_stands : (past : Past) (p : Place) (role : Role) → role_at (world_of s) past p ≡ Some role → StandsAt p (plain_endings state c rs ms)
+  each_stands past place.Net role e = absurd (let no : None ≡ Some role = e in cc)
+  each_stands past place.Tc role e = record { node = ending_at (coordinator.node_state state) c; among = inl refl; here = refl }
+  each_stands past (place.Res n) role e =
+      let (k, def, number, there, is) = resource_def s (record { past = past; starts = no_starts }) n role e in
       let within = slice_get_within s.resources k def there in
       let size = plain.resource_count in
       let (r, at) = member_at rs k (omega (arith, within, size)) in
       record { node = ending_at (resource.node_state state) r; among = resource_among k r at; here = plain.resources k r at ∙ ap place.Res (sym number) }
-  each_stands (place.Man n) role e =
-      let (k, def, number, there, is) = manager_def s n role e in
+  each_stands past (place.Man n) role e =
+      let (k, def, number, there, is) = manager_def s past n role e in
       let within = slice_get_within s.managers k def there in
       let size = plain.manager_count in
       let (m, at) = member_at ms k (omega (arith, within, size)) in
       record { node = ending_at manager.node_state m; among = manager_among k m at; here = plain.managers k m at ∙ ap place.Man (sym number) }
 
-  pub are_of_run : AreOfRun (world_of s) no_past (plain_endings state c rs ms)
-  are_of_run = record { apart = (others_apart, not_coordinator); each = each_stands }
+  pub are_of_run : (past : Past) → AreOfRun (world_of s) past (plain_endings state c rs ms)
+  are_of_run past = record { apart = (others_apart, not_coordinator); each = each_stands past }
 
 -- ---- their disks
 
@@ -192,11 +193,11 @@ pub ends_counted : {N : Type 0} (state : N → NodeState) (managers : Bool) (cou
 ends_counted state managers count seats put = length-map (all_here seats) (ending_at state) ∙ put_count state managers count seats put
 
 module _ {D K : Type 0} (state : D → DiskState) (s : Scenario) (seats : Seats (Coordinator D) (Resource D) Manager K) (are : AreSeats state s seats) where
-  pub endings_of_run : (world : World) (past : Past) → world ≡ world_of s → past ≡ no_past → AreOfRun world past (endings state seats)
-  endings_of_run world past is_world is_past =
-      subst (λ w. AreOfRun w past (endings state seats)) (sym is_world) (subst (λ p. AreOfRun (world_of s) p (endings state seats)) (sym is_past)
-      (subst (AreOfRun (world_of s) no_past) (sym (endings_are state s seats are))
-      (are_of_run state s (the_coordinator state s seats are).0 (all_here seats.resources.items) (all_here seats.managers.items) (is_plain state s seats are))))
+  pub endings_of_run : (world : World) (past : Past) → world ≡ world_of s → AreOfRun world past (endings state seats)
+  endings_of_run world past is_world =
+      subst (λ w. AreOfRun w past (endings state seats)) (sym is_world)
+      (subst (AreOfRun (world_of s) past) (sym (endings_are state s seats are))
+      (are_of_run state s (the_coordinator state s seats are).0 (all_here seats.resources.items) (all_here seats.managers.items) (is_plain state s seats are) past))
 
   -- in the order in which they were put one behind the other
   pub endings_in_order : (c : Seated (Coordinator D)) → seats.coordinator ≡ Some c → (first : Ending) → first ≡ ending_at (coordinator.node_state state) c → (none one two three : List Ending) → none ≡ []

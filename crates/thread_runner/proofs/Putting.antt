@@ -2,6 +2,7 @@
 use Rattle.std.proofs.Common.{◌≡◌, ◌+◌, ◌<◌, ◌≤◌, ℕ, zero, suc, Bool, true, false, List, [], ◌∷◌, ◌++◌, drop, length, slice_get, Option, Some, None, refl, ap, sym, subst, ◌∙◌, arith, length-append}
 use Rattle.std.proofs.lemmas.Option.{same_Some}
 use Rattle.disk_model.specs.Disk.{DiskState}
+use Rattle.disk_model.specs.Shelf.{ShelfState}
 use Rattle.seata_types.specs.declared.ids.Place.{Place}
 use Rattle.seata_types.specs.declared.ids.Place.TheVariants as place
 use Rattle.scenario_form.specs.declared.scenarios.ManagerDef.{ManagerDef}
@@ -9,6 +10,7 @@ use Rattle.scenario_form.specs.declared.scenarios.ResourceDef.{ResourceDef}
 use Rattle.scenario_form.specs.declared.scenarios.Scenario.{Scenario}
 use Rattle.scenario_form.specs.Runnable.{IsRunnable}
 use Rattle.history_rules.specs.Nodes.{World, Past}
+use Rattle.node_steps.specs.Ends.{Starts}
 use Rattle.node_steps.specs.Nodes.{NodeState}
 use Rattle.node_seat.specs.Naming.{Run}
 use Rattle.node_seat.specs.Seating.{Seated}
@@ -26,7 +28,7 @@ use Rattle.replay_runner.proofs.NewNodes.{length_numbered}
 use Rattle.run_rounds.specs.Seating.{place_in}
 use Rattle.run_rounds.specs.declared.seats.Seats.{Seats}
 use Rattle.thread_runner.specs.Ready.{AreSeats}
-use Rattle.thread_runner.specs.Seats.{AreNewManagers, AreOutfits, ArePut, EachHas, IsNamedFor, IsOutfitAt, IsPutAt, MaySit, numbered_place}
+use Rattle.thread_runner.specs.Seats.{AreNewManagers, AreOutfits, ArePut, EachHas, IsNamedFor, IsOutfitAt, IsPutAt, KnowsDisks, MaySit, numbered_place}
 use Rattle.thread_runner.specs.declared.outfits.Outfit.{Outfit}
 use Rattle.thread_runner.proofs.Sitting.{manager_at, manager_sits, resource_sits}
 
@@ -116,23 +118,23 @@ are_put state managers count nodes seats each size places = record {
 one_more : (k : ℕ) → 1 + k ≡ k + 1
 one_more k = omega arith
 
-module _ {D : Type 0} (state : D → DiskState) (world : World) (past : Past) (run : Run) (s : Scenario) (named : IsNamedFor state world past run s) where
-  pub resources_sit : (rs : List (Resource D)) (os : List Outfit) → AreNewResources state s (numbered 1 s.resources) rs → AreOutfits s run.queue false (length s.resources) os
-      → AreEach (λ r. MaySit world past run (resource.node_state state r)) rs os
-  resources_sit rs os new outfits =
-      numbered_each (λ n def r. IsNewResource state s n def r) (λ r. MaySit world past run (resource.node_state state r)) 1 s.resources rs os outfits.count new
-      (λ k def r o there is at. resource_sits state world past run s named k def there r (subst (λ j. IsNewResource state s j def r) (one_more k) is) o (outfits.each k o at))
+module _ (world : World) (held : Past → Starts → Type 0) (run : Run) (s : Scenario) (named : IsNamedFor world run s) where
+  pub resources_sit : {D : Type 0} (state : D → DiskState) (shelf : ShelfState D) (knows : KnowsDisks state shelf s held run) (rs : List (Resource D)) (os : List Outfit) → AreNewResources state shelf s (numbered 1 s.resources) rs
+      → AreOutfits s run.queue false (length s.resources) os → AreEach (λ r. MaySit world held run (resource.node_state state r)) rs os
+  resources_sit state shelf knows rs os new outfits =
+      numbered_each (λ n def r. IsNewResource state shelf s n def r) (λ r. MaySit world held run (resource.node_state state r)) 1 s.resources rs os outfits.count new
+      (λ k def r o there is at. resource_sits world held run s named state shelf knows k def there r (subst (λ j. IsNewResource state shelf s j def r) (one_more k) is) o (outfits.each k o at))
 
   pub managers_sit : IsRunnable s → (ms : List Manager) (os : List Outfit) → AreNewManagers s ms → AreOutfits s run.queue true (length s.managers) os
-      → AreEach (λ m. MaySit world past run (manager.node_state m)) ms os
+      → AreEach (λ m. MaySit world held run (manager.node_state m)) ms os
   managers_sit runs ms os new outfits =
-      numbered_each (λ n def m. IsNewManager s n def m) (λ m. MaySit world past run (manager.node_state m)) 1 s.managers ms os outfits.count new
-      (λ k def m o there is at. manager_sits state world past run s named runs k def there m (subst (λ j. IsNewManager s j def m) (one_more k) is) o (outfits.each k o at))
+      numbered_each (λ n def m. IsNewManager s n def m) (λ m. MaySit world held run (manager.node_state m)) 1 s.managers ms os outfits.count new
+      (λ k def m o there is at. manager_sits world held run s named runs k def there m (subst (λ j. IsNewManager s j def m) (one_more k) is) o (outfits.each k o at))
 
-pub resource_places : {D : Type 0} (state : D → DiskState) (s : Scenario) (rs : List (Resource D)) → AreNewResources state s (numbered 1 s.resources) rs
+pub resource_places : {D : Type 0} (state : D → DiskState) (shelf : ShelfState D) (s : Scenario) (rs : List (Resource D)) → AreNewResources state shelf s (numbered 1 s.resources) rs
     → (k : ℕ) (r : Resource D) → slice_get rs k ≡ Some r → (resource.node_state state r).place ≡ numbered_place false (k + 1)
-resource_places state s rs new k r e =
-    let (def, there, is) = numbered_get (λ n def r. IsNewResource state s n def r) 1 s.resources rs new k r e in
+resource_places state shelf s rs new k r e =
+    let (def, there, is) = numbered_get (λ n def r. IsNewResource state shelf s n def r) 1 s.resources rs new k r e in
     is.at ∙ ap place.Res (one_more k)
 
 pub manager_places : (s : Scenario) (ms : List Manager) → AreNewManagers s ms → (k : ℕ) (m : Manager) → slice_get ms k ≡ Some m → (manager.node_state m).place ≡ numbered_place true (k + 1)
@@ -140,20 +142,20 @@ manager_places s ms new k m e =
     let (def, there, is) = numbered_get (λ n def m. IsNewManager s n def m) 1 s.managers ms new k m e in
     manager_at s (1 + k) def m is ∙ ap place.Man (one_more k)
 
-pub resources_counted : {D : Type 0} (state : D → DiskState) (s : Scenario) (rs : List (Resource D)) → AreNewResources state s (numbered 1 s.resources) rs → length rs ≡ length s.resources
-resources_counted state s rs new = sym (each_length (λ one r. IsNewResource state s one.0 one.1 r) (numbered 1 s.resources) rs new) ∙ length_numbered 1 s.resources
+pub resources_counted : {D : Type 0} (state : D → DiskState) (shelf : ShelfState D) (s : Scenario) (rs : List (Resource D)) → AreNewResources state shelf s (numbered 1 s.resources) rs → length rs ≡ length s.resources
+resources_counted state shelf s rs new = sym (each_length (λ one r. IsNewResource state shelf s one.0 one.1 r) (numbered 1 s.resources) rs new) ∙ length_numbered 1 s.resources
 
 pub managers_counted : (s : Scenario) (ms : List Manager) → AreNewManagers s ms → length ms ≡ length s.managers
 managers_counted s ms new = sym (each_length (λ one m. IsNewManager s one.0 one.1 m) (numbered 1 s.managers) ms new) ∙ length_numbered 1 s.managers
 
 -- ---- all of a run
 
-pub first_seats : {D K : Type 0} (state : D → DiskState) (s : Scenario) (c : Option (Seated (Coordinator D))) (rs : List (Resource D)) (seats : Seats (Coordinator D) (Resource D) Manager K)
-    → seats.coordinator ≡ c → IsPutAt (coordinator.node_state state) place.Tc c → AreNewResources state s (numbered 1 s.resources) rs
+pub first_seats : {D K : Type 0} (state : D → DiskState) (shelf : ShelfState D) (s : Scenario) (c : Option (Seated (Coordinator D))) (rs : List (Resource D)) (seats : Seats (Coordinator D) (Resource D) Manager K)
+    → seats.coordinator ≡ c → IsPutAt (coordinator.node_state state) place.Tc c → AreNewResources state shelf s (numbered 1 s.resources) rs
     → AreEach (λ r. IsPutAt (resource.node_state state) (resource.node_state state r).place) rs seats.resources.items → ArePut manager.node_state true (length s.managers) seats.managers.items
     → AreSeats state s seats
-first_seats state s c rs seats is put new each managers = record {
+first_seats state shelf s c rs seats is put new each managers = record {
   coordinator = ap (place_in (coordinator.node_state state)) is ∙ put;
-  resources = are_put (resource.node_state state) false (length s.resources) rs seats.resources.items each (resources_counted state s rs new) (resource_places state s rs new);
+  resources = are_put (resource.node_state state) false (length s.resources) rs seats.resources.items each (resources_counted state shelf s rs new) (resource_places state shelf s rs new);
   managers = managers;
 }

@@ -2,6 +2,7 @@
 use Rattle.std.proofs.Common.{◌≡◌, List, [], ◌∷◌, ◌++◌, map, Option, Some, None, refl, ap, sym, subst, ◌∙◌, append-nil, append_assoc}
 use Rattle.std.specs.List.{AllByRecursion}
 use Rattle.history_rules.specs.Nodes.{World, Past}
+use Rattle.node_steps.specs.Ends.{Starts}
 use Rattle.node_steps.specs.Nodes.{NodeState}
 use Rattle.node_seat.specs.Naming.{Run}
 use Rattle.node_seat.specs.Seating.{Seated}
@@ -20,14 +21,14 @@ here_snoc : {N : Type 0} (seats : List (Option (Seated N))) (seat : Option (Seat
 here_snoc [] seat = append-nil (here seat)
 here_snoc (x ∷ seats) seat = ap (λ l. here x ++ l) (here_snoc seats seat) ∙ sym (append_assoc (here x) (all_here seats) (here seat))
 
-module _ {N : Type 0} (state : N → NodeState) (world : World) (past : Past) (run : Run) (all : List (Option (Seated N))) (before : List Ending) where
+module _ {N : Type 0} (state : N → NodeState) (world : World) (held : Past → Starts → Type 0) (run : Run) (all : List (Option (Seated N))) (before : List Ending) where
   -- those of the first seats were taken out
   pub record IsUnseating (left : List (Option (Seated N))) (nodes : List N) (ended : List Ending) : Type 0 where
     pub done : List (Option (Seated N))
     pub split : all ≡ done ++ left
     pub nodes_are : nodes ≡ map node_of (all_here done)
     pub ended_are : ended ≡ before ++ endings_at state done
-    pub keep : EachKeeps state world past run done
+    pub keep : EachKeeps state world held run done
 
   pub unseats_none : (left : List (Option (Seated N))) (nodes : List N) (ended : List Ending) → left ≡ all → nodes ≡ [] → ended ≡ before → IsUnseating left nodes ended
   unseats_none left nodes ended whole none same = record { done = []; split = sym whole; nodes_are = none; ended_are = same ∙ sym (append-nil before); keep = tt }
@@ -39,12 +40,12 @@ module _ {N : Type 0} (state : N → NodeState) (world : World) (past : Past) (r
     split = u.split ∙ ap (λ l. u.done ++ l) next ∙ sym (append_assoc u.done (None ∷ []) rest);
     nodes_are = u.nodes_are ∙ sym (ap (map node_of) (here_snoc u.done None ∙ append-nil (all_here u.done)));
     ended_are = u.ended_are ∙ sym (ap (λ l. before ++ map (ending_at state) l) (here_snoc u.done None ∙ append-nil (all_here u.done)));
-    keep = subst (AllByRecursion (Keeps state world past run)) (sym (here_snoc u.done None ∙ append-nil (all_here u.done))) u.keep;
+    keep = subst (AllByRecursion (Keeps state world held run)) (sym (here_snoc u.done None ∙ append-nil (all_here u.done))) u.keep;
   }
 
   -- a seat with its node
   pub unseats_one : (left rest : List (Option (Seated N))) (nodes more : List N) (ended later : List Ending) (s : Seated N) (node : N) (end : Ending) → left ≡ Some s ∷ rest → node ≡ s.node → end ≡ ending_at state s
-      → more ≡ nodes ++ node ∷ [] → later ≡ ended ++ end ∷ [] → Keeps state world past run s → IsUnseating left nodes ended → IsUnseating rest more later
+      → more ≡ nodes ++ node ∷ [] → later ≡ ended ++ end ∷ [] → Keeps state world held run s → IsUnseating left nodes ended → IsUnseating rest more later
   unseats_one left rest nodes more ended later s node end next is_node is_end is_more is_later keeps u = record {
     done = u.done ++ Some s ∷ [];
     split = u.split ∙ ap (λ l. u.done ++ l) next ∙ sym (append_assoc u.done (Some s ∷ []) rest);
@@ -53,7 +54,7 @@ module _ {N : Type 0} (state : N → NodeState) (world : World) (past : Past) (r
     ended_are = is_later ∙ ap (λ l. l ++ end ∷ []) u.ended_are ∙ append_assoc before (endings_at state u.done) (end ∷ [])
         ∙ ap (λ e. before ++ (endings_at state u.done ++ e ∷ [])) is_end ∙ ap (λ l. before ++ l) (sym (map_append (ending_at state) (all_here u.done) (s ∷ [])))
         ∙ sym (ap (λ l. before ++ map (ending_at state) l) (here_snoc u.done (Some s)));
-    keep = subst (AllByRecursion (Keeps state world past run)) (sym (here_snoc u.done (Some s))) (all_append (Keeps state world past run) (all_here u.done) (s ∷ []) u.keep (keeps, tt));
+    keep = subst (AllByRecursion (Keeps state world held run)) (sym (here_snoc u.done (Some s))) (all_append (Keeps state world held run) (all_here u.done) (s ∷ []) u.keep (keeps, tt));
   }
 
   -- all of them
@@ -66,5 +67,5 @@ module _ {N : Type 0} (state : N → NodeState) (world : World) (past : Past) (r
   pub unseated_ends : (left : List (Option (Seated N))) (nodes : List N) (ended : List Ending) → left ≡ [] → IsUnseating left nodes ended → ended ≡ before ++ endings_at state all
   unseated_ends left nodes ended none u = u.ended_are ∙ ap (λ l. before ++ endings_at state l) (all_done left u.done u.split none)
 
-  pub unseated_keep : (left : List (Option (Seated N))) (nodes : List N) (ended : List Ending) → left ≡ [] → IsUnseating left nodes ended → EachKeeps state world past run all
-  unseated_keep left nodes ended none u = subst (EachKeeps state world past run) (all_done left u.done u.split none) u.keep
+  pub unseated_keep : (left : List (Option (Seated N))) (nodes : List N) (ended : List Ending) → left ≡ [] → IsUnseating left nodes ended → EachKeeps state world held run all
+  unseated_keep left nodes ended none u = subst (EachKeeps state world held run) (all_done left u.done u.split none) u.keep

@@ -1,8 +1,9 @@
 -- The seats of a run at its end.
-use Rattle.std.specs.Prelude.{◌≡◌, List, [], ◌∷◌, ◌++◌, map, Option, Some, None}
+use Rattle.std.specs.Prelude.{List, [], ◌∷◌, ◌++◌, map, Option, Some, None}
 use Rattle.std.specs.List.{AllByRecursion}
 use Rattle.disk_model.specs.Disk.{DiskState}
 use Rattle.history_rules.specs.Nodes.{World, Past}
+use Rattle.node_steps.specs.Ends.{Starts}
 use Rattle.coordinator_core.specs.declared.nodes.Coordinator.{Coordinator}
 use Rattle.coordinator_core.specs.Standing as coordinator
 use Rattle.resource_core.specs.declared.nodes.Resource.{Resource}
@@ -11,7 +12,7 @@ use Rattle.manager_core.specs.declared.nodes.Manager.{Manager}
 use Rattle.manager_core.specs.Standing as manager
 use Rattle.node_steps.specs.Nodes.{IsLawful, NodeState}
 use Rattle.node_seat.specs.Naming.{Run}
-use Rattle.node_seat.specs.Running.{IsSeat}
+use Rattle.node_seat.specs.Running.{KeepsSeat}
 use Rattle.node_seat.specs.Seating.{Seated}
 use Rattle.scenario_nodes.specs.Nodes.{coordinator_disks, resource_disks}
 use Rattle.run_ends.specs.Ending.{Ending, ending_of}
@@ -57,17 +58,17 @@ seat_disks seats =
 -- ---- what their types keep
 
 -- a seat of a run, with what its type keeps
-pub record Keeps {N : Type 0} (state : N → NodeState) (world : World) (past : Past) (run : Run) (s : Seated N) : Type 0 where
-  pub seat : IsSeat (state s.node) world past run s
+pub record Keeps {N : Type 0} (state : N → NodeState) (world : World) (held : Past → Starts → Type 0) (run : Run) (s : Seated N) : Type 0 where
+  pub seat : KeepsSeat (state s.node) world held run s
   pub begun : HasBegun s
   pub lawful : IsLawful (state s.node)
 
 -- so each of these
-abbrev pub EachKeeps : {N : Type 0} → (N → NodeState) → World → Past → Run → List (Option (Seated N)) → Type 0
-EachKeeps state world past run seats = AllByRecursion (Keeps state world past run) (all_here seats)
+abbrev pub EachKeeps : {N : Type 0} → (N → NodeState) → World → (Past → Starts → Type 0) → Run → List (Option (Seated N)) → Type 0
+EachKeeps state world held run seats = AllByRecursion (Keeps state world held run) (all_here seats)
 
 -- so all of a run
-pub record AllKeep {D K : Type 0} (state : D → DiskState) (world : World) (past : Past) (run : Run) (seats : Seats (Coordinator D) (Resource D) Manager K) : Type 0 where
-  pub coordinator : AllByRecursion (Keeps (coordinator.node_state state) world past run) (here seats.coordinator)
-  pub resources : EachKeeps (resource.node_state state) world past run seats.resources.items
-  pub managers : EachKeeps manager.node_state world past run seats.managers.items
+pub record AllKeep {D K : Type 0} (state : D → DiskState) (world : World) (held : Past → Starts → Type 0) (run : Run) (seats : Seats (Coordinator D) (Resource D) Manager K) : Type 0 where
+  pub coordinator : AllByRecursion (Keeps (coordinator.node_state state) world held run) (here seats.coordinator)
+  pub resources : EachKeeps (resource.node_state state) world held run seats.resources.items
+  pub managers : EachKeeps manager.node_state world held run seats.managers.items

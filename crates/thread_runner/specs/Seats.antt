@@ -1,20 +1,22 @@
 -- The seats of a run before its first round, and what they are made of.
 use Rattle.std.specs.Prelude.{◌≡◌, ◌+◌, ℕ, Bool, if◌then◌else◌, List, length, slice_get, Option, Some}
 use Rattle.disk_model.specs.Disk.{DiskState}
+use Rattle.disk_model.specs.Shelf.{ShelfState}
 use Rattle.atomic_table.specs.Seated.{TableId}
 use Rattle.seata_types.specs.declared.ids.Place.{Place}
 use Rattle.seata_types.specs.declared.ids.Place.TheVariants as place
 use Rattle.scenario_form.specs.declared.scenarios.Scenario.{Scenario}
-use Rattle.history_rules.specs.Nodes.{World, Past, no_past}
+use Rattle.history_rules.specs.Nodes.{World, Past}
 use Rattle.history_text.specs.Worlds.{world_of}
 use Rattle.manager_core.specs.declared.nodes.Manager.{Manager}
-use Rattle.node_steps.specs.Ends.{no_starts}
+use Rattle.node_steps.specs.Ends.{Starts}
 use Rattle.node_steps.specs.Nodes.{NodeState}
-use Rattle.node_seat.specs.Naming.{Run}
+use Rattle.node_seat.specs.Naming.{OverAll, Run}
 use Rattle.node_seat.specs.Running.{AreApart, AreUnused, CanServe, IsFreshIn, IsOfRun}
 use Rattle.node_seat.specs.Seating.{Seated}
 use Rattle.node_seat.specs.Turns.{HasDisksToStop}
-use Rattle.scenario_nodes.specs.Nodes.{IsNewManager}
+use Rattle.scenario_nodes.specs.Nodes.{AreNewServers, Held, HoldAll, IsNewManager}
+use Rattle.scenario_nodes.specs.declared.servers.Servers.{Servers}
 use Rattle.scenario_nodes.specs.Shelves.{AllTell}
 use Rattle.scenario_nodes.specs.Together.{AreEach, numbered}
 use Rattle.run_links.specs.Linked.{AreEndsAt}
@@ -32,19 +34,30 @@ numbered_place managers n = if managers then place.Man n else place.Res n
 
 -- ---- the run
 
--- what a run names beside its links is of a scenario, on blank disks of a kind
-pub record IsNamedFor {D : Type 0} (state : D → DiskState) (world : World) (past : Past) (run : Run) (s : Scenario) : Type 0 where
+-- what a run names beside its links is of a scenario
+pub record IsNamedFor (world : World) (run : Run) (s : Scenario) : Type 0 where
   pub is_world : world ≡ world_of s
-  pub is_past : past ≡ no_past
   pub stops : run.stops ≡ stops_of s
   pub bytes : run.bytes ≡ s.disk
-  pub starts : run.starts ≡ no_starts
   pub managers : run.managers ≡ length s.managers
   pub resources : run.resources ≡ length s.resources
+
+-- what it knows of disks is that they tell their bytes, and over some records, that the disks which a shelf gives next hold these
+pub record KnowsDisks {D : Type 0} (state : D → DiskState) (shelf : ShelfState D) (s : Scenario) (held : Past → Starts → Type 0) (run : Run) : Type 0 where
   pub tells : AllTell state → run.tells
   pub told : run.tells → AllTell state
+  pub holds : (h : Held) → HoldAll state shelf s h → held h.past h.starts
+  pub held_all : (h : Held) → held h.past h.starts → HoldAll state shelf s h
+
+-- so much is known where the disks of a run held these
+abbrev pub IsKnown : (held : Past → Starts → Type 0) → Run → Held → Type 0
+IsKnown held run h = run.tells × held h.past h.starts
 
 -- ---- what seats are made of
+
+-- the same, with a clock that begins at a moment
+abbrev pub begun_at : Outfit → (from : ℕ) → Outfit
+begun_at o from = record o { plan = record o.plan { from = from } }
 
 -- the plan of the node at a place, and the ends of its links, which have these queues
 pub record IsOutfitAt (s : Scenario) (queue : Place → Place → TableId) (p : Place) (o : Outfit) : Type 0 where
@@ -61,13 +74,19 @@ abbrev pub AreNewManagers : Scenario → List Manager → Type 0
 AreNewManagers s managers = AreEach (λ one m. IsNewManager s one.0 one.1 m) (numbered 1 s.managers) managers
 
 -- a node that did nothing yet may have a seat of a run, made of this
-pub record MaySit (world : World) (past : Past) (run : Run) (node : NodeState) (o : Outfit) : Type 0 where
-  pub fresh : IsFreshIn world past run node
+pub record MaySit (world : World) (held : Past → Starts → Type 0) (run : Run) (node : NodeState) (o : Outfit) : Type 0 where
+  pub fresh : OverAll held run (λ past over. IsFreshIn world past over node)
   pub serves : CanServe o.plan node
-  pub of_run : IsOfRun past run node o.plan o.takers o.senders
+  pub of_run : OverAll held run (λ past over. IsOfRun past over node o.plan o.takers o.senders)
   pub apart : AreApart o.takers o.senders
   pub unused : AreUnused o.takers o.senders
   pub stops : HasDisksToStop node o.plan
+
+-- the nodes with disks of a scenario were opened on those that a shelf gave, which a run knows
+pub record AreOpened {D H : Type 0} (state : D → DiskState) (shelf : H → ShelfState D) (s : Scenario) (held : Past → Starts → Type 0) (run : Run) (servers : Servers D) : Type 0 where
+  pub before : H
+  pub new : AreNewServers state (shelf before) s servers
+  pub disks : KnowsDisks state (shelf before) s held run
 
 -- ---- seats
 

@@ -2,7 +2,7 @@
 //! gathered.
 ghost use Rattle.std.specs.Prelude.{◌≡◌, ◌≤◌, ◌+◌, ◌++◌, ◌^◌, [], length, map, vec_capacity, IfOk};
 ghost use Rattle.scenario_form.specs.Runnable.{IsRunnable, resource_name};
-ghost use Rattle.history_rules.specs.Nodes.{no_past};
+ghost use Rattle.history_rules.specs.Nodes.{Past};
 ghost use Rattle.history_text.specs.Worlds.{world_of};
 ghost use Rattle.scenario_nodes.specs.Nodes.{server_names};
 ghost use Rattle.scenario_nodes.specs.Together.{AreSecondNames, GivesBack, HaveBoth};
@@ -69,7 +69,7 @@ fn unseated<N: Node + Drop, K: RunName>(
     ensures nodes { result.items ≡ map node_of (all_here seats.items) }
     ensures ended { ended.new.items ≡ ended.old.items ++ endings_at N.state seats.items }
     ensures room { vec_capacity ended.old ≤ vec_capacity ended.new }
-    ensures keep { EachKeeps N.state K.world K.past K.run seats.items }
+    ensures keep { EachKeeps N.state K.world K.held K.run seats.items }
 {
     for seat in seats {
         if let Some(begun) = seat {
@@ -94,15 +94,16 @@ pub(crate) fn close<H: Shelf, K: RunName, R: Wait>(
 ) -> List<List<Entry>>
     requires runnable { IsRunnable scenario.now }
     requires seconds { AreSecondNames (map resource_name scenario.now.resources) seconds.now }
-    requires world { (K.world ≡ world_of scenario.now) × (K.past ≡ no_past) }
+    requires world { K.world ≡ world_of scenario.now }
     requires seats { AreSeats H.D.state scenario.now seats }
     requires room { IsRoom (length scenario.now.resources) (length scenario.now.managers) room }
     requires taken { HaveBoth (H.state shelf.old) (server_names scenario.now) }
     ensures gives { GivesBack (server_names scenario.now) (seat_disks seats)
         (H.state shelf.old) (H.state shelf.new) }
-    ensures keep { AllKeep H.D.state K.world K.past K.run seats }
+    ensures keep { AllKeep H.D.state K.world K.held K.run seats }
     ensures traces { result ≡ map trace_of (endings H.D.state seats) }
-    ensures settled { AreSettled K.world K.past K.run.stops (endings H.D.state seats) }
+    ensures settled { (past : Past) →
+        AreSettled K.world past K.run.stops (endings H.D.state seats) }
 {
     let Seats {
         coordinator,

@@ -52,7 +52,7 @@ pub(crate) fn seat_of<N: Node, K: RunName, R: Wait>(
     node: N,
     outfit: Outfit,
 ) -> Option<Begun<N, K>>
-    requires { MaySit K.world K.past K.run (N.state node) outfit }
+    requires { MaySit K.world K.held K.run (N.state node) outfit }
     ensures { IsPutAt N.state (N.state node).place result }
 {
     let Outfit {
@@ -72,7 +72,7 @@ pub(crate) fn seats_of<N: Node + Drop, K: RunName, R: Wait>(
     outfits: Vec<Outfit>,
     mut seats: Vec<Option<Begun<N, K>>>,
 ) -> Vec<Option<Begun<N, K>>>
-    requires may { AreEach (λ node. MaySit K.world K.past K.run (N.state node))
+    requires may { AreEach (λ node. MaySit K.world K.held K.run (N.state node))
         nodes.items outfits.items }
     requires none { seats.items ≡ [] }
     requires room { length nodes.items ≤ vec_capacity seats }
@@ -98,7 +98,7 @@ pub(crate) fn prepare<D: Disk + Drop, K: RunName, R: Wait>(
     requires runnable { IsRunnable scenario.now }
     requires links { AreLinksOf scenario.now links }
     requires queue { K.run.queue ≡ queue_of links }
-    requires named { IsNamedFor D.state K.world K.past K.run scenario.now }
+    requires named { IsNamedFor K.world K.run scenario.now }
     ensures { IfOk result (IsReady K.run.queue scenario.now) }
 {
     let RunLinks {

@@ -39,7 +39,8 @@ fn numbered_place(managers: bool, number: u16) -> Place
     }
 }
 
-/// What the seat of the node at a place is made of, with the ends of its links. Its clock begins at 0: its disks are blank.
+/// What the seat of the node at a place is made of, with the ends of its links. Its clock begins at 0: where the coordinator's
+/// begins is told by its disks.
 pub(crate) fn outfit_at<K: RunName>(
     alloc: Global,
     scenario: &Scenario,

@@ -1,4 +1,4 @@
-use Rattle.at_branch.proofs.StepLaws.{grants_by_rules, meets_by_rules, commits_by_rules, rolls_by_rules}
+use Rattle.at_branch.proofs.StepLaws.{grants_by_rules, meets_by_rules}
 use Rattle.at_branch.proofs.laws.answers_are_those_of_the_rules.Goals as goal
 
 pub returns-clause-grants : goal.returns-clause-grants
@@ -6,9 +6,3 @@ returns-clause-grants c = grants_by_rules
 
 pub returns-clause-conflicts : goal.returns-clause-conflicts
 returns-clause-conflicts c = meets_by_rules
-
-pub returns-clause-commits : goal.returns-clause-commits
-returns-clause-commits c = commits_by_rules
-
-pub returns-clause-rollbacks : goal.returns-clause-rollbacks
-returns-clause-rollbacks c = rolls_by_rules

@@ -5,8 +5,7 @@ use Rattle.local_txn.specs.Answers.{open_of}
 use Rattle.resource_store.specs.Keeping.{known}
 use Rattle.resource_store.proofs.LeftLaws.{leaves_all}
 use Rattle.local_guard.specs.Locals.{MayCommit}
-use Rattle.local_guard.proofs.AskedLaws.{no_some}
-use Rattle.local_guard.proofs.LocalLaws.{of_some, frees, frees_none}
+use Rattle.local_guard.proofs.LocalLaws.{of_some, frees, frees_none, no_some}
 use Rattle.local_guard.proofs.guarded.on_free.Goals as goal
 
 pub returns-in_default-clause-answer : goal.returns-in_default-clause-answer

@@ -8,8 +8,7 @@ use Rattle.resource_store.specs.Answers.{Leaves}
 use Rattle.resource_store.proofs.LeftLaws.{leaves_all, leaves_made}
 use Rattle.local_guard.specs.Outside.{WritesOutside}
 use Rattle.local_guard.specs.declared.answers.OutsideError.{OutsideError}
-use Rattle.local_guard.proofs.AskedLaws.{no_some}
-use Rattle.local_guard.proofs.LocalLaws.{is_busy, writes, write_fails, busy_left, failed_as}
+use Rattle.local_guard.proofs.LocalLaws.{is_busy, writes, write_fails, busy_left, failed_as, no_some}
 use Rattle.local_guard.proofs.outside_writes.write.Goals as goal
 
 pub returns-in-Some : goal.returns-in-Some

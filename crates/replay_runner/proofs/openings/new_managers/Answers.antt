@@ -1,7 +1,7 @@
 use Rattle.std.proofs.Common.{◌≡◌, ◌∙◌, ◌+◌, ◌-◌, ap, subst, sym, refl, arith, Some, length, slice_get}
 use Rattle.std.proofs.lemmas.Option.{slice_get_read}
 use Rattle.scenario_nodes.specs.Nodes.{IsNewManager}
-use Rattle.replay_runner.proofs.NewNodes.{all_made, fresh_manager, none_made, one_made}
+use Rattle.replay_runner.proofs.NewNodes.{all_made, none_made, one_made}
 use Rattle.replay_runner.proofs.openings.new_managers.Goals as goal
 
 pub loop-k-init : goal.loop-k-init
@@ -24,13 +24,6 @@ new_manager-requires-clause-there g c =
     ap (slice_get c.args.scenario.now.managers) (let same : c.loop-k.k + 1 - 1 ≡ c.loop-k.k = omega arith in same)
     ∙ subst (λ ds. slice_get ds c.loop-k.k ≡ Some c.def-item.result) c.as_slice-def-items.ensures
     (slice_get_read c.as_slice-def-items.result.now _ c.loop-k.k _ refl c.loop-k-test.true c.def-item.is)
-
-pub new-requires : goal.new-requires
-new-requires g c = record {
-  fresh = fresh_manager g.K.RunName.world g.K.RunName.past c.args.scenario.now c.loop-k.k c.def-item.result c.in_ok-manager.manager c.requires.world
-      (subst (λ ds. slice_get ds c.loop-k.k ≡ Some c.def-item.result) c.as_slice-def-items.ensures
-      (slice_get_read c.as_slice-def-items.result.now _ c.loop-k.k _ refl c.loop-k-test.true c.def-item.is)) c.in_ok-manager.ensures;
-}
 
 pub loop-k-preserved : goal.loop-k-preserved
 loop-k-preserved g c =

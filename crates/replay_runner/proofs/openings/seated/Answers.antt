@@ -1,7 +1,5 @@
 use Rattle.std.proofs.Common.{◌≡◌, ◌∙◌, ◌∷◌, [], ap, arith, length, length-append, rules, subst, sym}
-use Rattle.std.specs.List.{AllByRecursion}
 use Rattle.std.specs.Vec.Iter.{into_iter_items}
-use Rattle.node_seat.specs.Keeping.{IsFresh}
 use Rattle.scenario_nodes.proofs.Together.{AreFirst, first_all, first_next, first_none}
 use Rattle.replay_runner.specs.Opened.{IsSeated}
 use Rattle.replay_runner.proofs.Lists.{emptied}
@@ -15,20 +13,14 @@ loop-node-init g c =
     let size = ap length whole in
     let none = ap length c.requires.none in (
       subst (λ ns. AreFirst IsSeated all c.args.members.items ns) (sym whole) (subst (λ ms. AreFirst IsSeated all ms all) (sym c.requires.none) (first_none IsSeated all)),
-      subst (AllByRecursion (λ node. IsFresh g.K.RunName.world g.K.RunName.past (g.N.Node.state node))) (sym whole) c.requires.fresh,
       omega (arith, size, none, c.requires.room),
     )
-
-pub new-requires : goal.new-requires
-new-requires g c = record {
-  fresh = (subst (AllByRecursion (λ node. IsFresh g.K.RunName.world g.K.RunName.past (g.N.Node.state node))) c.in-Some.ensures.steps.0 c.loop-node.invariant.1).0;
-}
 
 pub push_reserved-requires : goal.push_reserved-requires
 push_reserved-requires g c =
     let left = ap length c.in-Some.ensures.steps.0 in
     let size = c.loop-node.members.ok.0 in
-    omega (arith, left, size, c.loop-node.invariant.2)
+    omega (arith, left, size, c.loop-node.invariant.1)
 
 pub loop-node-preserved : goal.loop-node-preserved
 loop-node-preserved g c =
@@ -41,8 +33,7 @@ loop-node-preserved g c =
       subst (λ ms. AreFirst IsSeated all ms rest) (sym c.push_reserved.ensures.items)
           (first_next IsSeated all c.loop-node.members.items c.in-Some.node rest c.new.result (subst (λ ns. AreFirst IsSeated all c.loop-node.members.items ns) next i.0)
           (record { node = c.new.ensures.node; traced = c.new.ensures.trace; turned = c.new.ensures.turned })),
-      (subst (AllByRecursion (λ node. IsFresh g.K.RunName.world g.K.RunName.past (g.N.Node.state node))) next i.1).1,
-      omega (arith, left, more, c.push_reserved.ensures.capacity, i.2),
+      omega (arith, left, more, c.push_reserved.ensures.capacity, i.1),
     )
 
 pub returns : goal.returns

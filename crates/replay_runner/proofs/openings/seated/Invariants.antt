@@ -1,7 +1,5 @@
 use Rattle.std.proofs.Common.{◌+◌, ◌≤◌, length, vec_capacity}
-use Rattle.std.specs.List.{AllByRecursion}
 use Rattle.std.specs.Vec.Iter.{into_iter_items}
-use Rattle.node_seat.specs.Keeping.{IsFresh}
 use Rattle.scenario_nodes.proofs.Together.{AreFirst}
 use Rattle.replay_runner.specs.Opened.{IsSeated}
 use Rattle.replay_runner.proofs.openings.seated.Given as goal
@@ -10,5 +8,4 @@ use Rattle.replay_runner.proofs.openings.seated.Given as goal
 abbrev pub invariant-loop-node : goal.invariant-loop-node
 invariant-loop-node g l =
     AreFirst IsSeated l.fn.nodes.items l.members.items (into_iter_items l.node-iterator)
-    × AllByRecursion (λ node. IsFresh g.K.RunName.world g.K.RunName.past (g.N.Node.state node)) (into_iter_items l.node-iterator)
     × (length l.members.items + length (into_iter_items l.node-iterator) ≤ vec_capacity l.members)

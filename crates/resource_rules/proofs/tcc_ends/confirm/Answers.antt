@@ -2,10 +2,8 @@ use Rattle.std.proofs.Common.{◌∙◌, ◌≤◌, List, Option, length, ap, sy
 use Rattle.std.specs.Option.{option_copied}
 use Rattle.seata_types.specs.declared.limits.TheConstants.{FIELD_ITEMS}
 use Rattle.seata_types.specs.declared.statements.Stmt.{Stmt}
-use Rattle.durable_records.specs.Fences.{on_confirm}
-use Rattle.tcc_fence.specs.Meanings.{Fences, fence_at}
-use Rattle.resource_memory.specs.Known.{Known}
-use Rattle.resource_rules.proofs.TccEnds.{confirmed_ok, no_commit, none_found}
+use Rattle.resource_rules.proofs.RulingLaws.{ok_as}
+use Rattle.resource_rules.proofs.TccEnds.{no_commit, none_found}
 use Rattle.resource_rules.proofs.tcc_ends.confirm.Goals as goal
 
 pub returns-in_default : goal.returns-in_default
@@ -13,14 +11,13 @@ returns-in_default c = λ ts from.
     no_commit c.args.setup.now c.args.memory.now ts c.args.leg c.args.manager c.args.call from
     (sym c.action_of.ensures ∙ ap (λ (o : Option _). option_copied o) (none_found c.action_of.result c.in_default.not-Some)) _ c.ignored.ensures
 
-pub confirm_by-requires : goal.confirm_by-requires
-confirm_by-requires c =
+pub confirm_for-requires : goal.confirm_for-requires
+confirm_for-requires c =
     subst (λ (ss : List Stmt). length ss ≤ FIELD_ITEMS) (sym c.as_slice.ensures)
     (c.requires.actions c.args.manager c.args.call c.in-Some.action.now (sym c.action_of.ensures ∙ ap (λ (o : Option _). option_copied o) c.in-Some.is)).confirms
 
 pub returns : goal.returns
 returns c =
-    confirmed_ok c.args.setup.now c.args.memory.now c.args.leg c.args.manager c.args.call c.in-Some.action.now
-    (sym c.action_of.ensures ∙ ap (λ (o : Option _). option_copied o) c.in-Some.is) c.kept-known.ensures.kept.rows
-    c.tables.result.now c.as_slice.result.now _ (c.tables.ensures ∙ ap (λ (k : Known). k.tables) c.kept-known.ensures.same) c.confirm_by.result c.as_slice.ensures
-    (sym (c.on_confirm-fence.ensures ∙ ap (λ (f : Fences). on_confirm (fence_at f c.args.leg)) (c.fence.ensures ∙ ap (λ (k : Known). k.fences) c.kept-known.ensures.same))) c.confirm_by.ensures
+    ok_as c.confirm_for.result
+    (λ a all. λ ts. all c.args.setup.now ts c.args.manager c.args.call c.in-Some.action.now (sym c.action_of.ensures ∙ ap (λ (o : Option _). option_copied o) c.in-Some.is) c.as_slice.ensures)
+    c.confirm_for.ensures.rules

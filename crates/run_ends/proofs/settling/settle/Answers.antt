@@ -14,6 +14,6 @@ pub returns-clause-joined : goal.returns-clause-joined
 returns-clause-joined g c = lent_joined c.args.nodes.items c.as_mut_slice.result.now c.join_nodes.new.nodes c.as_mut_slice.ensures.value c.in_ok-join_nodes.ensures
 
 pub returns-clause-settled : goal.returns-clause-settled
-returns-clause-settled g c =
-    settled c.ended_nodes_make_a_run.ensures c.ended_nodes_make_a_history.ensures g.K.RunName.world g.K.RunName.past g.K.RunName.run.stops c.args.nodes.items c.requires.run
+returns-clause-settled g c past =
+    settled c.ended_nodes_make_a_run.ensures c.ended_nodes_make_a_history.ensures g.K.RunName.world past g.K.RunName.run.stops c.args.nodes.items (c.requires.run past)
     (lent_joined c.args.nodes.items c.as_mut_slice.result.now c.join_nodes.new.nodes c.as_mut_slice.ensures.value c.in_ok-join_nodes.ensures)

@@ -1,7 +1,9 @@
-use Rattle.std.proofs.Common.{[], ◌∷◌, List, ℕ, inr, subst}
+use Rattle.std.proofs.Common.{[], ◌∷◌, List, ℕ, inl, inr, subst}
 use Rattle.seata_types.specs.declared.ids.Place.TheVariants as place
 use Rattle.node_seat.specs.Faults.{open_fault}
 use Rattle.scenario_nodes.specs.Nodes.{resource_server}
+use Rattle.scenario_nodes.specs.Opening.{IsNotHad}
+use Rattle.scenario_nodes.specs.Shelves.{AreTaken}
 use Rattle.scenario_nodes.specs.Together.{Takes}
 use Rattle.scenario_nodes.proofs.LoadedResource.{unread}
 use Rattle.scenario_nodes.proofs.NotOpened.{unread_back}
@@ -12,11 +14,9 @@ use Rattle.scenario_nodes.proofs.loading.load_resource.Goals as goal
 pub returns-in-Ok-load-clause-loaded : goal.returns-in-Ok-load-clause-loaded
 returns-in-Ok-load-clause-loaded g c =
     let d = c.in-Ok-take_disks in record {
-      first = d.disks.0;
-      second = d.disks.1;
+      disks = d.disks;
+      taken = subst (λ (name : List ℕ). AreTaken g.H.D.Disk.state (g.H.Shelf.state c.args.shelf.now) c.args.scenario.now.disk name d.disks) c.as_str-name.ensures d.ensures.taken;
       setup = c.in-Ok.setup;
-      first_blank = d.ensures.first;
-      second_blank = d.ensures.second;
       is = c.in-Ok.ensures.setup;
       loaded = c.in-Ok-load.ensures.loaded;
     }
@@ -33,12 +33,21 @@ returns-in-Err-load-clause-refused g c =
     let s = c.args.scenario.now in
     let n = c.args.number in
     let def = c.args.def.now in
+    let state = g.H.D.Disk.state in
+    let old = g.H.Shelf.state c.args.shelf.now in
     let d = c.in-Ok-take_disks in
     let e = c.in-Err-load in
-    inr (unread_back g.H.D.Disk.state s.disk (g.H.Shelf.state c.take_disks.new.shelf) (g.H.Shelf.state c.give_disks.new.shelf) (resource_server s (n, def)) c.as_str-name.result.now
-    (open_fault (place.Res n) e.error) c.open_fault.result e.first e.other c.as_str-name.ensures d.ensures.both c.give_disks.ensures.keeps c.give_disks.ensures.back c.open_fault.ensures
-    (unread g.H.D.Disk.state s c.requires.runnable.set.disk.0 n def d.disks.0 d.disks.1 d.ensures.first d.ensures.second c.in-Ok.setup c.in-Ok.ensures.setup c.in-Ok.ensures.within
-    (e.error, e.first, e.other) e.ensures.refused))
+    let taken = subst (λ (name : List ℕ). AreTaken state old s.disk name d.disks) c.as_str-name.ensures d.ensures.taken in
+    λ held. inr (unread_back state s old (g.H.Shelf.state c.take_disks.new.shelf) (g.H.Shelf.state c.give_disks.new.shelf) (resource_server s held (n, def)) c.as_str-name.result.now
+    (open_fault (place.Res n) e.error) c.open_fault.result e.first e.other c.as_str-name.ensures d.ensures.both d.ensures.keeps c.give_disks.ensures.keeps c.give_disks.ensures.back c.open_fault.ensures
+    (unread state old s n def d.disks taken c.in-Ok.setup c.in-Ok.ensures.setup c.in-Ok.ensures.within (e.error, e.first, e.other) e.ensures.refused held))
+
+-- its disks weren't had
+pub returns-in-Err-take_disks-clause-refused : goal.returns-in-Err-take_disks-clause-refused
+returns-in-Err-take_disks-clause-refused g c =
+    let old = g.H.Shelf.state c.args.shelf.now in
+    let new = g.H.Shelf.state c.take_disks.new.shelf in
+    λ held. inl (subst (λ (name : List ℕ). IsNotHad g.H.D.Disk.state c.args.scenario.now.disk (place.Res c.args.number) old new name c.in-Err-take_disks.fault) c.as_str-name.ensures c.in-Err-take_disks.ensures.refused)
 
 pub returns-in-Err-load-clause-returned : goal.returns-in-Err-load-clause-returned
 returns-in-Err-load-clause-returned g c =

@@ -120,9 +120,8 @@ returns-in-Err-clause-refused g c =
     let new = g.H.Shelf.state c.close_loaded.new.shelf in
     let here =
     subst (λ ds. slice_get ds k ≡ Some c.index-defs-k.result) c.as_slice-defs.ensures (slice_get_read c.as_slice-defs.result.now _ k c.index-defs-k.result refl c.loop-k-test.true c.index-defs-k.is) in
-    loading_stops g.H.D.Disk.state s old now k loaded c.loop-k.invariant.0 c.index-defs-k.result here mid new c.in-Err.fault c.requires.runnable.set.disk.0 (servers_apart s c.requires.runnable).1
-    c.load_resource.ensures.keeps c.in-Err.ensures.refused
-    (subst (λ (ds : List ResourceDef). GivesBack (names_before ds k) (map loaded_disks loaded) mid new) c.as_slice-defs.ensures c.close_loaded.ensures)
+    λ held. loading_stops g.H.D.Disk.state s old now k loaded c.loop-k.invariant.0 c.index-defs-k.result here (servers_apart s c.requires.runnable).1 mid new c.in-Err.fault c.load_resource.ensures.keeps
+    (subst (λ (ds : List ResourceDef). GivesBack (names_before ds k) (map loaded_disks loaded) mid new) c.as_slice-defs.ensures c.close_loaded.ensures) held (c.in-Err.ensures.refused held)
 
 pub returns-in-Err-clause-shelf : goal.returns-in-Err-clause-shelf
 returns-in-Err-clause-shelf g c =
@@ -135,8 +134,7 @@ returns-in-Err-clause-shelf g c =
     let new = g.H.Shelf.state c.close_loaded.new.shelf in
     let here =
     subst (λ ds. slice_get ds k ≡ Some c.index-defs-k.result) c.as_slice-defs.ensures (slice_get_read c.as_slice-defs.result.now _ k c.index-defs-k.result refl c.loop-k-test.true c.index-defs-k.is) in
-    loading_returned g.H.D.Disk.state s old now k loaded c.loop-k.invariant.0 c.index-defs-k.result here mid new c.in-Err.fault c.requires.runnable.set.disk.0 (servers_apart s c.requires.runnable).1
-    c.load_resource.ensures.keeps c.in-Err.ensures.refused
+    loading_returned g.H.D.Disk.state s old now k loaded c.loop-k.invariant.0 c.index-defs-k.result here (servers_apart s c.requires.runnable).1 mid new c.in-Err.fault c.load_resource.ensures.keeps
     (subst (λ (ds : List ResourceDef). GivesBack (names_before ds k) (map loaded_disks loaded) mid new) c.as_slice-defs.ensures c.close_loaded.ensures) c.in-Err.fault c.in-Err.ensures.returned
 
 pub loop-k-preserved : goal.loop-k-preserved
@@ -151,7 +149,7 @@ loop-k-preserved g c =
     let here =
     subst (λ ds. slice_get ds k ≡ Some c.index-defs-k.result) c.as_slice-defs.ensures (slice_get_read c.as_slice-defs.result.now _ k c.index-defs-k.result refl c.loop-k-test.true c.index-defs-k.is) in
     let pushed = c.push_back_reserved.ensures in (
-      loading_next state s old now k loaded c.loop-k.invariant.0 c.index-defs-k.result here mid c.in-Ok.one c.push_back_reserved.new.self.items pushed.items c.in-Ok.ensures.loaded c.in-Ok.ensures.takes,
+      loading_next state s old now k loaded c.loop-k.invariant.0 c.index-defs-k.result here (servers_apart s c.requires.runnable).1 mid c.in-Ok.one c.push_back_reserved.new.self.items pushed.items c.in-Ok.ensures.loaded c.in-Ok.ensures.takes,
       let len = c.loop-k.invariant.1 in let more = pushed.len in omega (arith, len, more),
       let capacity = c.loop-k.invariant.2 in let same = pushed.capacity in omega (arith, capacity, same),
     )

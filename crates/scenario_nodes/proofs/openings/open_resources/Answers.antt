@@ -25,19 +25,19 @@ pub load_resources-requires-clause-room : goal.load_resources-requires-clause-ro
 load_resources-requires-clause-room g c κs within = c.requires.room_loaded
 
 pub returns-in-Err-clause-refused : goal.returns-in-Err-clause-refused
-returns-in-Err-clause-refused g c = inl c.in-Err.ensures.refused
+returns-in-Err-clause-refused g c = λ held. inl (c.in-Err.ensures.refused held)
 
 pub returns-in-Err-clause-shelf : goal.returns-in-Err-clause-shelf
 returns-in-Err-clause-shelf g c = let shelf = c.in-Err.ensures.shelf in record { takes = tt; keeps = shelf.keeps; returned = shelf.returned }
 
 pub start_resources-requires-clause-up : goal.start_resources-requires-clause-up
-start_resources-requires-clause-up g c = all_up g.H.D.Disk.state c.args.scenario.now (numbered 1 c.args.scenario.now.resources) c.in-Ok.loaded.items c.in-Ok.ensures.loaded
+start_resources-requires-clause-up g c = all_up g.H.D.Disk.state (g.H.Shelf.state c.args.shelf.now) c.args.scenario.now (numbered 1 c.args.scenario.now.resources) c.in-Ok.loaded.items c.in-Ok.ensures.loaded
 
 pub start_resources-requires-clause-room : goal.start_resources-requires-clause-room
 start_resources-requires-clause-room g c =
     let s = c.args.scenario.now in
     let numbers = length_numbered 1 s.resources in
-    let each = each_length (IsLoadedAt g.H.D.Disk.state s) (numbered 1 s.resources) c.in-Ok.loaded.items c.in-Ok.ensures.loaded in
+    let each = each_length (IsLoadedAt g.H.D.Disk.state (g.H.Shelf.state c.args.shelf.now) s) (numbered 1 s.resources) c.in-Ok.loaded.items c.in-Ok.ensures.loaded in
     let loaded = c.in-Ok.loaded.ok.0 in
     let started = c.args.started.ok.0 in
     let none = ap length c.requires.none_started in
@@ -47,7 +47,7 @@ start_resources-requires-clause-room g c =
 pub returns-in-Ok-start_resources-clause-new : goal.returns-in-Ok-start_resources-clause-new
 returns-in-Ok-start_resources-clause-new g c =
     let s = c.args.scenario.now in
-    all_started g.H.D.Disk.state s c.requires.runnable.set.disk.0 (numbered 1 s.resources) c.in-Ok.loaded.items c.start_resources.new.started.items c.in-Ok.ensures.loaded c.in-Ok-start_resources.ensures
+    all_started g.H.D.Disk.state (g.H.Shelf.state c.args.shelf.now) s (numbered 1 s.resources) c.in-Ok.loaded.items c.start_resources.new.started.items c.in-Ok.ensures.loaded c.in-Ok-start_resources.ensures
 
 pub returns-in-Ok-start_resources-clause-shelf : goal.returns-in-Ok-start_resources-clause-shelf
 returns-in-Ok-start_resources-clause-shelf g c = let shelf = c.in-Ok.ensures.shelf in record { takes = shelf.takes; keeps = shelf.keeps; returned = tt }
@@ -56,7 +56,7 @@ pub overflow_cast-place : goal.overflow_cast-place
 overflow_cast-place g c =
     let s = c.args.scenario.now in
     let e = c.in-Err-start_resources in
-    let whole = all_counted g.H.D.Disk.state s c.requires.runnable.set.disk.0 c.in-Ok.loaded.items c.start_resources.new.loaded.items c.start_resources.new.started.items (e.error, e.first, e.second) c.in-Ok.ensures.loaded e.ensures in
+    let whole = all_counted g.H.D.Disk.state (g.H.Shelf.state c.args.shelf.now) s c.in-Ok.loaded.items c.start_resources.new.loaded.items c.start_resources.new.started.items (e.error, e.first, e.second) c.in-Ok.ensures.loaded e.ensures in
     let few = c.requires.runnable.servers in
     let len = c.len.ensures in
     let items = c.start_resources.new.started.ok.0 in
@@ -66,7 +66,7 @@ pub overflow_add-place : goal.overflow_add-place
 overflow_add-place g c =
     let s = c.args.scenario.now in
     let e = c.in-Err-start_resources in
-    let whole = all_counted g.H.D.Disk.state s c.requires.runnable.set.disk.0 c.in-Ok.loaded.items c.start_resources.new.loaded.items c.start_resources.new.started.items (e.error, e.first, e.second) c.in-Ok.ensures.loaded e.ensures in
+    let whole = all_counted g.H.D.Disk.state (g.H.Shelf.state c.args.shelf.now) s c.in-Ok.loaded.items c.start_resources.new.loaded.items c.start_resources.new.started.items (e.error, e.first, e.second) c.in-Ok.ensures.loaded e.ensures in
     let few = c.requires.runnable.servers in
     let len = c.len.ensures in
     let items = c.start_resources.new.started.ok.0 in
@@ -86,7 +86,7 @@ close_all-requires-clause-whole g c κs within =
     let started = c.start_resources.new.started.items in
     let e = c.in-Err-start_resources in
     subst (λ (ds : List ResourceDef). length started + 1 + length loaded ≡ length ds) (sym c.as_slice-defs.ensures)
-    (all_counted g.H.D.Disk.state s c.requires.runnable.set.disk.0 c.in-Ok.loaded.items loaded started (e.error, e.first, e.second) c.in-Ok.ensures.loaded e.ensures)
+    (all_counted g.H.D.Disk.state (g.H.Shelf.state c.args.shelf.now) s c.in-Ok.loaded.items loaded started (e.error, e.first, e.second) c.in-Ok.ensures.loaded e.ensures)
 
 pub close_all-requires-clause-taken : goal.close_all-requires-clause-taken
 close_all-requires-clause-taken g c κs within =
@@ -99,15 +99,15 @@ returns-in-Err-start_resources-clause-refused g c =
     let names = map resource_name s.resources in
     let loaded = c.start_resources.new.loaded.items in
     let started = c.start_resources.new.started.items in
+    let old = g.H.Shelf.state c.args.shelf.now in
     let mid = g.H.Shelf.state c.load_resources.new.shelf in
     let new = g.H.Shelf.state c.close_all.new.shelf in
     let disks = all_disks started (e.first, e.second) loaded in
     let gives = subst (λ (ds : List ResourceDef). GivesBack (map resource_name ds) disks mid new) c.as_slice-defs.ensures c.close_all.ensures in
-    let named = sym (names_numbered s 1 s.resources) in
-    inr (starting_stops g.H.D.Disk.state s c.requires.runnable.set.disk.0 c.in-Ok.loaded.items loaded started (e.error, e.first, e.second) c.in-Ok.ensures.loaded e.ensures mid new c.open_fault.result
-    (c.open_fault.ensures ∙ ap (λ (n : ℕ). open_fault (place.Res (n + 1)) e.error) (c.len.ensures ∙ c.start_resources.new.started.ok.0))
-    (subst (HaveBoth new) named (have_still mid new names (λ name had. (gives.places name).1 had) c.in-Ok.ensures.shelf.takes.both))
-    (subst (λ (ns : List (List ℕ)). GivesBack ns disks mid new) named gives))
+    let taken = have_still mid new names (λ name had. (gives.places name).1 had) c.in-Ok.ensures.shelf.takes.both in
+    λ held. inr (starting_stops g.H.D.Disk.state old s c.in-Ok.loaded.items loaded started (e.error, e.first, e.second) c.in-Ok.ensures.loaded e.ensures held (IsOfOne names) mid new c.open_fault.result
+    (c.open_fault.ensures ∙ ap (λ (n : ℕ). open_fault (place.Res (n + 1)) e.error) (c.len.ensures ∙ c.start_resources.new.started.ok.0)) c.in-Ok.ensures.shelf.keeps
+    (subst (HaveBoth new) (sym (names_numbered s held 1 s.resources)) taken) (subst (λ (ns : List (List ℕ)). GivesBack ns disks mid new) (sym (names_numbered s held 1 s.resources)) gives))
 
 pub returns-in-Err-start_resources-clause-shelf : goal.returns-in-Err-start_resources-clause-shelf
 returns-in-Err-start_resources-clause-shelf g c =

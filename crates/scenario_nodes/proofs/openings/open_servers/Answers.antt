@@ -5,6 +5,8 @@ use Rattle.scenario_nodes.specs.Nodes.{coordinator_disks, coordinator_server, re
 use Rattle.scenario_nodes.specs.Shelves.{IsDiskName, coordinator_name, second_name}
 use Rattle.scenario_nodes.specs.Together.{IsOfOne}
 use Rattle.scenario_nodes.proofs.AllBack.{none_asked}
+use Rattle.scenario_nodes.proofs.AllStarted.{all_before}
+use Rattle.scenario_nodes.proofs.Apart.{servers_apart}
 use Rattle.scenario_nodes.proofs.NewServers.{coordinator_stops, resources_stop}
 use Rattle.scenario_nodes.proofs.Returned.{keeps_then, keeps_wider}
 use Rattle.scenario_nodes.proofs.Together.{gives_one, none_taken, of_behind, of_front, returned_all, takes_one, takes_then}
@@ -13,7 +15,7 @@ use Rattle.scenario_nodes.proofs.openings.open_servers.Goals as goal
 pub returns-in_default-clause-refused : goal.returns-in_default-clause-refused
 returns-in_default-clause-refused g c =
     let s = c.args.scenario.now in
-    inl (none_asked g.H.D.Disk.state s.disk (g.H.Shelf.state c.args.shelf.now) (coordinator_server s) (resource_servers s))
+    λ held. inl (none_asked g.H.D.Disk.state s (g.H.Shelf.state c.args.shelf.now) (coordinator_server s held) (resource_servers s held))
 
 pub returns-in_default-clause-shelf : goal.returns-in_default-clause-shelf
 returns-in_default-clause-shelf g c = none_taken (server_names c.args.scenario.now) (g.H.Shelf.state c.args.shelf.now) fault.NoMemory
@@ -21,15 +23,15 @@ returns-in_default-clause-shelf g c = none_taken (server_names c.args.scenario.n
 pub returns-in_default-with_capacity-clause-refused : goal.returns-in_default-with_capacity-clause-refused
 returns-in_default-with_capacity-clause-refused g c =
     let s = c.args.scenario.now in
-    inl (none_asked g.H.D.Disk.state s.disk (g.H.Shelf.state c.args.shelf.now) (coordinator_server s) (resource_servers s))
+    λ held. inl (none_asked g.H.D.Disk.state s (g.H.Shelf.state c.args.shelf.now) (coordinator_server s held) (resource_servers s held))
 
 pub returns-in_default-with_capacity-clause-shelf : goal.returns-in_default-with_capacity-clause-shelf
 returns-in_default-with_capacity-clause-shelf g c = none_taken (server_names c.args.scenario.now) (g.H.Shelf.state c.args.shelf.now) fault.NoMemory
 
 pub returns-in-Err-clause-refused : goal.returns-in-Err-clause-refused
 returns-in-Err-clause-refused g c =
-    inl (coordinator_stops g.H.D.Disk.state c.args.scenario.now (g.H.Shelf.state c.args.shelf.now) (g.H.Shelf.state c.open_coordinator.new.shelf) c.in-Err.fault c.requires.runnable
-    c.open_coordinator.ensures.keeps c.in-Err.ensures.refused)
+    λ held. inl (coordinator_stops g.H.D.Disk.state c.args.scenario.now held (g.H.Shelf.state c.args.shelf.now) (g.H.Shelf.state c.open_coordinator.new.shelf) c.in-Err.fault c.requires.runnable
+    c.open_coordinator.ensures.keeps (c.in-Err.ensures.refused held))
 
 pub returns-in-Err-clause-shelf : goal.returns-in-Err-clause-shelf
 returns-in-Err-clause-shelf g c = record {
@@ -79,9 +81,9 @@ returns-in-Err-open_resources-clause-refused g c =
     let new = g.H.Shelf.state c.close_coordinator.new.shelf in
     let opened = c.open_coordinator.ensures in
     let closed = c.close_coordinator.ensures in
-    resources_stop g.H.D.Disk.state s c.requires.runnable (length s.managers) (length s.resources) tc.coordinator tc.ensures.new old now mid new (IsOfOne (map resource_name s.resources))
+    λ held. resources_stop g.H.D.Disk.state s held c.requires.runnable (length s.managers) (length s.resources) tc.coordinator old now mid new tc.ensures.new (IsOfOne (map resource_name s.resources))
     c.in-Err-open_resources.fault (takes_one coordinator_name old now tc.ensures.both opened.keeps tc.ensures.out) c.open_resources.ensures.shelf.keeps
-    (gives_one coordinator_name (coordinator_disks tc.coordinator) mid new closed.back closed.keeps closed.places closed.returned) c.in-Err-open_resources.ensures.refused
+    (gives_one coordinator_name (coordinator_disks tc.coordinator) mid new closed.back closed.keeps closed.places closed.returned) (c.in-Err-open_resources.ensures.refused held)
 
 pub returns-in-Err-open_resources-clause-shelf : goal.returns-in-Err-open_resources-clause-shelf
 returns-in-Err-open_resources-clause-shelf g c =
@@ -101,6 +103,19 @@ returns-in-Err-open_resources-clause-shelf g c =
       keeps = keeps_then (IsOfOne first) (IsOfOne (server_names s)) (IsOfOne (server_names s)) old now new (of_front first names) (λ n o. o) takes.keeps
           (keeps_then (IsOfOne names) (IsOfOne first) (IsOfOne (server_names s)) now mid new (of_behind first names) (of_front first names) shelf.keeps gives.keeps);
       returned = returned_all first (coordinator_disks tc.coordinator ∷ []) old now mid new takes shelf.keeps.tells c.in-Err-open_resources.ensures.shelf.returned gives;
+    }
+
+-- the resources were opened on the disks that the shelf gave before the coordinator's were taken
+pub returns-in-Ok-open_resources-clause-new : goal.returns-in-Ok-open_resources-clause-new
+returns-in-Ok-open_resources-clause-new g c =
+    let s = c.args.scenario.now in
+    let tc = c.in-Ok-open_coordinator in
+    let old = g.H.Shelf.state c.args.shelf.now in
+    let now = g.H.Shelf.state c.open_coordinator.new.shelf in
+    record {
+      coordinator = tc.ensures.new;
+      resources = all_before g.H.D.Disk.state old now s 1 s.resources c.in-Ok-open_resources.resources.items
+          (λ name o. c.open_coordinator.ensures.keeps.others name (λ its. (servers_apart s c.requires.runnable).0 name its o)) c.in-Ok-open_resources.ensures.new;
     }
 
 pub returns-in-Ok-open_resources-clause-shelf : goal.returns-in-Ok-open_resources-clause-shelf

@@ -5,7 +5,7 @@ use Rattle.std.proofs.lemmas.Option.{slice_get_read}
 use Rattle.seata_types.specs.declared.statements.Action.{Action}
 use Rattle.history_text.specs.Worlds.{call_actions}
 use Rattle.resource_core.specs.Ready.{HasActionWithin}
-use Rattle.resource_core.specs.Setups.{actions_of}
+use Rattle.resource_rules.specs.Setups.{actions_of}
 use Rattle.scenario_nodes.specs.Calls.{IsFramableAction, IsReadAction, IsReadCall, action_here}
 use Rattle.scenario_nodes.proofs.Framable.{action_within, here_read}
 use Rattle.scenario_nodes.proofs.Made.{call_passed, call_taken}

@@ -2,7 +2,7 @@ use Rattle.std.proofs.Common.{◌≡◌, ◌+◌, ◌++◌, drop}
 use Rattle.std.specs.List.{AllByRecursion}
 use Rattle.history_text.specs.Worlds.{call_actions}
 use Rattle.resource_core.specs.Ready.{HasActionWithin}
-use Rattle.resource_core.specs.Setups.{actions_of}
+use Rattle.resource_rules.specs.Setups.{actions_of}
 use Rattle.scenario_nodes.proofs.setups.put_calls.Given as goal
 
 abbrev pub invariant-loop-k : goal.invariant-loop-k

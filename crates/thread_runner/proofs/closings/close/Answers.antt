@@ -10,7 +10,7 @@ use Rattle.run_ends.specs.Joining.{AreOfRun}
 use Rattle.run_ends.specs.Ending.{trace_of}
 use Rattle.run_ends.specs.Settled.{AreSettled}
 use Rattle.node_steps.specs.Nodes.{IsLawful}
-use Rattle.node_seat.specs.Running.{IsSeat}
+use Rattle.node_seat.specs.Running.{KeepsSeat}
 use Rattle.node_seat.specs.Seating.{Seated}
 use Rattle.thread_runner.specs.Ending.{Keeps, all_here, ending_at, endings, here, node_of}
 use Rattle.thread_runner.proofs.Places.{all_counted, disks_out, endings_in_order, endings_of_run, ends_counted, put_count}
@@ -34,14 +34,14 @@ close_servers-requires-clause-whole g c κs within =
     ∙ put_count (resource.node_state g.H.D.Disk.state) false (length c.args.scenario.now.resources) c.args.seats.resources.items c.requires.seats.resources
 
 pub settle-requires-clause-run : goal.settle-requires-clause-run
-settle-requires-clause-run g c =
+settle-requires-clause-run g c past =
     let state = g.H.D.Disk.state in
     let e = c.end_of-coordinator.ensures in
-    subst (AreOfRun g.K.RunName.world g.K.RunName.past)
+    subst (AreOfRun g.K.RunName.world past)
     (sym (endings_in_order state c.args.scenario.now c.args.seats c.requires.seats c.in-Some.begun c.in-Some.is c.end_of-coordinator.result.1 (e.ended ∙ ap (ending_at (coordinator.node_state state)) c.into_seat.ensures.seat)
     c.args.room.ended.items c.push_reserved.new.self.items c.unseated-resources.new.ended.items c.unseated-managers.new.ended.items c.requires.room.no_end c.push_reserved.ensures.items
     c.unseated-resources.ensures.ended c.unseated-managers.ensures.ended))
-    (endings_of_run state c.args.scenario.now c.args.seats c.requires.seats g.K.RunName.world g.K.RunName.past c.requires.world.0 c.requires.world.1)
+    (endings_of_run state c.args.scenario.now c.args.seats c.requires.seats g.K.RunName.world past c.requires.world)
 
 pub settle-requires-clause-room : goal.settle-requires-clause-room
 settle-requires-clause-room g c =
@@ -64,13 +64,13 @@ pub returns-in-Some-settle-clause-keep : goal.returns-in-Some-settle-clause-keep
 returns-in-Some-settle-clause-keep g c =
     let state = coordinator.node_state g.H.D.Disk.state in
     let world = g.K.RunName.world in
-    let past = g.K.RunName.past in
+    let held = g.K.RunName.held in
     let run = g.K.RunName.run in
     let same = c.into_seat.ensures.seat in
     let e = c.end_of-coordinator.ensures in record {
-      coordinator = subst (λ o. AllByRecursion (Keeps state world past run) (here o)) (sym c.in-Some.is) (
+      coordinator = subst (λ o. AllByRecursion (Keeps state world held run) (here o)) (sym c.in-Some.is) (
         record {
-          seat = subst (λ (x : Seated _). IsSeat (state x.node) world past run x) same e.keeps;
+          seat = subst (λ (x : Seated _). KeepsSeat (state x.node) world held run x) same e.keeps;
           begun = c.into_seat.ensures.begun;
           lawful = subst (λ (x : Seated _). IsLawful (state x.node)) same e.lawful;
         },
@@ -90,10 +90,10 @@ returns-in-Some-settle-clause-traces g c =
     c.unseated-resources.ensures.ended c.unseated-managers.ensures.ended)
 
 pub returns-in-Some-settle-clause-settled : goal.returns-in-Some-settle-clause-settled
-returns-in-Some-settle-clause-settled g c =
+returns-in-Some-settle-clause-settled g c past =
     let state = g.H.D.Disk.state in
     let e = c.end_of-coordinator.ensures in
-    subst (AreSettled g.K.RunName.world g.K.RunName.past g.K.RunName.run.stops)
+    subst (AreSettled g.K.RunName.world past g.K.RunName.run.stops)
     (endings_in_order state c.args.scenario.now c.args.seats c.requires.seats c.in-Some.begun c.in-Some.is c.end_of-coordinator.result.1 (e.ended ∙ ap (ending_at (coordinator.node_state state)) c.into_seat.ensures.seat)
     c.args.room.ended.items c.push_reserved.new.self.items c.unseated-resources.new.ended.items c.unseated-managers.new.ended.items c.requires.room.no_end c.push_reserved.ensures.items
-    c.unseated-resources.ensures.ended c.unseated-managers.ensures.ended) c.in-Some-settle.ensures.settled
+    c.unseated-resources.ensures.ended c.unseated-managers.ensures.ended) (c.in-Some-settle.ensures.settled past)

@@ -19,7 +19,7 @@ outfits-requires-2-clause-ends g c k l e = subst (λ q. HasEndsAt q (place.Man (
 pub seats_of-requires-clause-may : goal.seats_of-requires-clause-may
 seats_of-requires-clause-may g c =
     let s = c.args.scenario.now in
-    managers_sit g.D.Disk.state g.K.RunName.world g.K.RunName.past g.K.RunName.run s c.requires.named c.requires.runnable c.in_ok-made.made.items c.in_ok-given.given.items c.in_ok-made.ensures
+    managers_sit g.K.RunName.world g.K.RunName.held g.K.RunName.run s c.requires.named c.requires.runnable c.in_ok-made.made.items c.in_ok-given.given.items c.in_ok-made.ensures
     (subst (λ n. AreOutfits s g.K.RunName.run.queue true n c.in_ok-given.given.items) c.requires.links.manager_count c.in_ok-given.ensures)
 
 pub seats_of-requires-clause-room : goal.seats_of-requires-clause-room

@@ -18,8 +18,8 @@ loop-node-init g c =
     let room = c.requires.room in (
       subst (λ ns. AreFirst (λ node. IsPutAt g.N.Node.state (g.N.Node.state node).place) all c.args.seats.items ns) (sym whole)
           (subst (λ seats. AreFirst (λ node. IsPutAt g.N.Node.state (g.N.Node.state node).place) all seats all) (sym c.requires.none) (first_none (λ node. IsPutAt g.N.Node.state (g.N.Node.state node).place) all)),
-      subst (λ ns. AreEach (λ node. MaySit g.K.RunName.world g.K.RunName.past g.K.RunName.run (g.N.Node.state node)) ns given) (sym whole)
-          (subst (AreEach (λ node. MaySit g.K.RunName.world g.K.RunName.past g.K.RunName.run (g.N.Node.state node)) all) (sym every) c.requires.may),
+      subst (λ ns. AreEach (λ node. MaySit g.K.RunName.world g.K.RunName.held g.K.RunName.run (g.N.Node.state node)) ns given) (sym whole)
+          (subst (AreEach (λ node. MaySit g.K.RunName.world g.K.RunName.held g.K.RunName.run (g.N.Node.state node)) all) (sym every) c.requires.may),
       omega (arith, size, none, room),
     )
 
@@ -27,8 +27,8 @@ pub seat_of-requires : goal.seat_of-requires
 seat_of-requires g c =
     let node = c.in-Some.node in
     let rest = into_iter_items c.next.new.self in
-    (subst (AreEach (λ n. MaySit g.K.RunName.world g.K.RunName.past g.K.RunName.run (g.N.Node.state n)) (node ∷ rest)) c.in-Some-next.ensures.items
-    (subst (λ ns. AreEach (λ n. MaySit g.K.RunName.world g.K.RunName.past g.K.RunName.run (g.N.Node.state n)) ns (into_iter_items c.loop-node.outfits)) c.in-Some.ensures.steps.0 c.loop-node.invariant.1)).0
+    (subst (AreEach (λ n. MaySit g.K.RunName.world g.K.RunName.held g.K.RunName.run (g.N.Node.state n)) (node ∷ rest)) c.in-Some-next.ensures.items
+    (subst (λ ns. AreEach (λ n. MaySit g.K.RunName.world g.K.RunName.held g.K.RunName.run (g.N.Node.state n)) ns (into_iter_items c.loop-node.outfits)) c.in-Some.ensures.steps.0 c.loop-node.invariant.1)).0
 
 pub loop-node-preserved : goal.loop-node-preserved
 loop-node-preserved g c =
@@ -44,8 +44,8 @@ loop-node-preserved g c =
       subst (λ seats. AreFirst (λ n. IsPutAt g.N.Node.state (g.N.Node.state n).place) all seats rest) (sym c.push_reserved.ensures.items)
           (first_next (λ n. IsPutAt g.N.Node.state (g.N.Node.state n).place) all c.loop-node.seats.items node rest c.seat_of.result
           (subst (λ ns. AreFirst (λ n. IsPutAt g.N.Node.state (g.N.Node.state n).place) all c.loop-node.seats.items ns) next i.0) c.seat_of.ensures),
-      (subst (AreEach (λ n. MaySit g.K.RunName.world g.K.RunName.past g.K.RunName.run (g.N.Node.state n)) (node ∷ rest)) c.in-Some-next.ensures.items
-          (subst (λ ns. AreEach (λ n. MaySit g.K.RunName.world g.K.RunName.past g.K.RunName.run (g.N.Node.state n)) ns (into_iter_items c.loop-node.outfits)) next i.1)).1,
+      (subst (AreEach (λ n. MaySit g.K.RunName.world g.K.RunName.held g.K.RunName.run (g.N.Node.state n)) (node ∷ rest)) c.in-Some-next.ensures.items
+          (subst (λ ns. AreEach (λ n. MaySit g.K.RunName.world g.K.RunName.held g.K.RunName.run (g.N.Node.state n)) ns (into_iter_items c.loop-node.outfits)) next i.1)).1,
       omega (arith, left, room, more, capacity),
     )
 

@@ -9,5 +9,5 @@ use Rattle.thread_runner.proofs.openings.seats_of.Given as goal
 abbrev pub invariant-loop-node : goal.invariant-loop-node
 invariant-loop-node g l =
     AreFirst (λ node. IsPutAt g.N.Node.state (g.N.Node.state node).place) l.fn.nodes.items l.seats.items (into_iter_items l.node-iterator)
-    × AreEach (λ node. MaySit g.K.RunName.world g.K.RunName.past g.K.RunName.run (g.N.Node.state node)) (into_iter_items l.node-iterator) (into_iter_items l.outfits)
+    × AreEach (λ node. MaySit g.K.RunName.world g.K.RunName.held g.K.RunName.run (g.N.Node.state node)) (into_iter_items l.node-iterator) (into_iter_items l.outfits)
     × (length l.seats.items + length (into_iter_items l.node-iterator) ≤ vec_capacity l.seats)

@@ -8,20 +8,19 @@ use Rattle.thread_runner.proofs.runs.run.Goals as goal
 pub run_named-requires-clause-named : goal.run_named-requires-clause-named
 run_named-requires-clause-named g c κs within = record {
   is_world = refl;
-  is_past = refl;
   stops = refl;
   bytes = refl;
-  starts = refl;
   managers = refl;
   resources = refl;
-  tells = λ told. told;
-  told = λ told. told;
 }
 
+pub run_named-requires-clause-disks : goal.run_named-requires-clause-disks
+run_named-requires-clause-disks g c κs within = record { tells = λ told. told; told = λ told. told; holds = λ h holds. holds; held_all = λ h holds. holds }
+
 pub returns-clause-calm : goal.returns-clause-calm
-returns-clause-calm g c =
+returns-clause-calm g c held holds =
     let s = c.args.scenario.now in
-    ends_calmly (Leaves s) (never_damaged s) g.H.D.Disk.state s (g.H.Shelf.state c.args.shelf.now) (g.H.Shelf.state c.run_named.new.shelf) c.run_named.result
+    ends_calmly (Leaves s) g.H.D.Disk.state s (g.H.Shelf.state c.args.shelf.now) (g.H.Shelf.state c.run_named.new.shelf) held (never_damaged s held) holds c.run_named.result
     c.run_named.ensures.keeps.tells c.run_named.ensures.uses
 
 pub returns-in_default-clause-runs : goal.returns-in_default-clause-runs

@@ -15,7 +15,7 @@ choose-requires g c =
 pub returns-in-Err-clause-played : goal.returns-in-Err-clause-played
 returns-in-Err-clause-played g c = λ ready.
     let kept = c.loop.invariant.plays ready in
-    c.in-Err.ensures.made (choosing g.D.Disk.state c.loop.self ready.s kept.0 (c.args.steps - c.loop.counter) ready.rest ready.runnable kept.1 (omega arith) kept.2)
+    c.in-Err.ensures.made (choosing g.D.Disk.state c.loop.self ready.s ready.held kept.0 (c.args.steps - c.loop.counter) ready.rest ready.runnable kept.1 (omega arith) kept.2)
 
 pub returns-in-Err-clause-gone : goal.returns-in-Err-clause-gone
 returns-in-Err-clause-gone g c = record { failed = c.in-Err.ensures.gone.failed; went = tt; count = c.choose.ensures.gone.count ∙ c.loop.invariant.goes.nodes.resource_count }
@@ -24,7 +24,7 @@ pub loop-preserved : goal.loop-preserved
 loop-preserved g c = record {
   plays = λ ready.
       let kept = c.loop.invariant.plays ready in
-      let made = c.in_default.ensures.made (choosing g.D.Disk.state c.loop.self ready.s kept.0 (c.args.steps - c.loop.counter) ready.rest ready.runnable kept.1 (omega arith) kept.2) in
+      let made = c.in_default.ensures.made (choosing g.D.Disk.state c.loop.self ready.s ready.held kept.0 (c.args.steps - c.loop.counter) ready.rest ready.runnable kept.1 (omega arith) kept.2) in
       (made.0, made.1, one_fewer ready.s made.0 c.args.steps c.loop.counter ready.rest made.2);
   goes = one_more (length c.args.self.now.nodes.managers.items) (length c.args.self.now.nodes.resources.items) (length c.args.self.now.places.items) c.loop.counter c.loop.self c.choose.new.self c.loop.invariant.goes c.in_default.ensures.gone.went;
 }

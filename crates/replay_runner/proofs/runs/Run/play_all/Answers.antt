@@ -11,7 +11,7 @@ use Rattle.replay_runner.proofs.runs.Run.play_all.Goals as goal
 
 pub loop-item-init : goal.loop-item-init
 loop-item-init g c = record {
-  plays = λ s runs listed same plays. ([], plays, none_played s c.args.schedule.now same);
+  plays = λ s held runs listed same plays. ([], plays, none_played s c.args.schedule.now same);
   goes = (length c.args.self.now.places.items, c.requires.can.goes, c.requires.can.room);
 }
 
@@ -38,11 +38,11 @@ play-requires-clause-locals g c =
     subst (λ n. AreLocals n c.args.locals.now) (sym goes.nodes.resource_count) c.requires.locals
 
 pub returns-in-Err-clause-played : goal.returns-in-Err-clause-played
-returns-in-Err-clause-played g c = λ s runs listed same plays.
+returns-in-Err-clause-played g c = λ s held runs listed same plays.
     let k = c.loop-item.item-index in
     let here = slice_get-get_or c.args.schedule.now k (item.Turn place.Net) c.loop-item-test.true in
-    let kept = c.loop-item.invariant.plays s runs listed same plays in
-    c.in-Err.ensures.played (record { ready = next_member g.D.Disk.state c.loop-item.self c.args.schedule.now k (get_or c.args.schedule.now k (item.Turn place.Net)) here s runs kept.0 kept.1 kept.2; locals_are = listed })
+    let kept = c.loop-item.invariant.plays s held runs listed same plays in
+    c.in-Err.ensures.played (record { ready = next_member g.D.Disk.state c.loop-item.self c.args.schedule.now k (get_or c.args.schedule.now k (item.Turn place.Net)) here s held runs kept.0 kept.1 kept.2; locals_are = listed })
 
 pub loop-item-preserved : goal.loop-item-preserved
 loop-item-preserved g c =
@@ -52,9 +52,9 @@ loop-item-preserved g c =
     let (entries, goes, room) = c.loop-item.invariant.goes in
     let steps = next_room c.args.schedule.now k next here in
     record {
-      plays = λ s runs listed same plays.
-          let kept = c.loop-item.invariant.plays s runs listed same plays in
-          c.in_default.ensures.played (record { ready = next_member g.D.Disk.state c.loop-item.self c.args.schedule.now k next here s runs kept.0 kept.1 kept.2; locals_are = listed });
+      plays = λ s held runs listed same plays.
+          let kept = c.loop-item.invariant.plays s held runs listed same plays in
+          c.in_default.ensures.played (record { ready = next_member g.D.Disk.state c.loop-item.self c.args.schedule.now k next here s held runs kept.0 kept.1 kept.2; locals_are = listed });
       goes = (
         entries + steps_of next,
         went_on (length c.args.self.now.nodes.managers.items) (length c.args.self.now.nodes.resources.items) entries (steps_of next) c.loop-item.self c.play.new.self goes c.in_default.ensures.gone.went,
@@ -63,8 +63,8 @@ loop-item-preserved g c =
     }
 
 pub returns-clause-played : goal.returns-clause-played
-returns-clause-played g c = λ s runs listed same plays.
-    let kept = c.loop-item.invariant.plays s runs listed same plays in
+returns-clause-played g c = λ s held runs listed same plays.
+    let kept = c.loop-item.invariant.plays s held runs listed same plays in
     (kept.0, kept.1, all_played s c.args.schedule.now kept.0 c.loop-item.item-index (let past = c.loop-item-test.false in omega (arith, past)) kept.2)
 
 pub returns-in-Err-clause-count : goal.returns-in-Err-clause-count

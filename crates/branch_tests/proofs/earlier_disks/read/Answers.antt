@@ -1,8 +1,0 @@
-use Rattle.branch_tests.proofs.AccountRows.{opens, rows_fit}
-use Rattle.branch_tests.proofs.earlier_disks.read.Goals as goal
-
-pub read-requires-clause-opens : goal.read-requires-clause-opens
-read-requires-clause-opens c = opens _ _ c.requires.schema c.requires.opening
-
-pub read-requires-clause-fits : goal.read-requires-clause-fits
-read-requires-clause-fits c = rows_fit _ c.requires.opening
