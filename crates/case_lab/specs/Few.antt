@@ -1,7 +1,7 @@
 -- What contracts see of a shelf of few disks.
 use Rattle.std.specs.Prelude.{false}
 use Rattle.disk_model.specs.Memory.{Memory}
-use Rattle.disk_model.specs.Shelf.{ShelfState}
+use Rattle.disk_model.specs.Shelf.{OnlyTellersHave, ShelfState}
 use Rattle.case_lab.specs.declared.devices.FewDisks.{FewDisks}
 
 -- it counts its faults, and tells nothing else
@@ -13,3 +13,6 @@ few_state shelf = record {
   given_back = λ name disk. ⊥;
   gives = λ name. 0;
 }
+
+pub few_lawful : (shelf : FewDisks) → OnlyTellersHave (few_state shelf)
+few_lawful shelf name disk given = absurd given

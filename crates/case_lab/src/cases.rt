@@ -2,6 +2,7 @@
 //! that, `! NAME NUMBER` is a setting, `? TEXT` a text that is looked for in what is written, `*N TEXT` is N times this text,
 //! `xN DIGITS` N times the bytes of hexadecimal digits, and each other line is a line of the input.
 use crate::runs::run;
+use disk_model::MemShelf;
 use hex::{FromHexError, decode};
 use seata_types::{NoMemory, Text};
 use std::alloc::Global;
@@ -37,15 +38,17 @@ impl Case {
         }
     }
 
-    /// Takes a line, and gives what is printed for it: the heading of a case, or what a run came to.
+    /// Takes a line, and gives what is printed for it: the heading of a case, or what a run came to, also on a shelf that is kept
+    /// from one run to the next.
     pub fn take<R: Threads + Wait + Sync>(
         &mut self,
         rt: &R,
         alloc: Global,
         line: &str,
+        kept: &mut MemShelf,
     ) -> Result<Vec<u8>, NoMemory> {
         if line == "." {
-            return run(rt, alloc, self);
+            return run(rt, alloc, self, kept);
         }
         if let Some(heading) = line.strip_prefix("= ") {
             *self = Case::new(alloc);

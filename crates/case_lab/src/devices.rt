@@ -79,9 +79,11 @@ impl FewDisks {
 impl Shelf for FewDisks {
     type D = MemDisk;
 
-    ghost use Rattle.case_lab.specs.Few.{few_state};
+    ghost use Rattle.case_lab.specs.Few.{few_lawful, few_state};
 
     ghost state = { few_state };
+
+    ghost lawful = { few_lawful };
 
     fn take(&mut self, alloc: Global, _name: &str, size: u64) -> Result<MemDisk, ShelfError> {
         if self.disks == 0 {

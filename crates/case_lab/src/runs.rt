@@ -1,7 +1,7 @@
 //! One run of a case. Its settings: `read-most` and `write-most`, the bytes of a call at most; `read-fails` and `write-fails`,
 //! the call that fails, counted from 1; `room`, the bytes of the sink; `streams`, to stand on a reader and a writer; `disks`,
-//! those of a shelf, which then fails, or with `refuses` lacks memory; `meet`, to hold two workers until they meet; `last`, how
-//! many of the last lines are printed.
+//! those of a shelf, which then fails, or with `refuses` lacks memory; `kept`, which of the runs on one shelf it is, counted from 1;
+//! `meet`, to hold two workers until they meet; `last`, how many of the last lines are printed.
 use crate::cases::Case;
 use crate::devices::{FewDisks, Reader, Writer};
 use crate::gates::Meeting;
@@ -12,11 +12,12 @@ use std::alloc::Global;
 use std::sync::Wait;
 use std::thread::Threads;
 
-/// Runs a case: what is printed of it.
+/// Runs a case: what is printed of it. The first run on a shelf that is kept has a new one.
 pub fn run<R: Threads + Wait + Sync>(
     rt: &R,
     alloc: Global,
     case: &Case,
+    kept: &mut MemShelf,
 ) -> Result<Vec<u8>, NoMemory> {
     let mut source = source_of(alloc, case)?;
     let mut sink = sink_of(alloc, case)?;
@@ -31,7 +32,10 @@ pub fn run<R: Threads + Wait + Sync>(
     if case.number("meet", 0) > 0 {
         return over_meeting(rt, alloc, case, &mut source, &mut sink);
     }
-    over_memory(rt, alloc, case, &mut source, &mut sink)
+    if case.number("kept", 1) == 1 {
+        *kept = MemShelf::new(alloc);
+    }
+    over_memory(rt, alloc, case, &mut source, &mut sink, kept)
 }
 
 /// The source of a case, of at least one byte a call.
@@ -63,10 +67,10 @@ fn over_memory<R: Threads + Wait + Sync>(
     case: &Case,
     source: &mut MemSource,
     sink: &mut MemSink,
+    shelf: &mut MemShelf,
 ) -> Result<Vec<u8>, NoMemory> {
-    let mut shelf = MemShelf::new(alloc);
     let words = case.words.as_slice();
-    let status = top(rt, alloc, words, source, sink, &mut shelf, &OpenGate);
+    let status = top(rt, alloc, words, source, sink, shelf, &OpenGate);
     tell(alloc, case, status, sink.written())
 }
 

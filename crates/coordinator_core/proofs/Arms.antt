@@ -26,7 +26,7 @@ use Rattle.coordinator_core.specs.Knowledge.{knowledge, times_in}
 use Rattle.coordinator_core.specs.Moving.{ArmsPair, ArmsSessions, Arms}
 use Rattle.coordinator_core.specs.Standing.{node_state, StandsOver, course, pair_of, sessions_of, start_of, is_down, times_of}
 use Rattle.coordinator_core.specs.Stepping.{ArmsBy, CrashesBy}
-use Rattle.coordinator_core.specs.Tracks.{Follows}
+use Rattle.coordinator_rules.specs.Tracks.{Follows}
 use Rattle.coordinator_core.proofs.Disks.{false_true, Moved, pair_on, same_kind, on_armed, on_crashed}
 use Rattle.coordinator_core.proofs.Laid.{fits_none, lies_crashed, lies_up}
 use Rattle.coordinator_core.proofs.Stays.{Remains, stays_itself, same_picks}

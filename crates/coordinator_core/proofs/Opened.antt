@@ -26,12 +26,12 @@ use Rattle.coordinator_core.specs.declared.nodes.Coordinator.{Coordinator}
 use Rattle.seata_types.specs.declared.limits.TheConstants.{NODE_STEPS}
 use Rattle.coordinator_core.specs.Opening.{AreReadWhereShort, GoOnAs, HandsBack, IsOnlyRead, IsOpened, IsOpenedDisk}
 use Rattle.coordinator_core.specs.Standing.{StandsOver, LiesOver, pair_of, active_of, sessions_of, start_of, is_down, managers, resources}
-use Rattle.coordinator_core.specs.Starting.{started_on, no_moments, start_in}
-use Rattle.coordinator_core.specs.Tracks.{Tracks}
+use Rattle.coordinator_rules.specs.Starting.{started_on, no_moments, start_in}
+use Rattle.coordinator_rules.specs.Tracks.{Tracks}
 use Rattle.coordinator_core.proofs.Disks.{false_true, keeps_images}
 use Rattle.coordinator_core.proofs.Laid.{lies_opened}
 use Rattle.coordinator_core.proofs.Restarted.{unarmed_by}
-use Rattle.coordinator_core.proofs.Started.{starts, start_is}
+use Rattle.coordinator_rules.proofs.StartLaws.{starts, start_is}
 
 module _ {D : Type 0} (state : D → DiskState) (law : (d : Stoppable D) → IsLawful (state_of state d)) (c : Coordinator D) (rs : List SessionRecord)
     (keeps : KeepsRecords (state_of state) rs (sessions_of c)) (few : managers c ≤ MANAGERS) (up : is_down c ≡ false) (unarmed : (active_of state (sessions_of c)).counts.left ≡ None)

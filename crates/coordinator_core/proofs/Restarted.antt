@@ -37,12 +37,12 @@ use Rattle.coordinator_core.specs.Moving.{ArmsPair, ArmsWith, FallsAgain, SameRe
 use Rattle.coordinator_core.specs.Serving.{ServesInput}
 use Rattle.coordinator_core.specs.Standing.{node_state, StandsOver, LiesOver, OnDisks, IsFallen, StandsForEither, course, pair_of, active_of, disks_of, sessions_of, start_of, is_down, times_of}
 use Rattle.coordinator_core.specs.Stepping.{RestartsBy}
-use Rattle.coordinator_core.specs.Starting.{started_on, no_moments}
-use Rattle.coordinator_core.specs.Tracks.{Tracks, Follows}
+use Rattle.coordinator_rules.specs.Starting.{started_on, no_moments}
+use Rattle.coordinator_rules.specs.Tracks.{Tracks, Follows}
 use Rattle.coordinator_core.proofs.Arms.{same_pair}
 use Rattle.coordinator_core.proofs.Disks.{false_true, keeps_images, pair_on, stands_in}
 use Rattle.coordinator_core.proofs.Laid.{fits_none, keeps_back, lies_alone, lies_kept}
-use Rattle.coordinator_core.proofs.Started.{starts}
+use Rattle.coordinator_rules.proofs.StartLaws.{starts}
 
 -- ---- an act in flight
 

@@ -32,7 +32,7 @@ use Rattle.coordinator_core.specs.Answers.{is_answer, IsWithin, IsUnanswered, Is
 use Rattle.coordinator_core.specs.Lying.{Lies, extent_after}
 use Rattle.coordinator_core.specs.Moving.{Misses}
 use Rattle.coordinator_core.specs.Standing.{node_state, StandsOver, LiesOver, OnDisks, course, sessions_of, start_of, is_down, times_of}
-use Rattle.coordinator_core.specs.Tracks.{with_own, rule_answer, Follows}
+use Rattle.coordinator_rules.specs.Tracks.{with_own, rule_answer, Follows}
 use Rattle.coordinator_core.specs.NodeLaws.{lies_same, on_same}
 use Rattle.coordinator_core.specs.Stepping.{HasNoRoom, HasRoom, StepsBy}
 use Rattle.coordinator_core.proofs.Stays.{remains_put, remains_lost, remains_same, stays_itself, same_picks}

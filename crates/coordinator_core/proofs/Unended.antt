@@ -14,11 +14,11 @@ use Rattle.session_log.specs.declared.sessions.Snapshot.{Snapshot}
 use Rattle.session_log.specs.SnapshotOf.{in_order, entry_now, is_kept_session, snapshot_of}
 use Rattle.session_memory.specs.Changes.{is_begin, is_going}
 use Rattle.coordinator_core.specs.declared.nodes.Coordinator.{Coordinator}
-use Rattle.coordinator_core.specs.Choices.{is_unended_entry}
+use Rattle.coordinator_core.specs.Counting.{is_unended_entry}
 use Rattle.coordinator_core.specs.Knowledge.{memory}
 use Rattle.coordinator_core.specs.Standing.{StandsOver, course, is_down, is_unended_session, unended_sessions}
-use Rattle.coordinator_core.specs.Tracks.{records}
-use Rattle.coordinator_core.proofs.Laws.{answers_alike}
+use Rattle.coordinator_rules.specs.Tracks.{records}
+use Rattle.coordinator_rules.proofs.Laws.{answers_alike}
 
 abbrev counted : Bool → ℕ
 counted b = cond b 1 0

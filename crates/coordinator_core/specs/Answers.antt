@@ -1,5 +1,5 @@
 -- What an answer of the coordinator's table promises.
-use Rattle.std.specs.Prelude.{◌≡◌, ◌≤◌, ℕ, Bool, true, false, List, Option, Some, None, Result, Ok, Err, IfOk}
+use Rattle.std.specs.Prelude.{◌≡◌, ◌≤◌, ℕ, Bool, true, false, List, Some, Result, Ok, Err, IfOk}
 use Rattle.std.specs.List.{list_all}
 use Rattle.disk_model.specs.Disk.{DiskState}
 use Rattle.seata_types.specs.declared.acts.Act.{Act}
@@ -16,17 +16,17 @@ use Rattle.seata_types.specs.declared.messages.Step.{Step}
 use Rattle.durable_records.specs.declared.coordinators.SessionRecord.{SessionRecord}
 use Rattle.durable_records.specs.SessionOrder.{is_within}
 use Rattle.history_rules.specs.Own.{Event, Given}
-use Rattle.history_rules.specs.CoordinatorMemory.{Times, session_record, late_one, due_one, old_one}
+use Rattle.history_rules.specs.CoordinatorMemory.{session_record}
 use Rattle.node_steps.specs.Framing.{ComesFramable, SendsFramable}
 use Rattle.node_steps.specs.Promises.{own_step}
 use Rattle.session_memory.specs.Changes.{may_come}
 use Rattle.session_store.specs.declared.sessions.Sessions.{Sessions}
 use Rattle.session_store.specs.Keeping.{managers_of, resources_of, Adds, Loses, HasNoRoom}
 use Rattle.coordinator_core.specs.declared.table.Table.{Table}
-use Rattle.coordinator_core.specs.Knowledge.{Knowledge, SameTimes, knowledge, times_in, times_of}
-use Rattle.coordinator_core.specs.Changes.{Makes, IsMade}
-use Rattle.coordinator_core.specs.Naming.{ComesNamed, IsNamed}
-use Rattle.coordinator_core.specs.Tracks.{Course, with_own, rule_answer, Follows, records}
+use Rattle.coordinator_core.specs.Knowledge.{Knowledge, SameTimes, knowledge, times_in}
+use Rattle.coordinator_rules.specs.Changes.{Makes}
+use Rattle.coordinator_rules.specs.Naming.{ComesNamed, IsNamed}
+use Rattle.coordinator_rules.specs.Tracks.{Course, with_own, rule_answer, Follows, records}
 
 -- ---- what is known
 
@@ -103,18 +103,7 @@ pub record Answers {D : Type 0} (state : D → DiskState) (Applies : Course → 
   pub framable : ComesFramable given → IfOk result SendsFramable
   pub named : ComesNamed (managers_of old.sessions) (resources_of old.sessions) given → IfOk result (IsNamedBy old)
 
--- The same at each input to which the rule's answer is this step by the records; what is sent can be framed and names nodes of the
--- scenario whatever came.
-pub record AnswersAs {D : Type 0} (state : D → DiskState) (rule : List SessionRecord → Step) (old new : Table D) (now : ℕ) (result : Result Step NodeError) : Type 0 where
-  pub answers : (given : Input) → AnswersWhere state (λ owns. rule_answer (times_of old) owns now given ≡ rule (records owns)) old new given now result
-  pub framable : IfOk result SendsFramable
-  pub named : IfOk result (IsNamedBy old)
-
 -- ---- where the rules apply
-
--- at all own entries
-abbrev pub Always : Course → Type 0
-Always owns = Unit {0}
 
 -- these records are of a scenario with so many managers and resources, and a message may have the number of each manager
 pub record AreWithin (managers resources : ℕ) (rs : List SessionRecord) : Type 0 where
@@ -127,11 +116,6 @@ IsWithin t owns = AreWithin (managers_of t.sessions) (resources_of t.sessions) (
 
 -- ---- one record
 
--- it is on the disks where it was made
-abbrev pub PutsWhere : {D : Type 0} → (D → DiskState) → Bool → SessionRecord → Sessions D → Sessions D → Type 0
-PutsWhere state true r old new = Adds state r old new
-PutsWhere state false r old new = new ≡ old
-
 -- why it isn't made though it may come: the disks failed, or it doesn't fit, or memory was refused
 abbrev pub IsUnmade : {D : Type 0} → (D → DiskState) → Table D → Table D → SessionRecord → ℕ → StoreError → Type 0
 IsUnmade state old new r now store_error.Failed = Makes (knowledge old) (knowledge new) r now × Loses state r old.sessions new.sessions
@@ -140,37 +124,7 @@ IsUnmade state old new r now (store_error.Full full) =
     × IsUnanswered (knowledge old) (knowledge new) × (new.sessions ≡ old.sessions)
 IsUnmade state old new r now store_error.NoMemory = IsUnanswered (knowledge old) (knowledge new) × (new.sessions ≡ old.sessions)
 
--- a record was made, or may not come and nothing changed; or it isn't made
-abbrev pub MakesOn : {D : Type 0} → (D → DiskState) → Table D → Table D → SessionRecord → ℕ → Result Bool StoreError → Type 0
-MakesOn state old new r now (Ok made) = IsMade made (knowledge old) (knowledge new) r now × PutsWhere state made r old.sessions new.sessions
-MakesOn state old new r now (Err error) = IsUnmade state old new r now error
-
 -- a record that may come was added, or isn't made
 abbrev pub AddsOn : {D : Type 0} → (D → DiskState) → Table D → Table D → SessionRecord → ℕ → Result (Unit {0}) StoreError → Type 0
 AddsOn state old new r now (Ok done) = Makes (knowledge old) (knowledge new) r now × Adds state r old.sessions new.sessions
 AddsOn state old new r now (Err error) = IsUnmade state old new r now error
-
--- ---- choices
-
--- the transaction that a turn takes
-abbrev pub late_at : Times → ℕ → Course → Option ℕ
-late_at times now owns = late_one times owns.past owns.owns (records owns) now
-
-abbrev pub due_at : Times → ℕ → Course → Option (ℕ × ℕ)
-due_at times now owns = due_one times owns.past owns.owns (records owns) now
-
-abbrev pub old_at : Times → ℕ → Course → Option ℕ
-old_at times now owns = old_one times owns.past owns.owns (records owns) now
-
-abbrev pub IsLate : Times → (now x : ℕ) → Course → Type 0
-IsLate times now x owns = late_at times now owns ≡ Some x
-
-abbrev pub IsDue : Times → (now x : ℕ) → Course → Type 0
-IsDue times now x owns = (late_at times now owns ≡ None) × ((moment : ℕ) × (due_at times now owns ≡ Some (x, moment)))
-
--- the same of a table whose records are of its scenario
-abbrev pub IsDueWithin : {D : Type 0} → Table D → (now x : ℕ) → Course → Type 0
-IsDueWithin t now x owns = IsDue (times_of t) now x owns × IsWithin t owns
-
-abbrev pub IsOld : Times → (now x : ℕ) → Course → Type 0
-IsOld times now x owns = (late_at times now owns ≡ None) × ((due_at times now owns ≡ None) × (old_at times now owns ≡ Some x))

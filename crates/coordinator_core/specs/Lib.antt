@@ -1,15 +1,12 @@
 pub mod Plain
-pub mod Changes
-pub mod Choices
-pub mod Steps
 pub mod Knowledge
 pub mod Tracks
 pub mod Costs
+pub mod Counting
 pub mod Refusing
 pub mod Serving
-pub mod Naming
 pub mod Answers
-pub mod Starting
+pub mod Taking
 pub mod Lying
 pub mod Standing
 pub mod Stepping

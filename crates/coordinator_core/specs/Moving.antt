@@ -19,7 +19,7 @@ use Rattle.coordinator_core.specs.declared.nodes.Coordinator.{Coordinator}
 use Rattle.coordinator_core.specs.contracts.nodes.Coordinator.{the_row}
 use Rattle.coordinator_core.specs.Knowledge.{memory}
 use Rattle.coordinator_core.specs.Standing.{sessions_of, pair_of, active_of, start_of, is_down}
-use Rattle.coordinator_core.specs.Starting.{started_on, no_moments}
+use Rattle.coordinator_rules.specs.Starting.{started_on, no_moments}
 
 -- the act in flight, where its record is on the disks
 abbrev pub kept_of : {D : Type 0} → Coordinator D → Option Durable

@@ -23,7 +23,7 @@ use Rattle.node_steps.specs.Ends.{AreLaid}
 use Rattle.node_steps.specs.Nodes.{IsLawful, KeepsStill, Tells, place_of, has_disks, own_entry, lost}
 use Rattle.coordinator_core.specs.declared.nodes.Coordinator.{Coordinator}
 use Rattle.coordinator_core.specs.Knowledge.{knowledge}
-use Rattle.coordinator_core.specs.Tracks.{Follows}
+use Rattle.coordinator_rules.specs.Tracks.{Follows}
 use Rattle.coordinator_core.specs.Lying.{AtEither, Lies, extent_after}
 use Rattle.coordinator_core.specs.Standing.{StandsAs, StandsOver, LiesAs, LiesOver, OnDisks, StandsForEither, node_state, course, is_down, disks_of, managers, resources, pair_of, sessions_of, times_of}
 

@@ -1,10 +1,16 @@
 -- Records, and a node's errors at them.
 use Rattle.std.specs.Prelude.{Bool, true, false}
+use Rattle.seata_types.specs.declared.acts.Act.{Act}
+use Rattle.seata_types.specs.declared.acts.Act.TheVariants as act
 use Rattle.seata_types.specs.declared.acts.Durable.{Durable}
 use Rattle.seata_types.specs.declared.errors.NodeError.{NodeError}
 use Rattle.seata_types.specs.declared.errors.NodeError.TheVariants as error
 use Rattle.seata_types.specs.declared.errors.StoreError.{StoreError}
 use Rattle.seata_types.specs.declared.errors.StoreError.TheVariants as store_error
+use Rattle.seata_types.specs.declared.messages.Input.{Input}
+use Rattle.seata_types.specs.declared.messages.Input.TheVariants as input
+use Rattle.seata_types.specs.declared.messages.Message.{Message}
+use Rattle.seata_types.specs.declared.messages.Message.TheVariants as message
 use Rattle.durable_records.specs.declared.coordinators.SessionRecord.{SessionRecord}
 use Rattle.durable_records.specs.declared.coordinators.SessionRecord.TheVariants as log
 
@@ -24,3 +30,22 @@ abbrev pub node_error : StoreError → Durable → NodeError
 node_error store_error.Failed done = error.Failed done
 node_error (store_error.Full full) done = error.Full full
 node_error store_error.NoMemory done = error.NoMemory
+
+-- the error where a step with this act isn't taken; without a record only memory can be missing
+abbrev pub error_at : StoreError → Act → NodeError
+error_at cause (act.Durable done) = node_error cause done
+error_at cause _ = error.NoMemory
+
+-- an input that registers no branch
+abbrev pub IsPlainMessage : Message → Type 0
+IsPlainMessage (message.Register xid resource call ticket kind hold check) = ⊥
+IsPlainMessage _ = Unit {0}
+
+abbrev pub IsPlainInput : Input → Type 0
+IsPlainInput (input.Message from heard) = IsPlainMessage heard
+IsPlainInput _ = Unit {0}
+
+-- an input that is no turn
+abbrev pub IsNoTurn : Input → Type 0
+IsNoTurn input.Turn = ⊥
+IsNoTurn _ = Unit {0}

@@ -13,9 +13,9 @@ use Rattle.session_log.specs.declared.sessions.Snapshot.{Snapshot}
 use Rattle.session_memory.specs.Lookups.{status_in}
 use Rattle.session_store.specs.declared.errors.RegisterError.{RegisterError}
 use Rattle.session_store.specs.declared.errors.RegisterError.TheVariants as register_error
-use Rattle.coordinator_core.specs.Choices.{is_rolling}
+use Rattle.coordinator_rules.specs.Choices.{is_rolling}
 use Rattle.coordinator_core.specs.Plain.{node_error}
-use Rattle.coordinator_core.specs.Steps.{conflict_step, IsFramableKey}
+use Rattle.coordinator_rules.specs.Steps.{conflict_step, IsFramableKey}
 
 -- the row that another transaction holds is told, but for want of memory
 abbrev pub TellsHeld : Snapshot → Xid → RegisterPlace → RowKey → Xid → Result Step NodeError → Type 0

@@ -25,7 +25,7 @@ use Rattle.coordinator_core.specs.declared.nodes.Coordinator.{Coordinator}
 use Rattle.coordinator_core.specs.Knowledge.{knowledge, times_of as times_kept}
 use Rattle.coordinator_core.specs.Lying.{Lies}
 use Rattle.coordinator_core.specs.Serving.{ServesInput}
-use Rattle.coordinator_core.specs.Tracks.{Course, Follows}
+use Rattle.coordinator_rules.specs.Tracks.{Course, Follows}
 
 -- ---- what it shows of itself
 

@@ -25,8 +25,8 @@ use Rattle.node_steps.specs.Durable.{SamePicks, HavePick}
 use Rattle.node_steps.specs.Framing.{ComesFramable, SendsFramable}
 use Rattle.node_steps.specs.Promises.{Does, TakesStep, AfterError, DisksFail, StaysItself, goes_down, own_step, steps_of, AreTold, Restarts, FailsRestart, stays_down}
 use Rattle.coordinator_core.specs.declared.nodes.Coordinator.{Coordinator}
-use Rattle.coordinator_core.specs.Costs.{InputCosts}
-use Rattle.coordinator_core.specs.Naming.{ComesNamed, IsNamed}
+use Rattle.coordinator_rules.specs.Costs.{InputCosts}
+use Rattle.coordinator_rules.specs.Naming.{ComesNamed, IsNamed}
 use Rattle.coordinator_core.specs.Standing.{StandsAs, node_state, serves, sessions_of, disks_of, managers, resources, needs, size_of, start_of, steps_left, is_down}
 
 -- the record that the rule's answer asks for, if it asks for one

@@ -1,17 +1,13 @@
 //! The transaction coordinator: it begins, decides and finishes global transactions, registers their branches and has them
-//! committed or rolled back. `Coordinator` is a node of `node_steps`; its rules stand in `history_rules`.
+//! committed or rolled back. `Coordinator` is a node of `node_steps`; it answers by `coordinator_rules`, and keeps on its disks what
+//! an answer asks for.
 #![tactic(auto)]
 
-mod answering;
-mod choosing;
-mod deciding;
-mod kinds;
-mod moments;
+mod asking;
+mod counting;
 pub mod nodes;
-mod questions;
 mod registering;
-mod starting;
 mod table;
-mod turning;
+mod taking;
 
 pub use nodes::Coordinator;

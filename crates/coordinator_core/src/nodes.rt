@@ -2,8 +2,9 @@
 ghost use Rattle.std.specs.Prelude.{◌≡◌};
 ghost use Rattle.disk_model.specs.Stop.{below};
 
+use crate::counting;
 use crate::table::Table;
-use crate::{choosing, starting};
+use coordinator_rules::{start_of, started};
 use disk_model::{Disk, Stoppable};
 use lock_table::Steps;
 use node_steps::Node;
@@ -48,10 +49,10 @@ impl<D: Disk> Coordinator<D> {
     ghost use Rattle.seata_types.specs.declared.limits.TheConstants.{MANAGERS};
     ghost use Rattle.coordinator_core.specs.Opening.{IsOpened, HandsBack};
     ghost use Rattle.coordinator_core.specs.Standing.{StandsOver, start_of, times_of, steps_left, is_down, sessions_of, course, unended_sessions};
-    ghost use Rattle.coordinator_core.specs.Costs.{InputPasses};
+    ghost use Rattle.coordinator_rules.specs.Costs.{InputPasses};
     ghost use Rattle.coordinator_core.specs.Moving.{kept_of, Misses, Arms, ArmsWith, ComesBack, LendsActive};
     ghost use Rattle.coordinator_core.specs.Stepping.{CountsStep, MayStep, StepsBy};
-    ghost use Rattle.coordinator_core.specs.Tracks.{records};
+    ghost use Rattle.coordinator_rules.specs.Tracks.{records};
     ghost use Rattle.history_rules.specs.Own.{Own};
     ghost use Rattle.history_rules.specs.CoordinatorMemory.{start};
 
@@ -80,8 +81,8 @@ impl<D: Disk> Coordinator<D> {
             Ok(sessions) => sessions,
             Err((error, first, second)) => return Err(give_back(error, first, second)),
         };
-        let start = starting::start_of(sessions.memory());
-        match starting::started(alloc, sessions.memory(), start) {
+        let start = start_of(sessions.memory());
+        match started(alloc, sessions.memory(), start) {
             Ok(moments) => {
                 let table = Table {
                     retry,
@@ -132,7 +133,7 @@ impl<D: Disk> Coordinator<D> {
             StandsOver D.state self.now past owns →
             result ≡ unended_sessions (records (course past owns)) }
     {
-        choosing::unended(self.table.entries())
+        counting::unended(self.table.entries())
     }
 
     /// The first record that its opening read, if there was one: whether it stands on the second disk, and its offset, which
@@ -277,7 +278,7 @@ impl<D: Disk> Coordinator<D> {
     fn come_back(&mut self, alloc: Global, now: u64) -> Result<(), NoMemory>
         ensures { ComesBack now result self.old self.new }
     {
-        match starting::started(alloc, self.table.sessions.memory(), now) {
+        match started(alloc, self.table.sessions.memory(), now) {
             Ok(moments) => {
                 self.table.moments = moments;
                 Ok(())

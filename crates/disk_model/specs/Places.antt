@@ -1,8 +1,9 @@
 -- What `MemShelf` keeps under a name: no place, or one with the disk that was given back, unless it is out.
 use Rattle.std.specs.Prelude.{◌≡◌, ℕ, true, Option, Some, None, IsSome, List}
+use Rattle.std.proofs.Common.{refl}
 use Rattle.std.specs.BTreeMap.{get_by_text}
 use Rattle.disk_model.specs.Memory.{Memory}
-use Rattle.disk_model.specs.Shelf.{ShelfState}
+use Rattle.disk_model.specs.Shelf.{OnlyTellersHave, ShelfState}
 use Rattle.disk_model.specs.declared.shelf.Place.{Place}
 use Rattle.disk_model.specs.declared.shelf.MemShelf.{MemShelf}
 
@@ -32,3 +33,7 @@ shelf_state shelf = record {
   given_back = λ name disk. disk_in (place name shelf) ≡ Some disk;
   gives = λ name. gives_in (place name shelf);
 }
+
+-- it tells which disks were given back
+pub shelf_lawful : (shelf : MemShelf) → OnlyTellersHave (shelf_state shelf)
+shelf_lawful shelf name disk given = refl

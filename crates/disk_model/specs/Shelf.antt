@@ -54,6 +54,10 @@ pub record ShelfState (D : Type 0) : Type 1 where
   -- how often one was given back under this name, where it tells that; at its type's end it stands still
   pub gives : List ℕ → ℕ
 
+-- a shelf that doesn't tell which disks were given back has none of them
+abbrev pub OnlyTellersHave : {D : Type 0} → ShelfState D → Type 0
+OnlyTellersHave {D} shelf = (name : List ℕ) (disk : D) → shelf.given_back name disk → IsTrue shelf.tells
+
 -- the disks under a name are the same
 abbrev pub SameUnder : {D : Type 0} → List ℕ → (old new : ShelfState D) → Type 0
 SameUnder {D} name old new = (disk : D) → new.given_back name disk ↔ old.given_back name disk

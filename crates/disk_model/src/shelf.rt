@@ -1,6 +1,6 @@
 ghost use Rattle.std.specs.Prelude.{◌≡◌, ◌≢◌, ◌^◌, ◌<◌, ◌≤◌, ℕ, List, IsTrue, Some, None, true, false, IfOk, IfSome, OnOk, OnErr, IsErrOf, length};
 ghost use Rattle.disk_model.specs.Disk.{Rose};
-ghost use Rattle.disk_model.specs.Shelf.{IsGivenBack, IsOut, IsTaken, KeepsOthers, SamePlaces, SameUnder, ShelfState};
+ghost use Rattle.disk_model.specs.Shelf.{IsGivenBack, IsOut, IsTaken, KeepsOthers, OnlyTellersHave, SamePlaces, SameUnder, ShelfState};
 
 use crate::disk::Disk;
 use crate::errors::{NoMemory, ShelfError};
@@ -37,6 +37,9 @@ pub trait Shelf {
             → Rose ((state self.old).gives name.now) ((state self.new).gives name.now) }
         ensures places { SamePlaces (state self.old) (state self.new) }
         ensures keeps { KeepsOthers (λ n. n ≡ name.now) (state self.old) (state self.new) };
+
+    /// What always holds of it.
+    ghost lawful: { (shelf : Self) → OnlyTellersHave (state shelf) };
 }
 
 /// The place of a name that was taken.
@@ -140,9 +143,11 @@ impl Shelf for MemShelf {
     type D = MemDisk;
 
     ghost use Rattle.disk_model.specs.Memory.{memory_state};
-    ghost use Rattle.disk_model.specs.Places.{shelf_state};
+    ghost use Rattle.disk_model.specs.Places.{shelf_lawful, shelf_state};
 
     ghost state = { shelf_state };
+
+    ghost lawful = { shelf_lawful };
 
     fn take(&mut self, alloc: Global, name: &str, size: u64) -> Result<MemDisk, ShelfError>
         requires { size < 2 ^ 32 }

@@ -11,6 +11,8 @@ mod journals;
 #[cfg(test)]
 mod samples;
 #[cfg(test)]
+mod texts;
+#[cfg(test)]
 mod twins;
 
 pub use arming::{arm_active, arm_other};

@@ -3,7 +3,7 @@ use Rattle.std.specs.Prelude.{◌≡◌, ℕ, false, List, Some, None}
 use Rattle.std.proofs.Common.{arith}
 use Rattle.std.proofs.lemmas.Bool.{false≢true}
 use Rattle.disk_model.specs.Disk.{DiskState, IsLawful}
-use Rattle.disk_model.specs.Shelf.{ShelfState}
+use Rattle.disk_model.specs.Shelf.{OnlyTellersHave, ShelfState}
 use Rattle.file_shelf.specs.declared.disks.FileDisk.{FileDisk}
 use Rattle.file_shelf.specs.declared.shelves.FileShelf.{FileShelf}
 
@@ -62,3 +62,6 @@ shelf_state shelf = record {
   given_back = λ name disk. ⊥;
   gives = λ name. 0;
 }
+
+pub shelf_lawful : {R D : Type 0} (shelf : FileShelf R) → OnlyTellersHave {D = D} (shelf_state shelf)
+shelf_lawful shelf name disk given = absurd given

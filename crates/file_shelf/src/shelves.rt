@@ -82,9 +82,11 @@ where
 {
     type D = FileDisk<R::File>;
 
-    ghost use Rattle.file_shelf.specs.Shown.{shelf_state};
+    ghost use Rattle.file_shelf.specs.Shown.{shelf_lawful, shelf_state};
 
     ghost state = { shelf_state };
+
+    ghost lawful = { shelf_lawful };
 
     fn take(
         &mut self,

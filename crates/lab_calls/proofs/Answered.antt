@@ -1,5 +1,5 @@
 -- What is answered to the input of a source: without a scenario, and with one.
-use Rattle.std.proofs.Common.{◌≡◌, ◌≢◌, ◌⊎◌, inl, inr, ◌+◌, ◌≤◌, ℕ, true, false, List, [], ◌∷◌, length, Some, Result, Ok, Err, IfOk, IfErr, refl, subst, sym, arith, string_bytes}
+use Rattle.std.proofs.Common.{◌≡◌, ◌≢◌, ◌⊎◌, inl, inr, ◌+◌, ◌≤◌, ℕ, List, length, Some, Result, Ok, Err, IfOk, IfErr, refl, subst, sym, arith, string_bytes}
 use Rattle.std.specs.Io.KnownBytes.{Consumes, IsAtEnd}
 use Rattle.disk_model.specs.Disk.{Rose}
 use Rattle.disk_model.specs.Shelf.{ShelfState}
@@ -12,12 +12,12 @@ use Rattle.scenario_form.specs.declared.scenarios.Scenario.{Scenario}
 use Rattle.scenario_form.specs.Runnable.{IsRunnable}
 use Rattle.scenario_nodes.proofs.Returned.{all_same}
 use Rattle.scenario_nodes.specs.Shelves.{ReturnsAll}
-use Rattle.history_text.specs.declared.entries.Entry.{Entry}
+use Rattle.lab_calls.specs.declared.played.Played.{Played}
 use Rattle.history_text.specs.Report.{line}
 use Rattle.node_seat.specs.declared.faults.RunFault.{RunFault}
 use Rattle.lab_calls.specs.declared.answers.Answer.{Answer}
-use Rattle.lab_calls.specs.Answers.{Ending, HasRead, IsAnswerTo, IsEndText, IsFaultOf, IsLeftByPlay, IsStatusAfter, IsUntouched, ended_status, fault_text, is_among, replay_statuses}
-use Rattle.lab_calls.specs.Steps.{HasNoScenario, HasScenario, PlaysInput, TellsEnd, status_in}
+use Rattle.lab_calls.specs.Answers.{Ending, HasRead, IsAnswerTo, IsEndText, IsFaultOf, IsLeftByPlay, IsStatusAfter, IsUntouched, ended_status, fault_text}
+use Rattle.lab_calls.specs.Steps.{HasNoScenario, HasScenario, PlaysInput, TellsEnd}
 use Rattle.lab_calls.specs.Streams.{SourceState}
 use Rattle.lab_calls.proofs.Concluded.{all_read, false_true, input_of, longer, none_unread}
 use Rattle.lab_calls.proofs.Replayed.{end_known}
@@ -37,8 +37,8 @@ unanswered old new n known rose = record {
 
 module _ (old new : SourceState) (bytes : List ℕ) (taken : Consumes old.left new.left bytes) (most : length bytes ≤ INPUT_BYTES + 1)
     (whole : length bytes ≤ INPUT_BYTES → IsAtEnd new.left) where
-  has_read : (input : List ℕ) → old.left ≡ Some input → HasRead input bytes new.left
-  has_read input told = input_of input bytes old.left new.left taken most whole told
+  has_read : (input : List ℕ) → old.left ≡ Some input → HasRead INPUT_BYTES input bytes new.left
+  has_read input told = input_of INPUT_BYTES input bytes old.left new.left taken most whole told
 
   pub scenario_read : (given : List ℕ) → given ≡ bytes → (s : Scenario) → IsScenario given s → IsRunnable s → HasScenario old new s
   scenario_read given same s is runs = record {
@@ -98,17 +98,17 @@ unplayed ends shelf same is old new (Err n) h = record {
 
 -- ---- a scenario, which was replayed or run
 
-end_status : (s : Scenario) (ended : Result (List Entry) RunFault) (text : List ℕ) (n : ℕ) → IsEndText s ended text n → n ≡ ended_status ended
+end_status : (s : Scenario) (ended : Result Played RunFault) (text : List ℕ) (n : ℕ) → IsEndText s ended text n → n ≡ ended_status ended
 end_status s (Ok es) text n t = t.0
 end_status s (Err missed) text n t = t.1
 
 module _ {D : Type 0} (ends : Ending) (had has : ShelfState D) (same : Type 0) (returned : ReturnsAll had has) (tells : has.tells ≡ had.tells) (old new : SourceState)
-    (s : Scenario) (h : HasScenario old new s) (ended : Result (List Entry) RunFault) (so : ends s ended) where
+    (s : Scenario) (h : HasScenario old new s) (ended : Result Played RunFault) (so : ends s ended) where
   left_by : (n : ℕ) → IsStatusAfter ended n → IsLeftByPlay ends n old.left new.left
   left_by n known = record {
     scenario = s;
     is_scenario = h.is_scenario;
-    read_to_end = λ input told. none_unread input (h.read input told) (scenario_is_short input s (h.is_scenario input told));
+    read_to_end = λ input told. none_unread INPUT_BYTES input (h.read input told) (scenario_is_short input s (h.is_scenario input told));
     ended = ended;
     has_ended = so;
     is_status = known;

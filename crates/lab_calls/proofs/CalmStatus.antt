@@ -10,16 +10,19 @@ use Rattle.scenario_reader.specs.declared.errors.ScenarioError.{ScenarioError}
 use Rattle.scenario_form.specs.declared.scenarios.Scenario.{Scenario}
 use Rattle.scenario_reader.specs.Form.{scenario_of}
 use Rattle.scenario_reader.specs.Reading.{IsJson, IsScenario, IsScenarioOf, with_base}
-use Rattle.history_text.specs.declared.entries.Entry.{Entry}
 use Rattle.node_seat.specs.declared.faults.RunFault.{RunFault}
 use Rattle.node_seat.specs.declared.faults.RunFault.TheVariants as run_fault
 use Rattle.scenario_nodes.specs.Nodes.{Held, HoldAll, Holds, Server, StandAs, server_names, servers_of}
 use Rattle.scenario_nodes.specs.Shelves.{AreNext}
 use Rattle.scenario_nodes.specs.Together.{IsOfOne}
-use Rattle.replay_runner.specs.Leaving.{IsCalmEnd, IsCalmShelf, Showing, UsesShelf}
-use Rattle.replay_runner.proofs.Calm.{NeverDamaged, ends_calmly}
+use Rattle.replay_runner.specs.Leaving.{IsCalmEnd, IsCalmShelf, Showing}
+use Rattle.replay_runner.proofs.Calm.{NeverDamaged}
+use Rattle.lab_calls.specs.declared.played.Played.{Played}
 use Rattle.lab_calls.specs.Answers.{IsEndText, Plays, TellsPlay, is_calm_end, is_end}
+use Rattle.lab_calls.specs.Kept.{EndsKept, IsCalmNet}
+use Rattle.lab_calls.specs.Over.{entries_of}
 use Rattle.lab_calls.specs.Streams.{Devices, IsCalm}
+use Rattle.lab_calls.proofs.Kept.{kept_calmly}
 
 -- ---- an input is no other scenario, but for the text under which it is kept
 
@@ -74,28 +77,30 @@ module _ {D : Type 0} (state : D → DiskState) (shelf : ShelfState D) where
       (holds_each s (with_base [] s) refl (stand_with s []) (servers_of s held) holds))
 
 -- the status of such an end
-calm_text : (s : Scenario) (ended : Result (List Entry) RunFault) (text : List ℕ) (n : ℕ) → IsCalmEnd ended → IsEndText s ended text n → is_calm_end n ≡ true
-calm_text s (Ok es) text n calm t = rw t.0 refl
+calm_text : (s : Scenario) (ended : Result Played RunFault) (text : List ℕ) (n : ℕ) → IsCalmEnd (entries_of ended) → IsEndText s ended text n → is_calm_end n ≡ true
+calm_text s (Ok p) text n calm t = rw t.0 refl
 calm_text s (Err (run_fault.Full at full)) text n calm t = rw t.1 refl
 calm_text s (Err run_fault.NoMemory) text n calm t = absurd (t.0 refl)
 calm_text s (Err (run_fault.Store at)) text n calm t = absurd calm
 calm_text s (Err (run_fault.Damaged at second offset)) text n calm t = absurd calm
 calm_text s (Err run_fault.Other) text n calm t = absurd calm
 
-module _ {D : Type 0} (Shows : Scenario → Held → Showing) (never : (s : Scenario) (held : Held) → NeverDamaged (Shows s held)) (state : D → DiskState) (before after : ShelfState D) (same_tells : after.tells ≡ before.tells)
+module _ {D S : Type 0} (Shows : Scenario → Held → Showing) (never : (s : Scenario) (held : Held) → NeverDamaged (Shows s held)) (state : D → DiskState) (seen : S → ShelfState D) (before after : S) (same_tells : (seen after).tells ≡ (seen before).tells)
     (result : ℕ) (old new : Devices) (input : List ℕ) (told : old.source.left ≡ Some input) (s : Scenario) (is : IsScenario input s)
-    (held : Held) (holds : HoldAll state before s held) {IsDone : Scenario → List ℕ → Type 0} (said : TellsPlay (λ v r. UsesShelf (Shows v) state before after v r) IsDone result old new) where
-  abbrev Played : ℕ → Type 0
-  Played n = Plays (λ v r. UsesShelf (Shows v) state before after v r) n input old new
+    (held : Held) (holds : HoldAll state (seen before) s held) (net : (v : Scenario) → IsScenario input v → IsCalmNet state (seen before) (seen after) v.base) {IsDone : Scenario → List ℕ → Type 0} (said : TellsPlay (λ v r. EndsKept (Shows v) state seen before after v r) IsDone result old new) where
+  abbrev HasPlayed : ℕ → Type 0
+  HasPlayed n = Plays (λ v r. EndsKept (Shows v) state seen before after v r) n input old new
 
-  of_play : (n : ℕ) → Played n → IsCalmShelf state s before after → is_calm_end n ≡ true
+  of_play : (n : ℕ) → HasPlayed n → IsCalmShelf state s (seen before) (seen after) → is_calm_end n ≡ true
   of_play n r calm =
       let v = r.scenario in
       let same = same_form input v s r.is_scenario is in
       calm_text v r.is_play.ended r.text n
-      (ends_calmly (Shows v) state v before after held (never v held) (holds_of state before held v s same holds) r.is_play.ended same_tells r.is_play.has_ended (calm_of state before after v s same calm)) r.is_play.is_text
+      (kept_calmly (Shows v) state seen v before after held (never v held) (holds_of state (seen before) held v s same holds) r.is_play.ended r.is_play.has_ended same_tells
+      (calm_of state (seen before) (seen after) v s same calm) (net v r.is_scenario))
+      r.is_play.is_text
 
-  pub calm_status : IsCalm old new → IsCalmShelf state s before after → is_calm_end result ≡ true
+  pub calm_status : IsCalm old new → IsCalmShelf state s (seen before) (seen after) → is_calm_end result ≡ true
   calm_status still calm = by (said.complete input s told is still)
     where
       three_never : is_calm_end 3 ≡ true → is_calm_end result ≡ true
@@ -107,15 +112,15 @@ module _ {D : Type 0} (Shows : Scenario → Held → Showing) (never : (s : Scen
       at false true seven eight nine a b c d e known = refl
       at false false true eight nine a b c d e known =
           let seven : result ≡ 7 = grind (arith, nat_tests) in
-          absurd (let no : is_calm_end 7 ≡ true = of_play 7 (subst (λ n. Played n) seven (said.replayed (rw seven refl) input told)) calm in
+          absurd (let no : is_calm_end 7 ≡ true = of_play 7 (subst (λ n. HasPlayed n) seven (said.replayed (rw seven refl) input told)) calm in
           let never : false ≡ true = no in cc)
       at false false false true nine a b c d e known = refl
       at false false false false true a b c d e known =
           let nine : result ≡ 9 = grind (arith, nat_tests) in
-          absurd (let no : is_calm_end 9 ≡ true = of_play 9 (subst (λ n. Played n) nine (said.replayed (rw nine refl) input told)) calm in
+          absurd (let no : is_calm_end 9 ≡ true = of_play 9 (subst (λ n. HasPlayed n) nine (said.replayed (rw nine refl) input told)) calm in
           let never : false ≡ true = no in cc)
       at false false false false false a b c d e known = absurd (let no : false ≡ true = known in cc)
 
-      by : (is_end result ≡ true) ⊎ Played 3 → is_calm_end result ≡ true
+      by : (is_end result ≡ true) ⊎ HasPlayed 3 → is_calm_end result ≡ true
       by (inl known) = at (nat_eq result 0) (nat_eq result 6) (nat_eq result 7) (nat_eq result 8) (nat_eq result 9) refl refl refl refl refl known
       by (inr r) = three_never (of_play 3 r calm)

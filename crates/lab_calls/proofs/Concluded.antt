@@ -5,10 +5,9 @@ use Rattle.std.proofs.lemmas.Bool.Decides.{nat_tests}
 use Rattle.std.proofs.lemmas.List.{append-nil, length-take, drop_all}
 use Rattle.std.proofs.lemmas.Option.{same_Some}
 use Rattle.std.specs.Io.KnownBytes.{Appends, Consumes, IsAtEnd}
-use Rattle.seata_types.specs.declared.limits.TheConstants.{INPUT_BYTES}
 use Rattle.disk_model.specs.Disk.{Rose}
 use Rattle.lab_calls.specs.declared.answers.Answer.{Answer}
-use Rattle.lab_calls.specs.Answers.{HasRead, Answers, TellsFaults, is_among, unread, with_failures}
+use Rattle.lab_calls.specs.Answers.{HasRead, Answers, TellsFaults, is_among, unread_past, with_failures}
 use Rattle.lab_calls.specs.Steps.{AnswersInput, WritesAnswer, WritesText}
 use Rattle.lab_calls.specs.Streams.{GainsFront, Devices, IsCalm}
 
@@ -21,67 +20,67 @@ none_some e = cc
 halves : {A : Type 0} (xs ys : List A) → (take (length xs) (xs ++ ys) ≡ xs) × (drop (length xs) (xs ++ ys) ≡ ys)
 halves xs ys = (take-append_seam xs ys, drop-append_seam xs ys)
 
-pub input_of : (input bytes : List ℕ) (old left : Option (List ℕ)) → Consumes old left bytes → length bytes ≤ INPUT_BYTES + 1
-    → (length bytes ≤ INPUT_BYTES → IsAtEnd left) → old ≡ Some input → HasRead input bytes left
-input_of input bytes None left taken most ends is = absurd (none_some is)
-input_of input bytes (Some whole) None taken most ends is = absurd taken
-input_of input bytes (Some whole) (Some rest) taken most ends is = by (nat_le (length bytes) INPUT_BYTES) refl
+pub input_of : (most : ℕ) (input bytes : List ℕ) (old left : Option (List ℕ)) → Consumes old left bytes → length bytes ≤ most + 1
+    → (length bytes ≤ most → IsAtEnd left) → old ≡ Some input → HasRead most input bytes left
+input_of most input bytes None left taken limit ends is = absurd (none_some is)
+input_of most input bytes (Some whole) None taken limit ends is = absurd taken
+input_of most input bytes (Some whole) (Some rest) taken limit ends is = by (nat_le (length bytes) most) refl
   where
     parts : input ≡ bytes ++ rest
     parts = sym (same_Some _ _ is) ∙ taken
 
-    by : (b : Bool) → nat_le (length bytes) INPUT_BYTES ≡ b → HasRead input bytes (Some rest)
+    by : (b : Bool) → nat_le (length bytes) most ≡ b → HasRead most input bytes (Some rest)
     by true e =
-        let short : length bytes ≤ INPUT_BYTES = grind (arith, nat_tests) in
+        let short : length bytes ≤ most = grind (arith, nat_tests) in
         let whole : input ≡ bytes = parts ∙ ap (λ r. bytes ++ r) (ends short) ∙ append-nil bytes in
         record {
-          bytes_are = sym (ap (take (INPUT_BYTES + 1)) whole ∙ take_all (INPUT_BYTES + 1) bytes (omega (arith, short)));
-          left_are = ap (λ r. Some r) (ends short ∙ sym (ap (drop (INPUT_BYTES + 1)) whole ∙ drop_all (INPUT_BYTES + 1) bytes (omega (arith, short))));
+          bytes_are = sym (ap (take (most + 1)) whole ∙ take_all (most + 1) bytes (omega (arith, short)));
+          left_are = ap (λ r. Some r) (ends short ∙ sym (ap (drop (most + 1)) whole ∙ drop_all (most + 1) bytes (omega (arith, short))));
         }
     by false e =
-        let size : length bytes ≡ INPUT_BYTES + 1 = grind (arith, nat_tests) in
+        let size : length bytes ≡ most + 1 = grind (arith, nat_tests) in
         record {
-          bytes_are = sym (ap (take (INPUT_BYTES + 1)) parts ∙ ap (λ n. take n (bytes ++ rest)) (sym size) ∙ (halves bytes rest).0);
-          left_are = ap (λ r. Some r) (sym (ap (drop (INPUT_BYTES + 1)) parts ∙ ap (λ n. drop n (bytes ++ rest)) (sym size) ∙ (halves bytes rest).1));
+          bytes_are = sym (ap (take (most + 1)) parts ∙ ap (λ n. take n (bytes ++ rest)) (sym size) ∙ (halves bytes rest).0);
+          left_are = ap (λ r. Some r) (sym (ap (drop (most + 1)) parts ∙ ap (λ n. drop n (bytes ++ rest)) (sym size) ∙ (halves bytes rest).1));
         }
 
 -- few bytes were read: they are the input
-pub all_read : {input bytes : List ℕ} {left : Option (List ℕ)} → HasRead input bytes left → length bytes ≤ INPUT_BYTES → input ≡ bytes
-all_read {input} {bytes} t short = by (nat_le (length input) (INPUT_BYTES + 1)) refl
+pub all_read : {most : ℕ} {input bytes : List ℕ} {left : Option (List ℕ)} → HasRead most input bytes left → length bytes ≤ most → input ≡ bytes
+all_read {most} {input} {bytes} t short = by (nat_le (length input) (most + 1)) refl
   where
-    by : (b : Bool) → nat_le (length input) (INPUT_BYTES + 1) ≡ b → input ≡ bytes
-    by true e = sym (t.bytes_are ∙ take_all (INPUT_BYTES + 1) input (grind (arith, nat_tests)))
-    by false e = absurd (let size = ap length t.bytes_are in grind (arith, nat_tests, size, length-take (INPUT_BYTES + 1) input))
+    by : (b : Bool) → nat_le (length input) (most + 1) ≡ b → input ≡ bytes
+    by true e = sym (t.bytes_are ∙ take_all (most + 1) input (grind (arith, nat_tests)))
+    by false e = absurd (let size = ap length t.bytes_are in grind (arith, nat_tests, size, length-take (most + 1) input))
 
-pub longer : {input bytes : List ℕ} {left : Option (List ℕ)} → HasRead input bytes left → length bytes ≤ length input
-longer {input} {bytes} t = let size = ap length t.bytes_are in grind (arith, nat_tests, size, length-take (INPUT_BYTES + 1) input)
+pub longer : {most : ℕ} {input bytes : List ℕ} {left : Option (List ℕ)} → HasRead most input bytes left → length bytes ≤ length input
+longer {most} {input} {bytes} t = let size = ap length t.bytes_are in grind (arith, nat_tests, size, length-take (most + 1) input)
 
 -- nothing is left of an input that isn't too long
-pub none_unread : (input : List ℕ) {left : Option (List ℕ)} → left ≡ Some (unread input) → length input ≤ INPUT_BYTES → left ≡ Some []
-none_unread input is short = is ∙ ap (λ r. Some r) (drop_all (INPUT_BYTES + 1) input (omega (arith, short)))
+pub none_unread : (most : ℕ) (input : List ℕ) {left : Option (List ℕ)} → left ≡ Some (unread_past most input) → length input ≤ most → left ≡ Some []
+none_unread most input is short = is ∙ ap (λ r. Some r) (drop_all (most + 1) input (omega (arith, short)))
 
 -- ---- the statuses
 
 -- the text of the input's answer was written
-pub record Writes (IsAnswer : List ℕ → List ℕ → ℕ → Type 0) (status : ℕ) (input : List ℕ) (old new : Devices) : Type 0 where
+pub record Writes (most : ℕ) (IsAnswer : List ℕ → List ℕ → ℕ → Type 0) (status : ℕ) (input : List ℕ) (old new : Devices) : Type 0 where
   pub text : List ℕ
   pub is_answer : IsAnswer input text status
   pub printed : Appends old.sink.written new.sink.written text
-  pub read : new.source.left ≡ Some (unread input)
+  pub read : new.source.left ≡ Some (unread_past most input)
 
 -- the front of the text of the input's answer was written
-pub record WritesFront (IsAnswer : List ℕ → List ℕ → ℕ → Type 0) (input : List ℕ) (old new : Devices) : Type 0 where
+pub record WritesFront (most : ℕ) (IsAnswer : List ℕ → List ℕ → ℕ → Type 0) (input : List ℕ) (old new : Devices) : Type 0 where
   pub text : List ℕ
   pub status : ℕ
   pub is_answer : IsAnswer input text status
   pub printed : GainsFront old.sink.written new.sink.written text
-  pub read : new.source.left ≡ Some (unread input)
+  pub read : new.source.left ≡ Some (unread_past most input)
 
 -- what the status says: those of `texts` come with a text
-pub record Concludes (IsAnswer : List ℕ → List ℕ → ℕ → Type 0) (texts : List ℕ) (result : ℕ) (old new : Devices) : Type 0 where
+pub record Concludes (most : ℕ) (IsAnswer : List ℕ → List ℕ → ℕ → Type 0) (texts : List ℕ) (result : ℕ) (old new : Devices) : Type 0 where
   pub faults : TellsFaults (with_failures texts) result old new
-  pub written : is_among texts result ≡ true → (input : List ℕ) → old.source.left ≡ Some input → Writes IsAnswer result input old new
-  pub front : result ≡ 5 → (input : List ℕ) → old.source.left ≡ Some input → WritesFront IsAnswer input old new
+  pub written : is_among texts result ≡ true → (input : List ℕ) → old.source.left ≡ Some input → Writes most IsAnswer result input old new
+  pub front : result ≡ 5 → (input : List ℕ) → old.source.left ≡ Some input → WritesFront most IsAnswer input old new
 
 -- no failure comes with a text
 pub record AreTexts (texts : List ℕ) : Type 0 where
@@ -124,8 +123,8 @@ never_among : {P : Type 0} (texts : List ℕ) (n k : ℕ) → n ≡ k → is_amo
 never_among texts n k same none e = false_true (sym none ∙ ap (is_among texts) (sym same) ∙ e)
 
 -- a text was to be written, with this status
-module _ (IsAnswer : List ℕ → List ℕ → ℕ → Type 0) (texts : List ℕ) (are : AreTexts texts) (result : ℕ) (old new : Devices) (text : List ℕ) (status : ℕ)
-    (answer : Answers IsAnswer texts old.source.left new.source.left text status)
+module _ (most : ℕ) (IsAnswer : List ℕ → List ℕ → ℕ → Type 0) (texts : List ℕ) (are : AreTexts texts) (result : ℕ) (old new : Devices) (text : List ℕ) (status : ℕ)
+    (answer : Answers most IsAnswer texts old.source.left new.source.left text status)
     (wrote : WritesText text status result old.sink new.sink) where
   not_five : status ≢ 5
   not_five five = never_among texts status 5 five are.not_five answer.is_known
@@ -159,7 +158,7 @@ module _ (IsAnswer : List ℕ → List ℕ → ℕ → Type 0) (texts : List ℕ
       by (inl five) = absurd (omega (arith, six, five))
       by (inr known) = never_among texts result 6 six are.not_six known
 
-  pub concluded_text : Concludes IsAnswer texts result old new
+  pub concluded_text : Concludes most IsAnswer texts result old new
   concluded_text = record {
     faults = record {
       statuses = among;
@@ -174,9 +173,9 @@ module _ (IsAnswer : List ℕ → List ℕ → ℕ → Type 0) (texts : List ℕ
   }
 
 -- there was no text to write
-concluded_nothing : (IsAnswer : List ℕ → List ℕ → ℕ → Type 0) (texts : List ℕ) → AreTexts texts → (result : ℕ) (old new : Devices) → (result ≡ 4) ⊎ (result ≡ 6)
-    → (result ≡ 4 → Rose old.source.faults new.source.faults) → new.sink.written ≡ old.sink.written → Concludes IsAnswer texts result old new
-concluded_nothing IsAnswer texts are result old new known rose same = record {
+concluded_nothing : (most : ℕ) (IsAnswer : List ℕ → List ℕ → ℕ → Type 0) (texts : List ℕ) → AreTexts texts → (result : ℕ) (old new : Devices) → (result ≡ 4) ⊎ (result ≡ 6)
+    → (result ≡ 4 → Rose old.source.faults new.source.faults) → new.sink.written ≡ old.sink.written → Concludes most IsAnswer texts result old new
+concluded_nothing most IsAnswer texts are result old new known rose same = record {
   faults = record {
     statuses = among_back texts (4 ∷ 5 ∷ 6 ∷ []) result (among known);
     source_failed = λ four. (rose four, same);
@@ -199,16 +198,16 @@ concluded_nothing IsAnswer texts are result old new known rose same = record {
     no_text (inl h) k = never_among texts result 4 h are.not_four k
     no_text (inr h) k = never_among texts result 6 h are.not_six k
 
-pub concluded : (IsAnswer : List ℕ → List ℕ → ℕ → Type 0) (texts : List ℕ) → AreTexts texts → (result : ℕ) (old new : Devices) (answer : Result Answer ℕ)
-    → AnswersInput IsAnswer texts old.source new.source answer → WritesAnswer answer result old.sink new.sink → Concludes IsAnswer texts result old new
-concluded IsAnswer texts are result old new (Ok a) read wrote = concluded_text IsAnswer texts are result old new (string_bytes a.text) a.status read.answer wrote
-concluded IsAnswer texts are result old new (Err status) read wrote =
-    concluded_nothing IsAnswer texts are result old new (rw wrote.0 read.statuses) (λ four. read.failed (sym wrote.0 ∙ four)) wrote.1
+pub concluded : (most : ℕ) (IsAnswer : List ℕ → List ℕ → ℕ → Type 0) (texts : List ℕ) → AreTexts texts → (result : ℕ) (old new : Devices) (answer : Result Answer ℕ)
+    → AnswersInput most IsAnswer texts old.source new.source answer → WritesAnswer answer result old.sink new.sink → Concludes most IsAnswer texts result old new
+concluded most IsAnswer texts are result old new (Ok a) read wrote = concluded_text most IsAnswer texts are result old new (string_bytes a.text) a.status read.answer wrote
+concluded most IsAnswer texts are result old new (Err status) read wrote =
+    concluded_nothing most IsAnswer texts are result old new (rw wrote.0 read.statuses) (λ four. read.failed (sym wrote.0 ∙ four)) wrote.1
 
 -- where no device failed, the text was written or memory was refused
-pub calm : (IsAnswer : List ℕ → List ℕ → ℕ → Type 0) (texts : List ℕ) (result : ℕ) (old new : Devices) → Concludes IsAnswer texts result old new → IsCalm old new
+pub calm : (most : ℕ) (IsAnswer : List ℕ → List ℕ → ℕ → Type 0) (texts : List ℕ) (result : ℕ) (old new : Devices) → Concludes most IsAnswer texts result old new → IsCalm old new
     → (is_among texts result ≡ true) ⊎ (result ≡ 6)
-calm IsAnswer texts result old new t still = among_either texts (4 ∷ 5 ∷ 6 ∷ []) result (λ known. inl known) (by (nat_eq result 4) (nat_eq result 5) (nat_eq result 6) refl refl refl) t.faults.statuses
+calm most IsAnswer texts result old new t still = among_either texts (4 ∷ 5 ∷ 6 ∷ []) result (λ known. inl known) (by (nat_eq result 4) (nat_eq result 5) (nat_eq result 6) refl refl refl) t.faults.statuses
   where
     by : (c d e : Bool) → nat_eq result 4 ≡ c → nat_eq result 5 ≡ d → nat_eq result 6 ≡ e → is_among (4 ∷ 5 ∷ 6 ∷ []) result ≡ true → (is_among texts result ≡ true) ⊎ (result ≡ 6)
     by true d e r s u among = absurd (still.source (t.faults.source_failed (grind (arith, nat_tests))).0)

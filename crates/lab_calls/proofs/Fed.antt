@@ -231,7 +231,7 @@ on_ok P Q R f (Err e) p q = tt
 
 pub short_answers : (left0 left left2 : Option (List ℕ)) (total : ℕ) (l : Listing) (text : List ℕ) (status : ℕ)
     → ((input : List ℕ) → left0 ≡ Some input → IsListing input left total l) → total ≤ INPUT_BYTES → Consumes left left2 [] → IsAtEnd left2
-    → ((whole : List ℕ) → Awaits l [] whole → text ≡ whole) → status ≡ 0 → Answers IsFramesAnswer frames_statuses left0 left2 text status
+    → ((whole : List ℕ) → Awaits l [] whole → text ≡ whole) → status ≡ 0 → Answers INPUT_BYTES IsFramesAnswer frames_statuses left0 left2 text status
 short_answers left0 left left2 total l text status listing short took ends says zero = record {
   is_known = rw zero refl;
   is_answer = λ input told. subst (λ n. IsFramesAnswer input text n) (sym zero) (answers_listed input text left left2 total l (listing input told) short took ends says).0;
@@ -240,7 +240,7 @@ short_answers left0 left left2 total l text status listing short took ends says 
 
 pub long_answers : (left0 left : Option (List ℕ)) (total : ℕ) (l : Listing) (text : List ℕ) (status : ℕ)
     → ((input : List ℕ) → left0 ≡ Some input → IsListing input left total l) → INPUT_BYTES < total → total ≤ INPUT_BYTES + 1
-    → text ≡ over_text → status ≡ 3 → Answers IsFramesAnswer frames_statuses left0 left text status
+    → text ≡ over_text → status ≡ 3 → Answers INPUT_BYTES IsFramesAnswer frames_statuses left0 left text status
 long_answers left0 left total l text status listing long most is three = record {
   is_known = rw three refl;
   is_answer = λ input told. subst (λ n. IsFramesAnswer input text n) (sym three) (answers_over input text left total l (listing input told) long most is).0;

@@ -44,16 +44,16 @@ long_case input many = by (case_of input)
     by (inl h) = not_both input h.short many
     by (inr h) = (h.text, h.status)
 
-module _ (result : ℕ) (old new : Devices) (t : Concludes IsFramesAnswer frames_statuses result old new) where
+module _ (result : ℕ) (old new : Devices) (t : Concludes INPUT_BYTES IsFramesAnswer frames_statuses result old new) where
   listed_says : result ≡ 0 → (input : List ℕ) → old.source.left ≡ Some input → ListsFrames input old new
   listed_says zero input told = by (case_of input)
     where
-      w : Writes IsFramesAnswer result input old new
+      w : Writes INPUT_BYTES IsFramesAnswer result input old new
       w = t.written (rw zero refl) input told
 
       by : IsListed input ⊎ IsLong input → ListsFrames input old new
       by (inl h) = record {
-        read_to_end = none_unread input w.read h.short;
+        read_to_end = none_unread INPUT_BYTES input w.read h.short;
         short = h.short;
         printed = subst (λ x. Appends old.sink.written new.sink.written x) (w.is_answer.text_is ∙ h.text) w.printed;
       }
@@ -62,7 +62,7 @@ module _ (result : ℕ) (old new : Devices) (t : Concludes IsFramesAnswer frames
   over_says : result ≡ 3 → (input : List ℕ) → old.source.left ≡ Some input → IsOver input old new
   over_says three input told = by (case_of input)
     where
-      w : Writes IsFramesAnswer result input old new
+      w : Writes INPUT_BYTES IsFramesAnswer result input old new
       w = t.written (rw three refl) input told
 
       by : IsListed input ⊎ IsLong input → IsOver input old new
@@ -75,7 +75,7 @@ module _ (result : ℕ) (old new : Devices) (t : Concludes IsFramesAnswer frames
       (w.read, subst (λ x. GainsFront old.sink.written new.sink.written x) w.is_answer.text_is w.printed)
 
   complete_says : (input : List ℕ) → old.source.left ≡ Some input → IsCalm old new → (result ≡ frames_status input) ⊎ (result ≡ 6)
-  complete_says input told still = by (calm IsFramesAnswer frames_statuses result old new t still)
+  complete_says input told still = by (calm INPUT_BYTES IsFramesAnswer frames_statuses result old new t still)
     where
       by : (is_among frames_statuses result ≡ true) ⊎ (result ≡ 6) → (result ≡ frames_status input) ⊎ (result ≡ 6)
       by (inl known) = inl (t.written known input told).is_answer.status_is

@@ -1,10 +1,11 @@
 -- What the status of a replay or a run says.
-use Rattle.std.proofs.Common.{◌≡◌, ◌⊎◌, inl, inr, ◌||◌, ℕ, nat_eq, Bool, true, false, List, [], ◌∷◌, Option, Some, Result, Ok, Err, refl, ap, subst, sym, ◌∙◌, arith}
+use Rattle.std.proofs.Common.{◌≡◌, ◌⊎◌, inl, inr, ◌||◌, ℕ, nat_eq, Bool, true, false, List, [], ◌∷◌, Some, Result, Ok, Err, refl, ap, subst, sym, ◌∙◌, arith}
 use Rattle.std.proofs.lemmas.Bool.Decides.{nat_tests}
 use Rattle.scenario_reader.proofs.Causes.{scenario_has_no_fault, scenario_is_short}
 use Rattle.scenario_reader.specs.Reading.{IsScenario}
 use Rattle.scenario_form.specs.declared.scenarios.Scenario.{Scenario}
-use Rattle.history_text.specs.declared.entries.Entry.{Entry}
+use Rattle.seata_types.specs.declared.limits.TheConstants.{INPUT_BYTES}
+use Rattle.lab_calls.specs.declared.played.Played.{Played}
 use Rattle.node_seat.specs.declared.faults.RunFault.{RunFault}
 use Rattle.node_seat.specs.declared.faults.RunFault.TheVariants as run_fault
 use Rattle.lab_calls.specs.Answers.{Ending, IsAnswerTo, IsEndText, IsPlayOf, IsFaultOf, Plays, Refuses, TellsPlay, is_among, is_end, replay_statuses, status_of}
@@ -16,23 +17,23 @@ pub replay_texts : AreTexts replay_statuses
 replay_texts = record { not_four = refl; not_five = refl; not_six = refl }
 
 -- the status of how a replay or a run ended is one of those that come with a text
-fault_known : (missed : RunFault) → (missed ≡ run_fault.NoMemory → ⊥) → is_among replay_statuses (status_of missed) ≡ true
+pub fault_known : (missed : RunFault) → (missed ≡ run_fault.NoMemory → ⊥) → is_among replay_statuses (status_of missed) ≡ true
 fault_known (run_fault.Store at) some = refl
 fault_known (run_fault.Full at full) some = refl
 fault_known (run_fault.Damaged at second offset) some = refl
 fault_known run_fault.Other some = refl
 fault_known run_fault.NoMemory some = absurd (some refl)
 
-pub end_known : (s : Scenario) (ended : Result (List Entry) RunFault) (text : List ℕ) (n : ℕ) → IsEndText s ended text n → is_among replay_statuses n ≡ true
+pub end_known : (s : Scenario) (ended : Result Played RunFault) (text : List ℕ) (n : ℕ) → IsEndText s ended text n → is_among replay_statuses n ≡ true
 end_known s (Ok es) text n t = rw t.0 refl
 end_known s (Err missed) text n t = ap (is_among replay_statuses) t.1 ∙ fault_known missed t.0
 
 module _ (ends : Ending) where
-  module _ (result : ℕ) (old new : Devices) (t : Concludes (IsAnswerTo ends) replay_statuses result old new) where
+  module _ (result : ℕ) (old new : Devices) (t : Concludes INPUT_BYTES (IsAnswerTo ends) replay_statuses result old new) where
     -- what was written of a scenario that was replayed or run
-    told_by : (input : List ℕ) (w : Writes (IsAnswerTo ends) result input old new) (s : Scenario) → IsScenario input s → IsPlayOf ends s w.text result → Plays ends result input old new
+    told_by : (input : List ℕ) (w : Writes INPUT_BYTES (IsAnswerTo ends) result input old new) (s : Scenario) → IsScenario input s → IsPlayOf ends s w.text result → Plays ends result input old new
     told_by input w s is r = record {
-      read_to_end = none_unread input w.read (scenario_is_short input s is);
+      read_to_end = none_unread INPUT_BYTES input w.read (scenario_is_short input s is);
       scenario = s;
       is_scenario = is;
       text = w.text;
@@ -49,7 +50,7 @@ module _ (ends : Ending) where
         more false true seven eight nine e = refl
         more false false seven eight nine e = e
 
-        by : (w : Writes (IsAnswerTo ends) result input old new) → Plays ends result input old new
+        by : (w : Writes INPUT_BYTES (IsAnswerTo ends) result input old new) → Plays ends result input old new
         by w = cases w.is_answer
           where
             cases : ((result ≡ 3) × IsFaultOf input w.text) ⊎ ((s : Scenario) × IsScenario input s × IsPlayOf ends s w.text result) → Plays ends result input old new
@@ -60,7 +61,7 @@ module _ (ends : Ending) where
     unfolding IsAnswerTo
     refused_says three input told = by w.is_answer
       where
-        w : Writes (IsAnswerTo ends) result input old new
+        w : Writes INPUT_BYTES (IsAnswerTo ends) result input old new
         w = t.written (rw three refl) input told
 
         by : ((result ≡ 3) × IsFaultOf input w.text) ⊎ ((s : Scenario) × IsScenario input s × IsPlayOf ends s w.text result) → Refuses input old new ⊎ Plays ends 3 input old new
@@ -73,7 +74,7 @@ module _ (ends : Ending) where
     not_refused input text s is (e, f, printed) = scenario_has_no_fault input s e is f
 
     complete_says : (input : List ℕ) (s : Scenario) → old.source.left ≡ Some input → IsScenario input s → IsCalm old new → (is_end result ≡ true) ⊎ Plays ends 3 input old new
-    complete_says input s told is still = by (calm (IsAnswerTo ends) replay_statuses result old new t still)
+    complete_says input s told is still = by (calm INPUT_BYTES (IsAnswerTo ends) replay_statuses result old new t still)
       where
         other : Refuses input old new ⊎ Plays ends 3 input old new → Plays ends 3 input old new
         other (inl w) = absurd (not_refused input w.text s is w.is_refusal)

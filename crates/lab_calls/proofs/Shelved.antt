@@ -1,8 +1,9 @@
 -- What a replay or a run does with a shelf, by the status.
-use Rattle.std.proofs.Common.{◌≡◌, ◌≢◌, inl, inr, ℕ, nat_eq, Bool, true, false, List, [], ◌∷◌, Option, Some, Result, Ok, Err, refl, ap, subst, sym, ◌∙◌, arith}
+use Rattle.std.proofs.Common.{◌≡◌, ◌≢◌, inl, inr, ℕ, nat_eq, Bool, true, false, List, [], ◌∷◌, Option, Result, Ok, Err, refl, ap, subst, sym, ◌∙◌, arith}
 use Rattle.std.proofs.lemmas.Bool.Decides.{nat_tests}
-use Rattle.history_text.specs.declared.entries.Entry.{Entry}
+use Rattle.lab_calls.specs.declared.played.Played.{Played}
 use Rattle.node_seat.specs.declared.faults.RunFault.{RunFault}
+use Rattle.seata_types.specs.declared.limits.TheConstants.{INPUT_BYTES}
 use Rattle.lab_calls.specs.declared.answers.Answer.{Answer}
 use Rattle.lab_calls.specs.Answers.{Ending, IsAnswerTo, IsStatusAfter, TellsShelf, ended_status, is_among, replay_statuses}
 use Rattle.lab_calls.specs.Steps.{AnswersInput, WritesAnswer, status_in}
@@ -17,7 +18,7 @@ module _ (ends : Ending) (same : Type 0) where
       by true e = rw e refl
       by false e = absurd (grind (arith, nat_tests))
 
-  after_cut : (ended : Result (List Entry) RunFault) (n : ℕ) → is_among replay_statuses n ≡ true → IsStatusAfter ended n → IsStatusAfter ended 5
+  after_cut : (ended : Result Played RunFault) (n : ℕ) → is_among replay_statuses n ≡ true → IsStatusAfter ended n → IsStatusAfter ended 5
   after_cut ended n known (inl own) = inr (inr (refl, λ memory. false_true (sym (ap (is_among replay_statuses) (own ∙ ap ended_status memory)) ∙ known)))
   after_cut ended n known (inr (inl six)) = false_true (rw six at known)
   after_cut ended n known (inr (inr five)) = inr (inr (refl, five.1))
@@ -34,7 +35,7 @@ module _ (ends : Ending) (same : Type 0) where
     is_status = after_cut l.ended n known l.is_status;
   })
 
-  pub shelf_told : (result : ℕ) (old new : Devices) (answer : Result Answer ℕ) → AnswersInput (IsAnswerTo ends) replay_statuses old.source new.source answer
+  pub shelf_told : (result : ℕ) (old new : Devices) (answer : Result Answer ℕ) → AnswersInput INPUT_BYTES (IsAnswerTo ends) replay_statuses old.source new.source answer
       → TellsShelf ends same (status_in answer) old.source.left new.source.left → WritesAnswer answer result old.sink new.sink
       → TellsShelf ends same result old.source.left new.source.left
   shelf_told result old new (Ok a) read shelf wrote = by (nat_eq result 5) refl

@@ -14,16 +14,18 @@ use Rattle.node_seat.specs.declared.faults.RunFault.TheVariants as run_fault
 use Rattle.scenario_nodes.specs.Nodes.{Held, HoldAll}
 use Rattle.scenario_nodes.specs.Shelves.{AllTell, pair_of}
 use Rattle.replay_runner.specs.Leaving.{AreAllBack, AreAllLaid, AreLeft, HavePlaces, HaveSizes, disks_in}
-use Rattle.report_text.specs.Following.{AreCounted, Reports}
-use Rattle.history_rules.specs.Nodes.{Past, Role, no_past, role_at}
-use Rattle.history_rules.specs.Histories.{Moment, own}
+use Rattle.report_text.specs.Following.{IsRead}
+use Rattle.history_rules.specs.Nodes.{Past, Role, role_at}
+use Rattle.history_rules.specs.Histories.{Legal, Moment, own}
 use Rattle.history_law.specs.ChainSafety.{IsSafeAfterChains}
-use Rattle.history_text.specs.declared.entries.Entry.{Entry}
+use Rattle.history_text.specs.History.{entries}
 use Rattle.history_text.specs.declared.entries.Names.{Names}
 use Rattle.history_text.specs.Lines.{place_text}
 use Rattle.history_text.specs.Report.{line, names_of, report}
 use Rattle.history_text.specs.Worlds.{world_of}
+use Rattle.lab_calls.specs.declared.played.Played.{Played}
 use Rattle.lab_calls.specs.FrameLines.{frames_text}
+use Rattle.lab_calls.specs.Kept.{HasBase}
 use Rattle.disk_model.specs.Disk.{DiskState, Rose}
 use Rattle.disk_model.specs.Shelf.{ShelfState}
 use Rattle.lab_calls.specs.Streams.{GainsFront, Devices, IsCalm}
@@ -34,25 +36,29 @@ abbrev pub usage_text : List ℕ
 usage_text = line (codes "usage: seata_lab replay | run | make | stress | frames | audit | show")
 
 -- what stays unread of an input: it is read to its end, or one byte past the most that is taken
+abbrev pub unread_past : (most : ℕ) → List ℕ → List ℕ
+unread_past most input = drop (most + 1) input
+
+-- of an input of scenarios or frames
 abbrev pub unread : List ℕ → List ℕ
-unread input = drop (INPUT_BYTES + 1) input
+unread input = unread_past INPUT_BYTES input
 
 -- for the proofs alone: these bytes of an input were read, and the others are left
-pub record HasRead (input bytes : List ℕ) (left : Option (List ℕ)) : Type 0 where
-  pub bytes_are : bytes ≡ take (INPUT_BYTES + 1) input
-  pub left_are : left ≡ Some (unread input)
+pub record HasRead (most : ℕ) (input bytes : List ℕ) (left : Option (List ℕ)) : Type 0 where
+  pub bytes_are : bytes ≡ take (most + 1) input
+  pub left_are : left ≡ Some (unread_past most input)
 
 -- a number is one of these
 abbrev pub is_among : List ℕ → ℕ → Bool
 is_among numbers n = list_any (nat_eq n) numbers
 
--- a source was read, and this text and status, one of these, are the answer to its input, where
--- that is told
-pub record Answers (IsAnswer : List ℕ → List ℕ → ℕ → Type 0) (statuses : List ℕ)
+-- a source was read so far, and this text and status, one of these, are the answer to its input,
+-- where that is told
+pub record Answers (most : ℕ) (IsAnswer : List ℕ → List ℕ → ℕ → Type 0) (statuses : List ℕ)
     (old new : Option (List ℕ)) (text : List ℕ) (status : ℕ) : Type 0 where
   pub is_known : is_among statuses status ≡ true
   pub is_answer : (input : List ℕ) → old ≡ Some input → IsAnswer input text status
-  pub read : (input : List ℕ) → old ≡ Some input → new ≡ Some (unread input)
+  pub read : (input : List ℕ) → old ≡ Some input → new ≡ Some (unread_past most input)
 
 -- ---- replays and runs
 
@@ -102,21 +108,26 @@ status_of (run_fault.Damaged at second offset) = 9
 status_of run_fault.Other = 3
 status_of run_fault.NoMemory = 6
 
--- the text and the status of a replay or a run that ended so: the report of its entries, which are
--- few enough for one, or the line of its fault
-abbrev pub IsEndText : Scenario → Result (List Entry) RunFault → List ℕ → ℕ → Type 0
-IsEndText s (Ok es) text status = (status ≡ 0) × AreCounted es × Reports s es text
+-- a text is the report of each legal history with these entries, over whatever records were read before
+abbrev pub IsReportOver : Scenario → Played → List ℕ → Type 0
+IsReportOver s p text = (past : Past) (ms : List Moment) → IsRead s p.before past
+    → Legal (world_of s) past ms → entries ms ≡ p.history → text ≡ report s past ms
+
+-- the text and the status of a replay or a run that ended so: the report of its entries over what its
+-- disks held, or the line of its fault
+abbrev pub IsEndText : Scenario → Result Played RunFault → List ℕ → ℕ → Type 0
+IsEndText s (Ok p) text status = (status ≡ 0) × IsReportOver s p text
 IsEndText s (Err missed) text status =
     (missed ≢ run_fault.NoMemory) × (status ≡ status_of missed)
     × (text ≡ line (end_text (names_of s) missed))
 
 -- how the replay, or the run, of a scenario may end
 abbrev pub Ending : Type 1
-Ending = Scenario → Result (List Entry) RunFault → Type 0
+Ending = Scenario → Result Played RunFault → Type 0
 
 -- the text and the status of how the replay or run of a scenario ended
 pub record IsPlayOf (ends : Ending) (s : Scenario) (text : List ℕ) (status : ℕ) : Type 0 where
-  pub ended : Result (List Entry) RunFault
+  pub ended : Result Played RunFault
   pub has_ended : ends s ended
   pub is_text : IsEndText s ended text status
 
@@ -137,15 +148,14 @@ replay_statuses = 0 ∷ 3 ∷ 7 ∷ 8 ∷ 9 ∷ []
 -- Where the shelf's disks tell their bytes, and held these records: a history over them, which
 -- `IsHistory` says is the scenario's, is safe behind each chain that the records may follow, and the
 -- disks of each node that were given back, of the scenario's size, show it. Each record of it had a
--- place, and the journals end where its entries leave them. Over disks that held no record, the text is
--- its report.
+-- place, and the journals end where its entries leave them. The text is its report.
 pub record Reported {D : Type 0} (IsHistory : Scenario → Past → List Moment → Type 0)
     (state : D → DiskState) (s : Scenario) (held : Held) (disks : List (D × D)) (text : List ℕ)
     : Type 0 where
   pub history : List Moment
   pub is_run : IsHistory s held.past history
   pub is_safe : IsSafeAfterChains (world_of s) held.past history
-  pub is_report : held.past ≡ no_past → text ≡ report s no_past history
+  pub is_report : text ≡ report s held.past history
   pub fits : HavePlaces s held history
   pub device : (p : Place) (role : Role) → role_at (world_of s) held.past p ≡ Some role
       → AreLeft role (own p history) (disks_in (map (pair_of state) disks) p)
@@ -162,12 +172,13 @@ pub record Plays (ends : Ending) (status : ℕ) (input : List ℕ) (old new : De
   pub is_play : IsPlayOf ends scenario text status
   pub printed : Appends old.sink.written new.sink.written text
 
--- at status 0 besides: the disks of all nodes were given back in this call, and where they tell their
--- bytes, there is a safe history over whatever they held before
+-- at status 0 besides: the disks of all nodes, and the one with the scenario's text, were given back in
+-- this call, and where they tell their bytes, there is a safe history over whatever they held before
 pub record Done {D : Type 0} (IsHistory : Scenario → Past → List Moment → Type 0)
     (state : D → DiskState) (had has : ShelfState D) (s : Scenario) (text : List ℕ) : Type 0 where
   pub disks : List (D × D)
   pub back : AreAllBack had has s disks
+  pub net : HasBase state had has s
   pub reported : AllTell state → (held : Held) → HoldAll state had s held
       → Reported IsHistory state s held disks text
 
@@ -214,13 +225,13 @@ pub record TellsPlay (ends : Ending) (IsDone : Scenario → List ℕ → Type 0)
 -- ---- the shelf of a replay or a run
 
 -- the status of a replay or a run that ended so
-abbrev pub ended_status : Result (List Entry) RunFault → ℕ
-ended_status (Ok es) = 0
+abbrev pub ended_status : Result Played RunFault → ℕ
+ended_status (Ok p) = 0
 ended_status (Err missed) = status_of missed
 
 -- The status of a call whose replay or run ended so: that of the ending; 6, where memory was refused
 -- for its text; or 5, where the sink failed at the text, which want of memory doesn't have.
-abbrev pub IsStatusAfter : Result (List Entry) RunFault → ℕ → Type 0
+abbrev pub IsStatusAfter : Result Played RunFault → ℕ → Type 0
 IsStatusAfter ended status =
     (status ≡ ended_status ended)
     ⊎ ((status ≡ 6) ⊎ ((status ≡ 5) × (ended ≢ Err run_fault.NoMemory)))
@@ -239,7 +250,7 @@ pub record IsLeftByPlay (ends : Ending) (status : ℕ) (old new : Option (List �
   pub scenario : Scenario
   pub is_scenario : (input : List ℕ) → old ≡ Some input → IsScenario input scenario
   pub read_to_end : (input : List ℕ) → old ≡ Some input → new ≡ Some []
-  pub ended : Result (List Entry) RunFault
+  pub ended : Result Played RunFault
   pub has_ended : ends scenario ended
   pub is_status : IsStatusAfter ended status
 

@@ -1,10 +1,14 @@
 pub mod Streams
 pub mod FrameLines
 pub mod Listings
+pub mod Over
+pub mod Kept
 pub mod Answers
 pub mod Steps
 pub mod Making
 pub mod Stressing
+pub mod Showing
+pub mod Auditing
 pub mod Tasks
 pub mod Once
 pub mod MemStreams

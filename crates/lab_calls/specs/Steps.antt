@@ -3,21 +3,22 @@ use Rattle.std.specs.Prelude.{◌≡◌, ◌≢◌, ◌⊎◌, ℕ, List, Some, 
 use Rattle.std.specs.Io.KnownBytes.{Appends}
 use Rattle.disk_model.specs.Disk.{Rose}
 use Rattle.disk_model.specs.Shelf.{ShelfState}
+use Rattle.seata_types.specs.declared.limits.TheConstants.{INPUT_BYTES}
 use Rattle.scenario_form.specs.declared.scenarios.Scenario.{Scenario}
 use Rattle.scenario_form.specs.Runnable.{IsRunnable}
 use Rattle.scenario_reader.specs.Reading.{IsScenario}
-use Rattle.history_text.specs.declared.entries.Entry.{Entry}
 use Rattle.node_seat.specs.declared.faults.RunFault.{RunFault}
 use Rattle.scenario_nodes.specs.Shelves.{ReturnsAll}
 use Rattle.lab_calls.specs.declared.answers.Answer.{Answer}
+use Rattle.lab_calls.specs.declared.played.Played.{Played}
 use Rattle.lab_calls.specs.Answers.{Answers, Ending, IsAnswerTo, IsEndText, IsFaultOf, IsUntouched, TellsShelf, replay_statuses, unread}
 use Rattle.lab_calls.specs.Streams.{GainsFront, SourceState, SinkState}
 
 -- the input of a source was answered, or this status says why it wasn't
-pub record AnswersInput (IsAnswer : List ℕ → List ℕ → ℕ → Type 0) (texts : List ℕ)
+pub record AnswersInput (most : ℕ) (IsAnswer : List ℕ → List ℕ → ℕ → Type 0) (texts : List ℕ)
     (old new : SourceState) (result : Result Answer ℕ) : Type 0 where
   pub answer : IfOk result (λ a.
-      Answers IsAnswer texts old.left new.left (string_bytes a.text) a.status)
+      Answers most IsAnswer texts old.left new.left (string_bytes a.text) a.status)
   pub statuses : IfErr result (λ status. (status ≡ 4) ⊎ (status ≡ 6))
   pub failed : IfErr result (λ status. status ≡ 4 → Rose old.faults new.faults)
 
@@ -32,7 +33,7 @@ IsRefusal input text status = (status ≡ 3) × IsFaultOf input text
 
 -- the source was read and has no scenario, and this is the answer; or this status says why there is none
 pub record HasNoScenario (old new : SourceState) (result : Result Answer ℕ) : Type 0 where
-  pub input : AnswersInput IsRefusal replay_statuses old new result
+  pub input : AnswersInput INPUT_BYTES IsRefusal replay_statuses old new result
   pub unplayed : IsUntouched (Unit {0}) (status_in result) old.left
 
 -- the source was read and has this scenario, which can be run
@@ -47,7 +48,7 @@ ReadsScenario old new (Ok s) = HasScenario old new s
 ReadsScenario old new (Err result) = HasNoScenario old new result
 
 -- what is told of a scenario that was replayed or run, and ended so; or memory was refused
-pub record TellsEnd (s : Scenario) (ended : Result (List Entry) RunFault)
+pub record TellsEnd (s : Scenario) (ended : Result Played RunFault)
     (result : Result Answer ℕ) : Type 0 where
   pub text : IfOk result (λ a. IsEndText s ended (string_bytes a.text) a.status)
   pub no_memory : IfErr result (λ status. status ≡ 6)
@@ -56,7 +57,7 @@ pub record TellsEnd (s : Scenario) (ended : Result (List Entry) RunFault)
 -- told; or this status says why not.
 pub record PlaysInput {D : Type 0} (ends : Ending) (had has : ShelfState D) (same : Type 0)
     (old new : SourceState) (result : Result Answer ℕ) : Type 0 where
-  pub input : AnswersInput (IsAnswerTo ends) replay_statuses old new result
+  pub input : AnswersInput INPUT_BYTES (IsAnswerTo ends) replay_statuses old new result
   pub shelf : TellsShelf ends same (status_in result) old.left new.left
   pub returned : ReturnsAll had has
   pub same_tells : has.tells ≡ had.tells

@@ -5,14 +5,14 @@ ghost use Rattle.history_text.specs.Report.{line};
 ghost use Rattle.scenario_form.specs.Runnable.{IsRunnable};
 ghost use Rattle.lab_calls.specs.Answers.{IsEndText, damaged_text, disk_text, end_text, fault_text, full_text, status_of, store_text};
 ghost use Rattle.lab_calls.specs.Steps.{TellsEnd};
-ghost use Rattle.report_text.specs.Following.{AreCounted};
 
+use crate::played::Played;
 use crate::statuses::{DAMAGED, DONE, FULL, INPUT, MEMORY, STORE};
-use history_text::{Entry, Names, put_place};
+use history_text::{Names, put_place};
 use node_seat::RunFault;
 use report_text::{node_names, write_report};
 use scenario_reader::{Scenario, ScenarioError};
-use seata_types::{Full, List, NoMemory, Place, Text};
+use seata_types::{Full, NoMemory, Place, Text};
 use std::alloc::{AllocError, Global};
 
 /// The text that is written, and the status once it was.
@@ -38,7 +38,7 @@ fn put_numbered(out: &mut String, word: &str, path: &Text, number: u64) -> Resul
 }
 
 /// The line of what keeps an input from being a scenario.
-fn put_fault(out: &mut String, error: &ScenarioError) -> Result<(), AllocError>
+pub fn put_fault(out: &mut String, error: &ScenarioError) -> Result<(), AllocError>
     ensures { OnOk result (string_bytes out.new ≡ string_bytes out.old ++ fault_text error.now) }
 {
     match error {
@@ -154,7 +154,7 @@ fn put_end(out: &mut String, fault: RunFault, names: &Names) -> Result<(), Alloc
 }
 
 /// The same, with its line feed.
-fn end_line(alloc: Global, fault: RunFault, names: &Names) -> Result<String, AllocError>
+pub fn end_line(alloc: Global, fault: RunFault, names: &Names) -> Result<String, AllocError>
     ensures { IfOk result (λ text. string_bytes text ≡ line (end_text names.now fault)) }
 {
     let mut out = String::new(alloc);
@@ -164,7 +164,7 @@ fn end_line(alloc: Global, fault: RunFault, names: &Names) -> Result<String, All
 }
 
 /// The status of why a replay or a run ended early.
-fn end_status(fault: RunFault) -> u8
+pub fn end_status(fault: RunFault) -> u8
     ensures { result ≡ status_of fault }
 {
     match fault {
@@ -198,23 +198,19 @@ pub fn is_out_of_memory(fault: RunFault) -> bool
     matches!(fault, RunFault::NoMemory)
 }
 
-/// Whether the entries are so few that a report counts them, which does so in 32 bits for each node.
-pub fn are_counted(history: &[Entry]) -> bool
-    ensures { result ≡ true → AreCounted history.now }
-{
-    history.len() < u32::MAX as usize
-}
-
-/// The report of a history. A run may make more entries than a report counts; there, memory is refused.
-fn report_of(alloc: Global, scenario: &Scenario, history: &[Entry]) -> Result<Answer, NoMemory>
+/// The report of a history over what the disks held. A run may make more entries than a report counts; there, memory is refused.
+fn report_of(alloc: Global, scenario: &Scenario, played: Played) -> Result<Answer, NoMemory>
     requires { IsRunnable scenario.now }
     ensures { IfOk result (λ answer.
-        IsEndText scenario.now (Ok history.now) (string_bytes answer.text) answer.status) }
+        IsEndText scenario.now (Ok played) (string_bytes answer.text) answer.status) }
 {
-    if !are_counted(history) {
+    let Played { before, history } = played;
+    if !before.counts(history.as_slice()) {
+        drop(history);
+        drop(before);
         return Err(NoMemory);
     }
-    let text = write_report(alloc, scenario, history)?;
+    let text = write_report(alloc, scenario, before, history.as_slice())?;
     Ok(Answer { text, status: DONE })
 }
 
@@ -222,14 +218,14 @@ fn report_of(alloc: Global, scenario: &Scenario, history: &[Entry]) -> Result<An
 fn end_answer(
     alloc: Global,
     scenario: &Scenario,
-    end: Result<List<Entry>, RunFault>,
+    end: Result<Played, RunFault>,
 ) -> Result<Answer, NoMemory>
     requires { IsRunnable scenario.now }
     ensures { IfOk result (λ answer.
         IsEndText scenario.now end (string_bytes answer.text) answer.status) }
 {
     match end {
-        Ok(history) => report_of(alloc, scenario, history.as_slice()),
+        Ok(played) => report_of(alloc, scenario, played),
         Err(fault) => {
             if is_out_of_memory(fault) {
                 return Err(NoMemory);
@@ -240,11 +236,7 @@ fn end_answer(
 }
 
 /// The same, or the status of want of memory.
-pub fn told(
-    alloc: Global,
-    scenario: &Scenario,
-    end: Result<List<Entry>, RunFault>,
-) -> Result<Answer, u8>
+pub fn told(alloc: Global, scenario: &Scenario, end: Result<Played, RunFault>) -> Result<Answer, u8>
     requires { IsRunnable scenario.now }
     ensures { TellsEnd scenario.now end result }
 {

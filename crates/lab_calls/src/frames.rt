@@ -1,6 +1,7 @@
 //! The lines of an input of frames.
 ghost use Rattle.std.specs.Prelude.{◌≡◌, ◌≢◌, ◌++◌, [], ℕ, List as Items, IfOk, IfErr, OnOk, string_bytes};
 ghost use Rattle.disk_model.specs.Disk.{Rose};
+ghost use Rattle.seata_types.specs.declared.limits.TheConstants.{INPUT_BYTES};
 ghost use Rattle.lab_calls.specs.Answers.{over_text, Answers, IsFramesAnswer, frames_statuses};
 ghost use Rattle.lab_calls.specs.FrameLines as lines;
 ghost use Rattle.lab_calls.specs.Listings.{Awaits, IsReady};
@@ -154,7 +155,7 @@ fn listed(listing: Listing) -> Result<Answer, ReadFault>
 /// Reads an input of frames piece by piece: the lines of its frames, or the line of an input that is too long, with its
 /// status.
 pub fn list_frames<S: Source>(alloc: Global, source: &mut S) -> Result<Answer, ReadFault>
-    ensures answer { IfOk result (λ a. Answers IsFramesAnswer frames_statuses
+    ensures answer { IfOk result (λ a. Answers INPUT_BYTES IsFramesAnswer frames_statuses
         (S.state source.old).left (S.state source.new).left (string_bytes a.text) a.status) }
     ensures err { IfErr result (λ e.
         e ≡ ReadFault.Failed → Rose (S.state source.old).faults (S.state source.new).faults) }

@@ -1,13 +1,16 @@
 //! The calls of the program `seata_lab`, over any source, sink and shelf: one replay, one run on threads, one listing of frames,
-//! one made scenario, and what its words ask for.
+//! one made scenario, one look at what disks hold, one audit of a report, and what its words ask for.
 #![tactic(auto)]
 
 mod answers;
+mod auditing;
 mod frames;
 mod laws;
 mod listings;
 mod making;
 mod memory;
+mod played;
+mod showing;
 mod standard;
 mod statuses;
 mod streams;
@@ -24,4 +27,6 @@ pub use statuses::MEMORY;
 pub use streams::{Failed, Sink, Source};
 pub use tasks::Task;
 pub use thread_runner::{Gate, OpenGate};
-pub use tops::{frames_once, make_once, replay_once, run_once, stress_once, top};
+pub use tops::{
+    audit_once, frames_once, make_once, replay_once, run_once, show_once, stress_once, top,
+};

@@ -3,7 +3,7 @@
 /// The text asked for was written.
 pub const DONE: u8 = 0;
 
-/// The words are outside the grammar, or their work isn't built.
+/// The words are outside the grammar.
 pub const WORDS: u8 = 2;
 
 /// The input is no scenario, or too long; or disks are another scenario's.
@@ -26,3 +26,6 @@ pub const FULL: u8 = 8;
 
 /// A disk has bytes that are none of its records.
 pub const DAMAGED: u8 = 9;
+
+/// A report is none of a legal history.
+pub const ILLEGAL: u8 = 10;

@@ -1,18 +1,18 @@
 //! What is written for a made scenario that was run.
-ghost use Rattle.std.specs.Prelude.{◌≡◌, ◌≢◌, ◌≤◌, ◌++◌, Ok, Err, IfOk, OnOk, string_bytes};
+ghost use Rattle.std.specs.Prelude.{◌≡◌, ◌≤◌, ◌++◌, Ok, Err, IfOk, OnOk, string_bytes};
 ghost use Rattle.scenario_form.specs.Runnable.{IsRunnable};
 ghost use Rattle.scenario_maker.specs.Made.{made};
 ghost use Rattle.scenario_reader.specs.Reading.{IsScenario};
 ghost use Rattle.lab_calls.specs.Stressing.{IsStressText, TellsStress, totals_text};
 
-use crate::answers::{Answer, are_counted, ended, is_memory, is_out_of_memory};
+use crate::answers::{Answer, ended, is_memory, is_out_of_memory};
+use crate::played::Played;
 use crate::statuses::{DONE, MEMORY};
-use history_text::Entry;
 use node_seat::RunFault;
 use report_text::{Totals, count_history};
 use scenario_maker::make;
 use scenario_reader::{Scenario, read};
-use seata_types::{List, NoMemory};
+use seata_types::NoMemory;
 use std::alloc::{AllocError, Global};
 
 /// The scenario that is made of a number for so many managers, read from its text; of a made text no fault is told.
@@ -55,16 +55,19 @@ fn totals_lines(alloc: Global, totals: Totals) -> Result<String, AllocError>
     Ok(out)
 }
 
-/// The numbers of a history. A run may make more entries than a report counts; there, memory is refused.
-fn totals_answer(alloc: Global, scenario: &Scenario, history: &[Entry]) -> Result<Answer, NoMemory>
+/// The numbers of a history over what the disks held. A run may make more entries than a report counts; there, memory is refused.
+fn totals_answer(alloc: Global, scenario: &Scenario, played: Played) -> Result<Answer, NoMemory>
     requires { IsRunnable scenario.now }
     ensures { IfOk result (λ answer.
-        IsStressText scenario.now (Ok history.now) (string_bytes answer.text) answer.status) }
+        IsStressText scenario.now (Ok played) (string_bytes answer.text) answer.status) }
 {
-    if !are_counted(history) {
+    let Played { before, history } = played;
+    if !before.counts(history.as_slice()) {
+        drop(history);
+        drop(before);
         return Err(NoMemory);
     }
-    let totals = count_history(alloc, scenario, history)?;
+    let totals = count_history(alloc, scenario, before, history.as_slice())?;
     match totals_lines(alloc, totals) {
         Ok(text) => Ok(Answer { text, status: DONE }),
         Err(AllocError) => Err(NoMemory),
@@ -75,14 +78,14 @@ fn totals_answer(alloc: Global, scenario: &Scenario, history: &[Entry]) -> Resul
 fn stress_answer(
     alloc: Global,
     scenario: &Scenario,
-    end: Result<List<Entry>, RunFault>,
+    end: Result<Played, RunFault>,
 ) -> Result<Answer, NoMemory>
     requires { IsRunnable scenario.now }
     ensures { IfOk result (λ answer.
         IsStressText scenario.now end (string_bytes answer.text) answer.status) }
 {
     match end {
-        Ok(history) => totals_answer(alloc, scenario, history.as_slice()),
+        Ok(played) => totals_answer(alloc, scenario, played),
         Err(fault) => {
             if is_out_of_memory(fault) {
                 return Err(NoMemory);
@@ -96,7 +99,7 @@ fn stress_answer(
 pub fn stressed(
     alloc: Global,
     scenario: &Scenario,
-    end: Result<List<Entry>, RunFault>,
+    end: Result<Played, RunFault>,
 ) -> Result<Answer, u8>
     requires { IsRunnable scenario.now }
     ensures { TellsStress scenario.now end result }

@@ -3,9 +3,8 @@
 /// What is done for words.
 #[derive(Clone, Copy)]
 pub enum Task {
-    /// A replay that keeps nothing.
     Replay,
-    /// A run on so many threads that keeps nothing.
+    /// A run on so many threads.
     Run {
         workers: u32,
     },
@@ -20,6 +19,10 @@ pub enum Task {
         size: u32,
         workers: u32,
     },
-    /// The usage line, for words outside the grammar, and for those whose task isn't built.
+    /// What the disks of a shelf hold.
+    Show,
+    /// The judgement of a report.
+    Audit,
+    /// The usage line, for words outside the grammar.
     Usage,
 }

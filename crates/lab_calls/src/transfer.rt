@@ -1,13 +1,13 @@
 //! Reading a whole input and writing a whole text.
-ghost use Rattle.std.specs.Prelude.{◌≡◌, ◌<◌, ◌≤◌, ◌+◌, length, take, replicate, IfOk, IfErr, OnOk, OnErr};
+ghost use Rattle.std.specs.Prelude.{◌≡◌, ◌<◌, ◌≤◌, ◌+◌, ◌^◌, length, take, replicate, IfOk, IfErr, OnOk, OnErr};
 ghost use Rattle.disk_model.specs.Disk.{Rose};
 ghost use Rattle.lab_calls.specs.Streams.{GainsFront};
-ghost use Rattle.seata_types.specs.declared.limits.TheConstants.{INPUT_BYTES, PIECE_BYTES};
+ghost use Rattle.seata_types.specs.declared.limits.TheConstants.{PIECE_BYTES};
 ghost use Rattle.std.specs.Io.KnownBytes.{Consumes, Appends, IsAtEnd};
 
 use crate::streams::{Failed, Sink, Source};
 use disk_model::zeros;
-use seata_types::limits::{INPUT_BYTES, PIECE_BYTES};
+use seata_types::limits::PIECE_BYTES;
 use std::alloc::Global;
 
 /// Why an input wasn't read.
@@ -61,20 +61,21 @@ pub fn read_some<S: Source>(source: &mut S, buffer: &mut [u8], room: usize) -> R
 }
 
 /// Reads to the end of the input, or one byte past the most that is taken.
-pub fn read_all<S: Source>(alloc: Global, source: &mut S) -> Result<Vec<u8>, ReadFault>
+pub fn read_all<S: Source>(alloc: Global, source: &mut S, most: usize) -> Result<Vec<u8>, ReadFault>
+    requires { most < 2 ^ 32 }
     ensures bytes { IfOk result (λ bytes.
         Consumes (S.state source.old).left (S.state source.new).left bytes.items) }
     ensures end { IfOk result (λ bytes.
-        length bytes.items ≤ INPUT_BYTES → IsAtEnd (S.state source.new).left) }
-    ensures most { IfOk result (λ bytes. length bytes.items ≤ INPUT_BYTES + 1) }
+        length bytes.items ≤ most → IsAtEnd (S.state source.new).left) }
+    ensures most { IfOk result (λ bytes. length bytes.items ≤ most + 1) }
     ensures err { IfErr result (λ e.
         e ≡ ReadFault.Failed → Rose (S.state source.old).faults (S.state source.new).faults) }
     ensures counted { (S.state source.old).faults ≤ (S.state source.new).faults }
 {
     let mut buffer = piece(alloc)?;
     let mut bytes = Vec::new(alloc);
-    while bytes.len() <= INPUT_BYTES {
-        let room = PIECE_BYTES.min(INPUT_BYTES + 1 - bytes.len());
+    while bytes.len() <= most {
+        let room = PIECE_BYTES.min(most + 1 - bytes.len());
         let count = match read_some(source, &mut buffer, room) {
             Ok(count) => count,
             Err(Failed) => return Err(ReadFault::Failed),

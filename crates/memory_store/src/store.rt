@@ -315,6 +315,17 @@ impl<K: Drop, M: StateMachine<Memory = K> + Drop, D: Disk> Store<M, K, D> {
         self.twin.active_mut()
     }
 
+    /// What it knows, and the two disks, in their order.
+    pub fn into_parts(self) -> (K, D, D)
+        ensures memory { result.0 ≡ memory_of self }
+        ensures first { result.1 ≡ first_disk (twin_of self) }
+        ensures second { result.2 ≡ second_disk (twin_of self) }
+    {
+        let Store { memory, twin, .. } = self;
+        let (first, second) = twin.into_disks();
+        (memory, first, second)
+    }
+
     /// The two disks, in their order.
     pub fn into_disks(self) -> (D, D)
         ensures { result ≡ (first_disk (twin_of self), second_disk (twin_of self)) }

@@ -37,7 +37,7 @@ use Rattle.replay_runner.proofs.Gathered.{gathered}
 use Rattle.replay_runner.proofs.Lists.{drop_all}
 use Rattle.replay_runner.proofs.Safe.{run_is_safe}
 use Rattle.replay_runner.proofs.Servers.{none_asked}
-use Rattle.replay_runner.proofs.Shown.{all_disks, all_laid, all_left, all_show, all_sized, all_stand, alike_in, count_disks}
+use Rattle.replay_runner.proofs.Shown.{alike_in, all_disks, all_laid, all_left, all_open, all_show, all_sized, all_stand, count_disks}
 
 -- ---- a whole schedule
 
@@ -85,6 +85,7 @@ module _ {D K : Type 0} (state : D → DiskState) (s : Scenario) (r : Run D K) (
       fits = e.fits;
       count = count_left;
       device = all_show state s held r.nodes e.history e.stands;
+      opens = all_open state s held r.nodes e.history e.stands;
       sized = all_sized state s held r.nodes count e.history e.stands;
       cause = cause_left e.history missed e.stands e.cause;
     }
@@ -102,6 +103,7 @@ module _ {D K : Type 0} (state : D → DiskState) (s : Scenario) (r : Run D K) (
       fits = t.fits;
       device = all_left state s held r.nodes ms t.nodes;
       laid = all_laid state s held r.nodes ms t.nodes;
+      opens = all_open state s held r.nodes ms (all_stand state s held r.nodes ms t.nodes);
       sized = all_sized state s held r.nodes count ms (all_stand state s held r.nodes ms t.nodes);
     }
 
@@ -115,6 +117,7 @@ module _ {D K : Type 0} (state : D → DiskState) (s : Scenario) (r : Run D K) (
       fits = t.fits;
       count = count_left;
       device = all_show state s held r.nodes ms (all_stand state s held r.nodes ms t.nodes);
+      opens = all_open state s held r.nodes ms (all_stand state s held r.nodes ms t.nodes);
       sized = all_sized state s held r.nodes count ms (all_stand state s held r.nodes ms t.nodes);
       cause = tt;
     }

@@ -27,7 +27,6 @@ use Rattle.coordinator_core.specs.Standing.{start_of}
 use Rattle.resource_core.specs.declared.nodes.Resource.{Resource}
 use Rattle.resource_core.specs.NodeStanding as resource
 use Rattle.manager_core.specs.declared.nodes.Manager.{Manager}
-use Rattle.manager_core.specs.Standing as manager
 use Rattle.node_seat.specs.Keeping.{IsBehind}
 use Rattle.scenario_nodes.specs.Nodes.{HaveSize, Held, HoldAll, Holds, IsNewManager, IsNewResource, ServesAll, coordinator_role, manager_role, resource_role, resource_server}
 use Rattle.scenario_nodes.specs.Shelves.{AllTell}

@@ -1,5 +1,5 @@
 -- What the disks that are given back show.
-use Rattle.std.proofs.Common.{◌≡◌, ◌+◌, ℕ, zero, suc, List, [], ◌∷◌, length, map, slice_get, Option, Some, None, option_map, refl, ap, sym, subst, ◌∙◌, arith, add-one}
+use Rattle.std.proofs.Common.{◌≡◌, inl, inr, ◌+◌, ℕ, zero, suc, Bool, true, false, if◌then◌else◌, List, [], ◌∷◌, length, map, slice_get, Option, Some, None, option_map, refl, ap, sym, subst, ◌∙◌, arith, add-one}
 use Rattle.std.proofs.lemmas.List.{length-map}
 use Rattle.std.proofs.lemmas.Option.{same_Some, slice_get-map}
 use Rattle.disk_model.specs.Disk.{DiskState}
@@ -8,12 +8,18 @@ use Rattle.journal_checkpoint.specs.Images.{Pair}
 use Rattle.seata_types.specs.declared.ids.Place.{Place}
 use Rattle.seata_types.specs.declared.ids.Place.TheVariants as place
 use Rattle.scenario_form.specs.declared.scenarios.Scenario.{Scenario}
-use Rattle.history_rules.specs.Own.{Own}
-use Rattle.history_rules.specs.Devices.{last_pick}
-use Rattle.history_rules.specs.Nodes.{Role, counted_at, role_at}
+use Rattle.durable_records.specs.declared.coordinators.SessionRecord.{SessionRecord}
+use Rattle.durable_records.specs.declared.resources.ResourceRecord.{ResourceRecord}
+use Rattle.session_store.specs.Standing.{StandsForSessions}
+use Rattle.resource_store.specs.Standing.{StandsForRecords}
+use Rattle.history_rules.specs.Own.{Left, Own}
+use Rattle.history_rules.specs.CoordinatorMemory.{sessions_left}
+use Rattle.history_rules.specs.Devices.{calls_left, last_pick, may_stand}
+use Rattle.history_rules.specs.ResourceMemory.{Setup, memory}
+use Rattle.history_rules.specs.Nodes.{MayStand, Role, counted_at, role_at}
 use Rattle.history_rules.specs.Nodes.{Coordinator as CoordinatorRole, Manager as ManagerRole, Resource as ResourceRole}
 use Rattle.history_rules.specs.Histories.{Moment, own}
-use Rattle.node_steps.specs.Durable.{AreNodeDisks}
+use Rattle.node_steps.specs.Durable.{AreNodeDisks, keepable}
 use Rattle.node_steps.specs.Ends.{AreLaid}
 use Rattle.history_text.specs.Worlds.{world_of}
 use Rattle.coordinator_core.specs.declared.nodes.Coordinator.{Coordinator}
@@ -26,11 +32,11 @@ use Rattle.resource_core.specs.Shown as shown
 use Rattle.manager_core.specs.declared.nodes.Manager.{Manager}
 use Rattle.manager_core.specs.Standing as manager
 use Rattle.node_seat.specs.Entering.{HaveLast}
-use Rattle.scenario_nodes.specs.Nodes.{HaveSize, Held, coordinator_disks, coordinator_role, resource_disks, resource_role}
+use Rattle.scenario_nodes.specs.Nodes.{HaveSize, Held, coordinator_disks, coordinator_role, resource_disks, resource_role, store_setting}
 use Rattle.scenario_nodes.specs.Shelves.{pair_of}
 use Rattle.replay_runner.specs.declared.members.Member.{Member}
 use Rattle.replay_runner.specs.declared.nodes.Nodes.{Nodes}
-use Rattle.replay_runner.specs.Leaving.{AreLeft, HaveSizes, disks_in, nth_pair}
+use Rattle.replay_runner.specs.Leaving.{AllOpenAgain, AreLeft, HaveSizes, OpensAgain, disks_in, nth_pair}
 use Rattle.replay_runner.specs.Opened.{member_pair, node_disks}
 use Rattle.replay_runner.specs.Standing.{AllStand, AreNodes, HasNode, StandsAt, disks_at, member_disks}
 use Rattle.replay_runner.proofs.Blamed.{Alike}
@@ -38,6 +44,11 @@ use Rattle.replay_runner.proofs.Lists.{member_at}
 use Rattle.replay_runner.proofs.Roles.{role_of_resource}
 
 -- ---- the disks of one node, without their stops
+
+-- what may be kept was in flight
+flight_kept : {R : Type 0} (b : Bool) (flight : Option R) (r : R) → (if b then flight else None) ≡ Some r → flight ≡ Some r
+flight_kept true flight r e = e
+flight_kept false flight r e = absurd (let no : None ≡ Some r = e in cc)
 
 module _ {D : Type 0} (state : D → DiskState) where
   pub coordinator_shows : (c : Coordinator D) (role : Role) (owns : List Own) → coordinator.StandsAs state c role owns → AreNodeDisks role owns (pair_of state (coordinator_disks c))
@@ -65,6 +76,35 @@ module _ {D : Type 0} (state : D → DiskState) where
       record { images = d.images; counted = let counted = d.counted in omega (arith, counted); picked = λ pick e. last pick e }
   resource_leaves r (CoordinatorRole times past) owns stands last = absurd stands
   resource_leaves r (ManagerRole settings) owns stands last = absurd stands
+
+  -- an opening takes them
+  sessions_open : (c : Coordinator D) (left : Left SessionRecord) (owns : List Own) (a b : List ℕ) → coordinator.StandsForEither (coordinator.sessions_of c) left (keepable false owns left) a b
+      → (rs : List SessionRecord) × MayStand left rs × (managers : ℕ) × (resources : ℕ) × StandsForSessions managers resources rs a b
+  sessions_open c left owns a b (inl h) = (left.records, inl refl, coordinator.managers c, coordinator.resources c, h)
+  sessions_open c left owns a b (inr (r, kept, h)) = (r ∷ left.records, inr (r, flight_kept (may_stand (calls_left false owns)) left.flight r kept, refl), coordinator.managers c, coordinator.resources c, h)
+
+  pub coordinator_opens : (c : Coordinator D) (role : Role) (owns : List Own) → coordinator.StandsAs state c role owns → OpensAgain role owns (pair_of state (coordinator_disks c))
+  coordinator_opens c (CoordinatorRole times past) owns stands = λ a b one two. sessions_open c (sessions_left past owns) owns a b (stands.1.disks.images a b one two)
+  coordinator_opens c (ResourceRole setup past) owns stands = absurd stands
+  coordinator_opens c (ManagerRole settings) owns stands = absurd stands
+
+  -- the setting of its store
+  as_setting : (r : Resource D) (setup : Setup) → setup ≡ shown.setup_in r → (rs : List ResourceRecord) (a b : List ℕ) → StandsForRecords (store_setting (shown.setup_in r)) rs a b → StandsForRecords (store_setting setup) rs a b
+  as_setting r setup is rs a b h = subst (λ (w : Setup). StandsForRecords (store_setting w) rs a b) (sym is) h
+
+  records_open : (r : Resource D) (setup : Setup) → setup ≡ shown.setup_in r → (left : Left ResourceRecord) (owns : List Own) (a b : List ℕ)
+      → resource.StandsForEither (store_setting (shown.setup_in r)) left (keepable true owns left) a b → (rs : List ResourceRecord) × MayStand left rs × StandsForRecords (store_setting setup) rs a b
+  records_open r setup is left owns a b (inl h) = (left.records, inl refl, as_setting r setup is left.records a b h)
+  records_open r setup is left owns a b (inr (q, kept, h)) =
+      (q ∷ left.records, inr (q, flight_kept (may_stand (calls_left true owns)) left.flight q kept, refl), as_setting r setup is (q ∷ left.records) a b h)
+
+  pub resource_opens : (r : Resource D) (role : Role) (owns : List Own) → resource.StandsAs state r role owns → OpensAgain role owns (pair_of state (resource_disks r))
+  resource_opens r (ResourceRole setup past) owns stands = λ a b one two. records_open r setup stands.is (memory setup past owns).left owns a b (stands.disks.images a b one two)
+  resource_opens r (CoordinatorRole times past) owns stands = absurd stands
+  resource_opens r (ManagerRole settings) owns stands = absurd stands
+
+  pub manager_opens : (m : Manager) (role : Role) (owns : List Own) (disks : Pair) → manager.StandsAs m role owns → OpensAgain role owns disks
+  manager_opens m role owns disks stands = subst (λ r. OpensAgain r owns disks) (sym stands.0) tt
 
   -- their journal stands where the entries leave it
   pub coordinator_laid : (c : Coordinator D) (role : Role) (begun : Extent) (size : ℕ) (owns : List Own) → coordinator.StandsAs state c role owns → coordinator.LiesAs state c role begun size owns
@@ -120,6 +160,16 @@ module _ {D K : Type 0} (state : D → DiskState) (s : Scenario) (held : Held) (
 
   pub all_show : (ms : List Moment) → AllStand state s held n ms → (p : Place) (role : Role) → role_at (world_of s) held.past p ≡ Some role → AreNodeDisks role (own p ms) (disks_in (all_disks state n) p)
   all_show ms stand p role e = shows_at p role (own p ms) (stand p role e)
+
+  opens_at : (p : Place) (role : Role) (owns : List Own) → StandsAt state s.disk n p role owns → OpensAgain role owns (disks_in (all_disks state n) p)
+  opens_at place.Net role owns stands = absurd stands
+  opens_at place.Tc role owns is = coordinator_opens state n.coordinator.seat.node role owns is.stands
+  opens_at (place.Res k) role owns (m, here, is) =
+      subst (λ (d : Pair). OpensAgain role owns d) (sym (resource_in state n k m here)) (resource_opens state m.seat.node role owns is.stands)
+  opens_at (place.Man k) role owns (m, here, stands) = manager_opens state m.seat.node role owns (disks_in (all_disks state n) (place.Man k)) stands
+
+  pub all_open : (ms : List Moment) → AllStand state s held n ms → AllOpenAgain s held ms (all_disks state n)
+  all_open ms stand p role e = opens_at p role (own p ms) (stand p role e)
 
   leaves_at : (bytes : ℕ) (ms : List Moment) (p : Place) (role : Role) → HasNode state held bytes n ms p role → AreLeft role (own p ms) (disks_in (all_disks state n) p)
   leaves_at bytes ms place.Net role has = absurd has

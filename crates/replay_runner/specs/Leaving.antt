@@ -6,8 +6,14 @@ use Rattle.journal_checkpoint.specs.Images.{Pair}
 use Rattle.seata_types.specs.declared.ids.Place.{Place}
 use Rattle.seata_types.specs.declared.ids.Place.TheVariants as place
 use Rattle.scenario_form.specs.declared.scenarios.Scenario.{Scenario}
+use Rattle.durable_records.specs.declared.coordinators.SessionRecord.{SessionRecord}
+use Rattle.durable_records.specs.declared.resources.ResourceRecord.{ResourceRecord}
+use Rattle.session_store.specs.Standing.{StandsForSessions}
+use Rattle.resource_store.specs.Standing.{StandsForRecords}
 use Rattle.history_rules.specs.Own.{Own}
-use Rattle.history_rules.specs.Nodes.{Role, Coordinator, Resource, Manager, role_at}
+use Rattle.history_rules.specs.CoordinatorMemory.{sessions_left}
+use Rattle.history_rules.specs.ResourceMemory.{memory}
+use Rattle.history_rules.specs.Nodes.{Role, Coordinator, Resource, Manager, MayStand, role_at}
 use Rattle.history_rules.specs.Histories.{Moment, own, Legal}
 use Rattle.history_rules.specs.Schedules.{Follows}
 use Rattle.history_law.specs.ChainSafety.{IsSafeAfterChains}
@@ -19,7 +25,7 @@ use Rattle.node_steps.specs.Promises.{no_disks}
 use Rattle.history_text.specs.Worlds.{items_of, world_of}
 use Rattle.node_seat.specs.declared.faults.RunFault.{RunFault}
 use Rattle.node_seat.specs.declared.faults.RunFault.TheVariants as fault
-use Rattle.scenario_nodes.specs.Nodes.{HaveSize, Held, HoldAll, server_names, servers_of}
+use Rattle.scenario_nodes.specs.Nodes.{HaveSize, Held, HoldAll, server_names, servers_of, store_setting}
 use Rattle.scenario_nodes.specs.Opening.{NodesNotOpened}
 use Rattle.scenario_nodes.specs.Shelves.{AllTell, AreGivenBack, pair_of}
 use Rattle.scenario_nodes.specs.Together.{AreEach, HaveBoth, IsOfOne}
@@ -52,6 +58,20 @@ AreLeft (Coordinator times past) os disks = AreCoordinatorDisks past os 0 disks
 AreLeft (Resource setup past) os disks = AreResourceDisks setup past os 0 disks
 AreLeft (Manager settings) os disks = Unit {0}
 
+-- Each pair of images of a node's disks stands for records that its entries may leave, so that an opening takes them: the coordinator's for
+-- some numbers of managers and resources.
+abbrev pub OpensAgain : Role → List Own → Pair → Type 0
+OpensAgain (Coordinator times past) os disks =
+    (a b : List ℕ) → disks.first.may_leave a → disks.second.may_leave b
+    → (rs : List SessionRecord) × MayStand (sessions_left past os) rs × (managers : ℕ) × (resources : ℕ) × StandsForSessions managers resources rs a b
+OpensAgain (Resource setup past) os disks =
+    (a b : List ℕ) → disks.first.may_leave a → disks.second.may_leave b → (rs : List ResourceRecord) × MayStand (memory setup past os).left rs × StandsForRecords (store_setting setup) rs a b
+OpensAgain (Manager settings) os disks = Unit {0}
+
+-- so it is of each node after a history
+abbrev pub AllOpenAgain : Scenario → Held → List Moment → List Pair → Type 0
+AllOpenAgain s held ms disks = (p : Place) (role : Role) → role_at (world_of s) held.past p ≡ Some role → OpensAgain role (own p ms) (disks_in disks p)
+
 -- both disks of each of these nodes have the scenario's size
 abbrev pub HaveSizes : Scenario → List Pair → Type 0
 HaveSizes s disks = (k : ℕ) → k < length disks → HaveSize s.disk (nth_pair disks k)
@@ -75,10 +95,11 @@ pub record Completed (s : Scenario) (held : Held) (disks : List Pair) (es : List
   pub fits : HavePlaces s held history
   pub device : (p : Place) (role : Role) → role_at (world_of s) held.past p ≡ Some role → AreLeft role (own p history) (disks_in disks p)
   pub laid : AreAllLaid s held history disks
+  pub opens : AllOpenAgain s held history disks
   pub sized : HaveSizes s disks
 
 -- The replay ended by a fault: the history that it made up to there is legal, safe and follows the schedule, and the disks of each node, of
--- the scenario's size, show its records and counted faults. Each of these records had a place.
+-- the scenario's size, show its records and counted faults. Each of these records had a place, and the next opening takes them.
 pub record Broken (s : Scenario) (held : Held) (disks : List Pair) (missed : RunFault) : Type 0 where
   pub history : List Moment
   pub legal : Legal (world_of s) held.past history
@@ -87,6 +108,7 @@ pub record Broken (s : Scenario) (held : Held) (disks : List Pair) (missed : Run
   pub fits : HavePlaces s held history
   pub count : length disks ≡ length s.resources + 1
   pub device : (p : Place) (role : Role) → role_at (world_of s) held.past p ≡ Some role → AreNodeDisks role (own p history) (disks_in disks p)
+  pub opens : AllOpenAgain s held history disks
   pub sized : HaveSizes s disks
   pub cause : IsCause s held history (disks_in disks) missed
 

@@ -18,7 +18,6 @@ use Rattle.seata_types.specs.declared.statuses.BranchKind.{BranchKind}
 use Rattle.local_tables.specs.Rows.{Database}
 use Rattle.local_tables.specs.declared.schemas.Effect.{Effect}
 use Rattle.durable_records.specs.declared.coordinators.SessionRecord.{SessionRecord}
-use Rattle.durable_records.specs.SessionOrder.{Allowed}
 use Rattle.scenario_form.specs.declared.scenarios.ManagerDef.{ManagerDef}
 use Rattle.scenario_form.specs.declared.scenarios.Scenario.{Scenario}
 use Rattle.history_law.specs.Network.{EachSent}
@@ -32,8 +31,8 @@ use Rattle.history_rules.specs.ResourceMemory.{Setup, OfCall, OfLocal, action_of
 use Rattle.history_text.specs.declared.entries.Cause.TheVariants as cause
 use Rattle.history_text.specs.Worlds.{settings_of, world_of}
 use Rattle.history_text.proofs.Worlds.{slice_get-managers}
-use Rattle.report_text.specs.Keeping.{number_at, work_now}
-use Rattle.report_text.specs.Following.{managers_of, calls_of}
+use Rattle.report_text.specs.Keeping.{CoordinatorKept, number_at, work_now}
+use Rattle.report_text.specs.Following.{FindCalls, FindManagers}
 use Rattle.report_text.specs.Made.{sending_manager}
 use Rattle.report_text.specs.declared.kept.OpenWork.{OpenWork}
 use Rattle.report_text.specs.Numbered.{call_at, call_in, statements_at, tries_at, statements_in, tries_in, action_at, confirms_at, cancels_at, confirms_in, cancels_in, local_at}
@@ -93,32 +92,32 @@ cancels_same : (o : Option Action) → or_empty (option_map cancels_in o) ≡ ca
 cancels_same None = refl
 cancels_same (Some a) = refl
 
-module _ (s : Scenario) (k : ℕ) (u : Setup) (is : IsSetupOf s k u) (rs : List SessionRecord) (a : Allowed rs) where
+module _ (s : Scenario) (k : ℕ) (u : Setup) (is : IsSetupOf s k u) (past rs : List SessionRecord) (kept : CoordinatorKept) (managers : FindManagers past rs kept.managers) (calls : FindCalls past rs kept.calls) where
   abbrev manager : ℕ → ℕ
-  manager x = number_at (managers_of rs) x
+  manager x = number_at kept.managers x
 
   abbrev call : ℕ → ℕ
-  call b = number_at (calls_of rs) b
+  call b = number_at kept.calls b
 
   -- by the transaction and the branch the same action is found as by what the message names
-  action_found : (x b m c : ℕ) → IsBranch rs x b m c → action_at s (k + 1) (manager x) (call b) ≡ action_of u m c
+  action_found : (x b m c : ℕ) → IsBranch past rs x b m c → action_at s (k + 1) (manager x) (call b) ≡ action_of u m c
   action_found x b m c branch =
-      ap (λ n. action_at s (k + 1) n (call b)) (manager_found rs x b m c a branch) ∙ ap (λ n. action_at s (k + 1) m n) (call_found rs x b m c a branch)
+      ap (λ n. action_at s (k + 1) n (call b)) (manager_found past rs kept.managers x b m c managers branch) ∙ ap (λ n. action_at s (k + 1) m n) (call_found past rs kept.calls x b m c calls branch)
       ∙ sym (action_of-setup s k u m c is)
 
-  module _ (ms : List Moment) (each : EachSent (TellBranches rs) ms) (why : Cause) (from to : Place) (xid : Xid) (b : BranchId) (kind : BranchKind) (m c : ℕ) where
+  module _ (ms : List Moment) (each : EachSent (TellBranches past rs) ms) (why : Cause) (from to : Place) (xid : Xid) (b : BranchId) (kind : BranchKind) (m c : ℕ) where
     pub confirms_found : Some (Given (input.Message from (message.BranchCommit xid b kind m c))) ≡ brings ms to why
         → or_empty (confirms_at s (k + 1) (manager xid.0) (call b.0)) ≡ phase_two u (Given (input.Message from (message.BranchCommit xid b kind m c)))
     confirms_found brought =
-        let sent = message_is (TellBranches rs) ms each to from (message.BranchCommit xid b kind m c) why brought in
-        let branch : IsBranch rs xid.0 b.0 m c = subst (λ (q : Message). TellsBranch rs q) sent.is sent.says in
+        let sent = message_is (TellBranches past rs) ms each to from (message.BranchCommit xid b kind m c) why brought in
+        let branch : IsBranch past rs xid.0 b.0 m c = subst (λ (q : Message). TellsBranch past rs q) sent.is sent.says in
         ap (λ o. or_empty (option_map confirms_in o)) (action_found xid.0 b.0 m c branch) ∙ confirms_same (action_of u m c)
 
     pub cancels_found : Some (Given (input.Message from (message.BranchRollback xid b kind m c))) ≡ brings ms to why
         → or_empty (cancels_at s (k + 1) (manager xid.0) (call b.0)) ≡ phase_two u (Given (input.Message from (message.BranchRollback xid b kind m c)))
     cancels_found brought =
-        let sent = message_is (TellBranches rs) ms each to from (message.BranchRollback xid b kind m c) why brought in
-        let branch : IsBranch rs xid.0 b.0 m c = subst (λ (q : Message). TellsBranch rs q) sent.is sent.says in
+        let sent = message_is (TellBranches past rs) ms each to from (message.BranchRollback xid b kind m c) why brought in
+        let branch : IsBranch past rs xid.0 b.0 m c = subst (λ (q : Message). TellsBranch past rs q) sent.is sent.says in
         ap (λ o. or_empty (option_map cancels_in o)) (action_found xid.0 b.0 m c branch) ∙ cancels_same (action_of u m c)
 
   -- an outside write

@@ -46,7 +46,8 @@ use Rattle.history_rules.specs.Own.{Event, Given, Left, added, kept_part}
 use Rattle.history_rules.specs.ResourceMemory.{Setup, Memory, Open, opening_tables, open_at, opened_for, effect_on, or_none, or_empty, local_of, no_effect, phase_two, committed_of, tried_of, local_committed_of, tries_of, boot_over, resource_record}
 use Rattle.report_text.proofs.AskLaws.{ActAsks, AsksFor, AskedFits}
 use Rattle.resource_memory.proofs.EffectFits.{effects_fit}
-use Rattle.report_text.proofs.ResourceLaws.{Come, allowed_of, memory_now}
+use Rattle.report_text.specs.Following.{Come}
+use Rattle.report_text.proofs.ResourceLaws.{allowed_of, memory_now}
 
 -- ---- an effect fits
 
@@ -193,7 +194,7 @@ added_comes : (db : Database) (records : List ResourceRecord) (o : Option Resour
 added_comes db records None c may = c
 added_comes db records (Some r) c may = (c, may)
 
-boot_comes : (db : Database) (records : List ResourceRecord) → Come db records → Come db (boot_over records ∷ records)
+pub boot_comes : (db : Database) (records : List ResourceRecord) → Come db records → Come db (boot_over records ∷ records)
 boot_comes db records c = (c, nat_same (boots records + 1) (boots records + 1) refl)
 
 kept_comes : (db : Database) (left : Left ResourceRecord) (kept : Option Durable) → ComesBoth db left → Come db (added (kept_part kept left.flight) left.records)

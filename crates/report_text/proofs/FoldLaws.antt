@@ -91,7 +91,7 @@ module _ (s : Scenario) (past : Past) (f : FoldedKept) (ms : List Moment) (follo
 
   -- what is kept of the nodes, with all that an entry leaves, and what it sent
   pub record FollowsNodes (p : Place) (event : Option Event) (g : FoldedKept) : Type 0 where
-    pub coordinator : IsOfCoordinator g.coordinator (coordinator_left past (moment p event ∷ ms))
+    pub coordinator : IsOfCoordinator past.sessions g.coordinator (coordinator_left past (moment p event ∷ ms))
     pub count : length g.resources ≡ length (resources_of s)
     pub resources : (k : ℕ) → HasResource s past (moment p event ∷ ms) g.resources k
     pub same_sent : g.sent ≡ f.sent
@@ -121,11 +121,11 @@ module _ (s : Scenario) (past : Past) (f : FoldedKept) (ms : List Moment) (follo
       → MayStand (coordinator_left past (moment place.Tc (Some event) ∷ ms)) → FollowsNodes place.Tc (Some event) (session_step (entries ms) (entry place.Tc (Some event)) f)
   session_follows event each brought before after = record {
     coordinator =
-        subst (λ (k : CoordinatorKept). IsOfCoordinator k (coordinator_left past (moment place.Tc (Some event) ∷ ms)))
+        subst (λ (k : CoordinatorKept). IsOfCoordinator past.sessions k (coordinator_left past (moment place.Tc (Some event) ∷ ms)))
         (sym
         (taken_alike (session_made (entry place.Tc (Some event)) (delivered_note f.sent (entries ms) (cause_of why))) (session_record now event)
         (made_is f.sent ms follows.sent each (moment place.Tc (Some event)) event brought) step.act f.coordinator))
-        (taken_is f.coordinator (coordinator_left past ms) follows.coordinator (session_record now event) step.act before after);
+        (taken_is past.sessions f.coordinator (coordinator_left past ms) follows.coordinator (session_record now event) step.act before after);
     count = follows.count;
     resources = follows.resources;
     same_sent = refl;

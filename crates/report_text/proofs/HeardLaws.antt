@@ -1,8 +1,7 @@
--- What the messages of a legal history tell: a Register its resource, those of the second phase the manager and the call of their
--- branch.
-use Rattle.std.proofs.Common.{◌≡◌, ◌⊎◌, inl, inr, ◌&&◌, ℕ, Bool, true, false, if◌then◌else◌, List, [], ◌∷◌, ◌++◌, Option, Some, None, option_map, is_some, refl, sym, ap, ◌∙◌, subst}
+-- What the messages of a legal history tell, over disks with any records: a Register its resource, those of the second phase the manager
+-- and the call of their branch, whose transaction wasn't forgotten before.
+use Rattle.std.proofs.Common.{◌≡◌, ◌⊎◌, inl, inr, ◌==◌, ◌&&◌, not, ℕ, Bool, true, false, if◌then◌else◌, List, [], ◌∷◌, ◌++◌, length, nat_le, Option, Some, None, option_map, is_some, refl, sym, ap, ◌∙◌, subst}
 use Rattle.std.specs.Option.{option_and_then}
-use Rattle.std.specs.Prelude.{unwrap_or}
 use Rattle.seata_types.specs.declared.acts.Act.{Act}
 use Rattle.seata_types.specs.declared.acts.Act.TheVariants as act
 use Rattle.seata_types.specs.declared.ids.BranchId.{BranchId}
@@ -20,22 +19,22 @@ use Rattle.seata_types.specs.declared.rows.RowKey.{RowKey}
 use Rattle.seata_types.specs.declared.statuses.BranchStatus.{BranchStatus}
 use Rattle.seata_types.specs.declared.statuses.BranchStatus.TheVariants as branch
 use Rattle.durable_records.specs.declared.coordinators.SessionRecord.{SessionRecord}
-use Rattle.durable_records.specs.Transactions.{Session, sessions, session, session_for, decided, is_commit, is_rollback, has_xid}
+use Rattle.durable_records.specs.declared.coordinators.SessionRecord.TheVariants as log
+use Rattle.durable_records.specs.Transactions.{Session, sessions, session, session_for, decided, is_commit, is_forgotten, is_rollback, has_xid}
 use Rattle.durable_records.specs.Branches.{Grant, grants, granted, unended_branch}
 use Rattle.durable_records.specs.Locks.{first_held}
 use Rattle.durable_records.specs.Progress.{may_decide, may_retry, is_going}
 use Rattle.durable_records.specs.SessionOrder.{Allowed}
 use Rattle.durable_records.proofs.MemberFacts.{found_in}
-use Rattle.durable_records.proofs.RecordFacts.{numbered as counted, began_xid, grant_branch}
 use Rattle.history_rules.specs.Own.{Event, Own, Left, added, asked_act, still}
-use Rattle.history_rules.specs.CoordinatorMemory.{Times, is_past, late_one, due_one, old_one, session_record, sessions_left}
+use Rattle.history_rules.specs.CoordinatorMemory.{Times, is_past, due, due_moment, late_one, due_one, old_one, session_record, sessions_left, start}
 use Rattle.history_rules.specs.CoordinatorRules
 use Rattle.history_rules.specs.CoordinatorRules.{Request, coordinator_answer, manager_of, message_answer, next_asked, register_answer, turn_answer}
 use Rattle.history_rules.specs.ManagerRules.{Settings}
 use Rattle.history_rules.specs.Nodes.{World, Past, Coordinator, Resource, Manager, Happens, counted_at, role_at}
 use Rattle.history_rules.specs.ResourceMemory.{Setup, Memory}
 use Rattle.history_rules.specs.Histories.{Moment, own, own_if, same_place, HappensAt, IsDone, Legal, coordinator_left}
-use Rattle.history_law.specs.Cover.{Covers, memory_of}
+use Rattle.history_law.specs.Cover.{memory_of}
 use Rattle.history_law.specs.Network.{OnSent, EachSent}
 use Rattle.history_law.specs.Points.{In}
 use Rattle.history_law.specs.TicketSafety.{AreNumbered}
@@ -44,25 +43,56 @@ use Rattle.history_law.proofs.Branches.{grant_stays}
 use Rattle.history_law.proofs.CoordinatorAnswers.{OnAct, OnRecord, MayAct, coordinator_may}
 use Rattle.history_law.proofs.CoordinatorCauses.{Tells, TellsOf, coordinator_says}
 use Rattle.history_law.proofs.CoordinatorSteps.{coordinator_moves}
-use Rattle.history_law.proofs.CoverHistory.{covers}
 use Rattle.history_law.proofs.Deliveries.{each_grows}
 use Rattle.history_law.proofs.ManagerSteps.{IsManagers, SendsManagers, manager_says}
 use Rattle.history_law.proofs.Nodes.{ran}
 use Rattle.history_law.proofs.ResourceFits.{MessageFits, SentFits, Fits}
 use Rattle.history_law.proofs.ResourceSteps.{resource_moves}
 use Rattle.history_law.proofs.SessionHistory.{both_allowed}
-use Rattle.history_law.proofs.Tests.{false_true, same_nat}
+use Rattle.history_law.proofs.Steps.{have_tickets}
+use Rattle.history_law.proofs.Tests.{and_left, and_right, false_true, same_nat}
+use Rattle.history_law.proofs.Turns.{due_is_going, soonest_is}
 use Rattle.session_memory.proofs.GrantLaws.{grant_begun}
-use Rattle.report_text.specs.Following.{session_manager, grant_call, managers_of, calls_of}
-use Rattle.report_text.specs.Keeping.{number_at}
-use Rattle.report_text.proofs.Lists.{counted_there}
+use Rattle.report_text.specs.Following.{FindCalls, FindManagers}
+use Rattle.report_text.specs.Keeping.{Numbers, number_at}
 use Rattle.report_text.proofs.MadeLaws.{TellsResource, TellResources}
 
--- ---- the manager that a question names
+-- ---- what is forgotten
+
+not_true : (b : Bool) → not b ≡ true → b ≡ false
+not_true true e = absurd (false_true e)
+not_true false e = refl
+
+-- a transaction whose branches are asked is known
+going_known : (rs : List SessionRecord) (x : ℕ) → is_going rs x ≡ true → is_forgotten rs x ≡ false
+going_known rs x going = not_true (is_forgotten rs x) (and_right (is_some (session rs x)) (not (is_forgotten rs x)) (and_left _ _ going))
+
+-- what is forgotten stays so with one more record
+forgotten_on : (r : SessionRecord) (rs : List SessionRecord) (x : ℕ) → is_forgotten rs x ≡ true → is_forgotten (r ∷ rs) x ≡ true
+forgotten_on (log.Forgot xid) rs x e = by (xid.0 == x)
+  where
+    by : (b : Bool) → (if b then true else is_forgotten rs x) ≡ true
+    by true = refl
+    by false = e
+forgotten_on _ rs x e = e
+
+-- what was forgotten before is forgotten in these records
+abbrev pub StayForgotten : (past rs : List SessionRecord) → Type 0
+StayForgotten past rs = (x : ℕ) → is_forgotten past x ≡ true → is_forgotten rs x ≡ true
+
+-- so what is known in them was known before
+known_before : (past rs : List SessionRecord) (x : ℕ) → StayForgotten past rs → is_forgotten rs x ≡ false → is_forgotten past x ≡ false
+known_before past rs x stay known = by (is_forgotten past x) refl
+  where
+    by : (b : Bool) → is_forgotten past x ≡ b → is_forgotten past x ≡ false
+    by true e = absurd (false_true (sym known ∙ stay x e))
+    by false e = e
+
+-- ---- the manager that a question names, of a transaction that is known
 
 abbrev pub NamesManager : List SessionRecord → Message → Type 0
-NamesManager rs (message.BranchCommit xid b k m c) = m ≡ manager_of (session rs xid.0)
-NamesManager rs (message.BranchRollback xid b k m c) = m ≡ manager_of (session rs xid.0)
+NamesManager rs (message.BranchCommit xid b k m c) = (m ≡ manager_of (session rs xid.0)) × (is_forgotten rs xid.0 ≡ false)
+NamesManager rs (message.BranchRollback xid b k m c) = (m ≡ manager_of (session rs xid.0)) × (is_forgotten rs xid.0 ≡ false)
 NamesManager rs _ = Unit {0}
 
 abbrev pub SentNames : List SessionRecord → Option Outgoing → Type 0
@@ -74,19 +104,22 @@ module _ (rs : List SessionRecord) (now : ℕ) (event : Event) where
   abbrev Names : Step → Type 0
   Names step = SentNames (added (option_and_then (session_record now event) (asked_act step.act)) rs) step.sent
 
-  due_names : (x : ℕ) (o : Option Grant) → Names (CoordinatorRules.due_answer rs x o)
-  due_names x None = tt
-  due_names x (Some g) = by (is_commit (decided rs x))
+  due_names : (x : ℕ) → is_going rs x ≡ true → (o : Option Grant) → Names (CoordinatorRules.due_answer rs x o)
+  due_names x going None = tt
+  due_names x going (Some g) = by (is_commit (decided rs x))
     where
       by : (commit : Bool) → NamesManager rs (CoordinatorRules.asks rs x g commit)
-      by true = refl
-      by false = refl
+      by true = (refl, going_known rs x going)
+      by false = (refl, going_known rs x going)
 
-  turn_names : (late : Option ℕ) (due : Option (ℕ × ℕ)) (old : Option ℕ) → Names (turn_answer rs late due old)
-  turn_names (Some x) due old = tt
-  turn_names None (Some (x, moment)) old = due_names x (next_asked rs x (is_commit (decided rs x)))
-  turn_names None None (Some x) = tt
-  turn_names None None None = tt
+  turn_names : (times : Times) (past : List SessionRecord) (os : List Own) (late : Option ℕ) (first : Option (ℕ × ℕ)) → due_one times past os rs now ≡ first → (old : Option ℕ) → Names (turn_answer rs late first old)
+  turn_names times past os (Some x) first d old = tt
+  turn_names times past os None (Some (x, moment)) d old =
+      due_names x
+      (due_is_going (is_going rs x) (nat_le (due times.retry (start past) os x) now) (due times.retry (start past) os x) moment
+      (soonest_is (due_moment times past os rs now) x moment (length (sessions rs)) d)) (next_asked rs x (is_commit (decided rs x)))
+  turn_names times past os None None d (Some x) = tt
+  turn_names times past os None None d None = tt
 
   begin_names : (manager : ℕ) (o : Option Session) → Names (CoordinatorRules.begin_answer rs manager o)
   begin_names manager None = tt
@@ -155,150 +188,163 @@ module _ (rs : List SessionRecord) (now : ℕ) (event : Event) where
   message_names from _ = tt
 
   answer_names : (times : Times) (past : List SessionRecord) (os : List Own) (given : Input) → Names (coordinator_answer times past os rs now given)
-  answer_names times past os input.Turn = turn_names (late_one times past os rs now) (due_one times past os rs now) (old_one times past os rs now)
+  answer_names times past os input.Turn = turn_names times past os (late_one times past os rs now) (due_one times past os rs now) refl (old_one times past os rs now)
   answer_names times past os (input.Message from msg) = message_names from msg
   answer_names times past os (input.Local k) = tt
   answer_names times past os (input.Outside k) = tt
 
 -- ---- branches, with their manager and call
 
-pub record IsBranch (rs : List SessionRecord) (x b manager call : ℕ) : Type 0 where
+-- of a transaction that wasn't forgotten before
+pub record IsBranch (past rs : List SessionRecord) (x b manager call : ℕ) : Type 0 where
   pub branch : Grant
   pub granted : In branch (grants rs)
+  pub of_xid : branch.xid ≡ x
   pub number : branch.branch ≡ b
   pub of_call : branch.call ≡ call
+  pub known : is_forgotten past x ≡ false
   pub began : Session
   pub there : In began (sessions rs)
   pub xid : began.xid ≡ x
   pub of_manager : began.manager ≡ manager
 
-abbrev pub TellsBranch : List SessionRecord → Message → Type 0
-TellsBranch rs (message.BranchCommit xid b k m c) = IsBranch rs xid.0 b.0 m c
-TellsBranch rs (message.BranchRollback xid b k m c) = IsBranch rs xid.0 b.0 m c
-TellsBranch rs _ = Unit {0}
+abbrev pub TellsBranch : (past rs : List SessionRecord) → Message → Type 0
+TellsBranch past rs (message.BranchCommit xid b k m c) = IsBranch past rs xid.0 b.0 m c
+TellsBranch past rs (message.BranchRollback xid b k m c) = IsBranch past rs xid.0 b.0 m c
+TellsBranch past rs _ = Unit {0}
 
-abbrev pub TellBranches : List SessionRecord → Place → Outgoing → Type 0
-TellBranches rs from out = TellsBranch rs out.message
+abbrev pub TellBranches : (past rs : List SessionRecord) → Place → Outgoing → Type 0
+TellBranches past rs from out = TellsBranch past rs out.message
 
 -- they stay with one more record
-branch_on : (rs : List SessionRecord) (r : SessionRecord) (x b m c : ℕ) → IsBranch rs x b m c → IsBranch (r ∷ rs) x b m c
-branch_on rs r x b m c is = record {
+branch_on : (past rs : List SessionRecord) (r : SessionRecord) (x b m c : ℕ) → IsBranch past rs x b m c → IsBranch past (r ∷ rs) x b m c
+branch_on past rs r x b m c is = record {
   branch = is.branch;
   granted = grant_stays r rs is.branch is.granted;
+  of_xid = is.of_xid;
   number = is.number;
   of_call = is.of_call;
+  known = is.known;
   began = is.began;
   there = session_stays r rs is.began is.there;
   xid = is.xid;
   of_manager = is.of_manager;
 }
 
-tells_on : (rs : List SessionRecord) (r : SessionRecord) (from : Place) (out : Outgoing) → TellBranches rs from out → TellBranches (r ∷ rs) from out
-tells_on rs r from out says = by out.message says
+tells_on : (past rs : List SessionRecord) (r : SessionRecord) (from : Place) (out : Outgoing) → TellBranches past rs from out → TellBranches past (r ∷ rs) from out
+tells_on past rs r from out says = by out.message says
   where
-    by : (msg : Message) → TellsBranch rs msg → TellsBranch (r ∷ rs) msg
-    by (message.BranchCommit xid b k m c) is = branch_on rs r xid.0 b.0 m c is
-    by (message.BranchRollback xid b k m c) is = branch_on rs r xid.0 b.0 m c is
+    by : (msg : Message) → TellsBranch past rs msg → TellsBranch past (r ∷ rs) msg
+    by (message.BranchCommit xid b k m c) is = branch_on past rs r xid.0 b.0 m c is
+    by (message.BranchRollback xid b k m c) is = branch_on past rs r xid.0 b.0 m c is
     by _ is = tt
 
 -- where they are kept, they are found by their numbers
-pub manager_found : (rs : List SessionRecord) (x b m c : ℕ) → Allowed rs → IsBranch rs x b m c → number_at (managers_of rs) x ≡ m
-manager_found rs x b m c a is =
-    ap (number_at (managers_of rs)) (sym is.xid)
-    ∙ ap (λ o. unwrap_or o 0) (counted_there began_xid session_manager (sessions rs) is.began (counted rs a).began is.there) ∙ is.of_manager
+pub manager_found : (past rs : List SessionRecord) (managers : Numbers) (x b m c : ℕ) → FindManagers past rs managers → IsBranch past rs x b m c → number_at managers x ≡ m
+manager_found past rs managers x b m c find is =
+    ap (number_at managers) (sym is.xid) ∙ find is.began is.there (ap (is_forgotten past) is.xid ∙ is.known) ∙ is.of_manager
 
-pub call_found : (rs : List SessionRecord) (x b m c : ℕ) → Allowed rs → IsBranch rs x b m c → number_at (calls_of rs) b ≡ c
-call_found rs x b m c a is =
-    ap (number_at (calls_of rs)) (sym is.number)
-    ∙ ap (λ o. unwrap_or o 0) (counted_there grant_branch grant_call (grants rs) is.branch (counted rs a).branched is.granted) ∙ is.of_call
+pub call_found : (past rs : List SessionRecord) (calls : Numbers) (x b m c : ℕ) → FindCalls past rs calls → IsBranch past rs x b m c → number_at calls b ≡ c
+call_found past rs calls x b m c find is =
+    ap (number_at calls) (sym is.number) ∙ find is.branch is.granted (ap (is_forgotten past) is.of_xid ∙ is.known) ∙ is.of_call
 
 -- ---- what each node tells
 
 -- a question names a branch that was granted, and the manager of its transaction
-branch_told : (rs : List SessionRecord) (x b m c : ℕ) → Allowed rs → (g : Grant) → In g (grants rs) → g.xid ≡ x → g.branch ≡ b → g.call ≡ c → m ≡ manager_of (session rs x)
-    → IsBranch rs x b m c
-branch_told rs x b m c a g there xid number call manager =
+branch_told : (past rs : List SessionRecord) (x b m c : ℕ) → Allowed rs → StayForgotten past rs → (g : Grant) → In g (grants rs) → g.xid ≡ x → g.branch ≡ b → g.call ≡ c
+    → (m ≡ manager_of (session rs x)) × (is_forgotten rs x ≡ false) → IsBranch past rs x b m c
+branch_told past rs x b m c a stay g there xid number call named =
     by (session rs x) refl (subst (λ n. is_some (session rs n) ≡ true) xid (grant_begun rs a g there))
   where
-    by : (o : Option Session) → session rs x ≡ o → is_some o ≡ true → IsBranch rs x b m c
+    by : (o : Option Session) → session rs x ≡ o → is_some o ≡ true → IsBranch past rs x b m c
     by None found e = false_true e
     by (Some s) found e =
         let k = found_in (has_xid x) (sessions rs) s found in
         record {
           branch = g;
           granted = there;
+          of_xid = xid;
           number = number;
           of_call = call;
+          known = known_before past rs x stay named.1;
           began = s;
           there = k.0;
           xid = same_nat s.xid x k.1;
-          of_manager = sym (manager ∙ ap manager_of found);
+          of_manager = sym (named.0 ∙ ap manager_of found);
         }
 
-module _ (rs : List SessionRecord) (event : Event) (to : Place) where
-  branches_told : (msg : Message) → Allowed rs → Tells rs event to msg → NamesManager rs msg → TellsBranch rs msg
-  branches_told (message.BranchCommit xid b k m c) a said named =
-      branch_told rs xid.0 b.0 m c a said.0.branch said.0.granted said.0.xid said.0.number said.0.call named
-  branches_told (message.BranchRollback xid b k m c) a said named =
-      branch_told rs xid.0 b.0 m c a said.0.branch said.0.granted said.0.xid said.0.number said.0.call named
-  branches_told _ a said named = tt
+module _ (past rs : List SessionRecord) (event : Event) (to : Place) where
+  branches_told : (msg : Message) → Allowed rs → StayForgotten past rs → Tells rs event to msg → NamesManager rs msg → TellsBranch past rs msg
+  branches_told (message.BranchCommit xid b k m c) a stay said named =
+      branch_told past rs xid.0 b.0 m c a stay said.0.branch said.0.granted said.0.xid said.0.number said.0.call named
+  branches_told (message.BranchRollback xid b k m c) a stay said named =
+      branch_told past rs xid.0 b.0 m c a stay said.0.branch said.0.granted said.0.xid said.0.number said.0.call named
+  branches_told _ a stay said named = tt
 
   no_register : (from : Place) (msg : Message) → Tells rs event to msg → TellsResource from msg
   no_register from (message.Register xid r c t k hold check) said = absurd said
   no_register from _ said = tt
 
 -- said of what a moment sent
-pub record SaysAll (rs : List SessionRecord) (from : Place) (sent : Option Outgoing) : Type 0 where
+pub record SaysAll (past rs : List SessionRecord) (from : Place) (sent : Option Outgoing) : Type 0 where
   pub resources : OnSent TellResources from sent
-  pub branches : OnSent (TellBranches rs) from sent
+  pub branches : OnSent (TellBranches past rs) from sent
 
-by_coordinator : (rs : List SessionRecord) (event : Event) (from : Place) (sent : Option Outgoing) → Allowed rs → TellsOf rs event sent → SentNames rs sent → SaysAll rs from sent
-by_coordinator rs event from None a said named = record { resources = tt; branches = tt }
-by_coordinator rs event from (Some out) a said named =
-    record { resources = no_register rs event out.to from out.message said; branches = branches_told rs event out.to out.message a said named }
+by_coordinator : (past rs : List SessionRecord) (event : Event) (from : Place) (sent : Option Outgoing) → Allowed rs → StayForgotten past rs → TellsOf rs event sent → SentNames rs sent → SaysAll past rs from sent
+by_coordinator past rs event from None a stay said named = record { resources = tt; branches = tt }
+by_coordinator past rs event from (Some out) a stay said named =
+    record { resources = no_register past rs event out.to from out.message said; branches = branches_told past rs event out.to out.message a stay said named }
 
 module _ (s : Setup) (mem : Memory) (event : Event) (done : Act) (k : ℕ) (named : s.number ≡ k) where
   resource_told : (msg : Message) → MessageFits s mem event done msg → TellsResource (place.Res k) msg
   resource_told (message.Register xid r c t kind hold check) fits = ap place.Res (sym (fits.number ∙ named))
   resource_told _ fits = tt
 
-  no_question : (rs : List SessionRecord) (msg : Message) → MessageFits s mem event done msg → TellsBranch rs msg
-  no_question rs (message.BranchCommit xid b kind m c) fits = absurd fits
-  no_question rs (message.BranchRollback xid b kind m c) fits = absurd fits
-  no_question rs _ fits = tt
+  no_question : (past rs : List SessionRecord) (msg : Message) → MessageFits s mem event done msg → TellsBranch past rs msg
+  no_question past rs (message.BranchCommit xid b kind m c) fits = absurd fits
+  no_question past rs (message.BranchRollback xid b kind m c) fits = absurd fits
+  no_question past rs _ fits = tt
 
-  by_resource : (rs : List SessionRecord) (sent : Option Outgoing) → SentFits s mem event done sent → SaysAll rs (place.Res k) sent
-  by_resource rs None fits = record { resources = tt; branches = tt }
-  by_resource rs (Some out) fits = record { resources = resource_told out.message fits; branches = no_question rs out.message fits }
+  by_resource : (past rs : List SessionRecord) (sent : Option Outgoing) → SentFits s mem event done sent → SaysAll past rs (place.Res k) sent
+  by_resource past rs None fits = record { resources = tt; branches = tt }
+  by_resource past rs (Some out) fits = record { resources = resource_told out.message fits; branches = no_question past rs out.message fits }
 
 manager_told : (from : Place) (msg : Message) → IsManagers msg → TellsResource from msg
 manager_told from (message.Register xid r c t k hold check) is = absurd is
 manager_told from _ is = tt
 
-manager_asks : (rs : List SessionRecord) (msg : Message) → IsManagers msg → TellsBranch rs msg
-manager_asks rs (message.BranchCommit xid b k m c) is = absurd is
-manager_asks rs (message.BranchRollback xid b k m c) is = absurd is
-manager_asks rs _ is = tt
+manager_asks : (past rs : List SessionRecord) (msg : Message) → IsManagers msg → TellsBranch past rs msg
+manager_asks past rs (message.BranchCommit xid b k m c) is = absurd is
+manager_asks past rs (message.BranchRollback xid b k m c) is = absurd is
+manager_asks past rs _ is = tt
 
-by_manager : (rs : List SessionRecord) (from : Place) (sent : Option Outgoing) → SendsManagers sent → SaysAll rs from sent
-by_manager rs from None is = record { resources = tt; branches = tt }
-by_manager rs from (Some out) is = record { resources = manager_told from out.message is; branches = manager_asks rs out.message is }
+by_manager : (past rs : List SessionRecord) (from : Place) (sent : Option Outgoing) → SendsManagers sent → SaysAll past rs from sent
+by_manager past rs from None is = record { resources = tt; branches = tt }
+by_manager past rs from (Some out) is = record { resources = manager_told from out.message is; branches = manager_asks past rs out.message is }
 
-by_nobody : (rs : List SessionRecord) (from : Place) (sent : Option Outgoing) → sent ≡ None → SaysAll rs from sent
-by_nobody rs from sent none = subst (SaysAll rs from) (sym none) (record { resources = tt; branches = tt })
+by_nobody : (past rs : List SessionRecord) (from : Place) (sent : Option Outgoing) → sent ≡ None → SaysAll past rs from sent
+by_nobody past rs from sent none = subst (SaysAll past rs from) (sym none) (record { resources = tt; branches = tt })
 
 -- ---- all messages of a legal history
 
-pub record HeardBy (rs : List SessionRecord) (ms : List Moment) : Type 0 where
+pub record HeardBy (past rs : List SessionRecord) (ms : List Moment) : Type 0 where
   pub resources : EachSent TellResources ms
-  pub branches : EachSent (TellBranches rs) ms
+  pub branches : EachSent (TellBranches past rs) ms
+  pub stay : StayForgotten past rs
 
-more_branches : (ms : List Moment) (r : SessionRecord) (rs : List SessionRecord) → EachSent (TellBranches rs) ms → EachSent (TellBranches (r ∷ rs)) ms
-more_branches ms r rs each = each_grows (TellBranches rs) (TellBranches (r ∷ rs)) (λ p o says. tells_on rs r p o says) ms each
+-- what holds of the records, and goes on with one more
+abbrev Heard : (past : List SessionRecord) (ms : List Moment) → List SessionRecord → Type 0
+Heard past ms rs = EachSent (TellBranches past rs) ms × StayForgotten past rs
 
-in_flight_too : (ms : List Moment) (left : Left SessionRecord) → EachSent (TellBranches left.records) ms → (o : Option SessionRecord) → EachSent (TellBranches (added o left.records)) ms
-in_flight_too ms left each None = each
-in_flight_too ms left each (Some r) = more_branches ms r left.records each
+more_heard : (past : List SessionRecord) (ms : List Moment) (r : SessionRecord) (rs : List SessionRecord) → Heard past ms rs → Heard past ms (r ∷ rs)
+more_heard past ms r rs heard = (
+  each_grows (TellBranches past rs) (TellBranches past (r ∷ rs)) (λ p o says. tells_on past rs r p o says) ms heard.0,
+  λ x e. forgotten_on r rs x (heard.1 x e),
+)
+
+in_flight_too : (past : List SessionRecord) (ms : List Moment) (left : Left SessionRecord) → Heard past ms left.records → (o : Option SessionRecord) → Heard past ms (added o left.records)
+in_flight_too past ms left heard None = heard
+in_flight_too past ms left heard (Some r) = more_heard past ms r left.records heard
 
 any_record : (o : Option SessionRecord) → OnRecord (λ r. Unit {0}) o
 any_record None = tt
@@ -310,20 +356,21 @@ any_act rs now e (act.Down kept at) may = absurd may
 any_act rs now e (act.Restarted kept) may = absurd may
 any_act rs now e _ may = tt
 
-module _ (w : World) (past : Past) (numbered : AreNumbered w) (start : Covers w past []) (ms : List Moment) (m : Moment) (legal : Legal w past (m ∷ ms))
-    (before : HeardBy (coordinator_left past ms).records ms) where
+module _ (w : World) (past : Past) (numbered : AreNumbered w) (ms : List Moment) (m : Moment) (legal : Legal w past (m ∷ ms))
+    (before : HeardBy past.sessions (coordinator_left past ms).records ms) where
   abbrev tc_by : Place → Option Event → List SessionRecord
   tc_by p event = (sessions_left past.sessions (own_if (same_place place.Tc p) event m (own place.Tc ms))).records
 
   -- where nothing more stands at the coordinator
-  same_records : (p : Place) → SaysAll (coordinator_left past ms).records p m.step.sent → p ≡ m.place → HeardBy (coordinator_left past ms).records (m ∷ ms)
+  same_records : (p : Place) → SaysAll past.sessions (coordinator_left past ms).records p m.step.sent → p ≡ m.place → HeardBy past.sessions (coordinator_left past ms).records (m ∷ ms)
   same_records p says at = record {
     resources = (before.resources, subst (λ (q : Place). OnSent TellResources q m.step.sent) at says.resources);
-    branches = (before.branches, subst (λ (q : Place). OnSent (TellBranches (coordinator_left past ms).records) q m.step.sent) at says.branches);
+    branches = (before.branches, subst (λ (q : Place). OnSent (TellBranches past.sessions (coordinator_left past ms).records) q m.step.sent) at says.branches);
+    stay = before.stay;
   }
 
   at_tc : (event : Event) → place.Tc ≡ m.place → Allowed (tc_by place.Tc (Some event)) → Happens (Coordinator w.times past.sessions) (own place.Tc ms) m.now event m.step
-      → HeardBy (tc_by place.Tc (Some event)) (m ∷ ms)
+      → HeardBy past.sessions (tc_by place.Tc (Some event)) (m ∷ ms)
   at_tc event at a h =
       let os = own place.Tc ms in
       let left = coordinator_left past ms in
@@ -337,38 +384,39 @@ module _ (w : World) (past : Past) (numbered : AreNumbered w) (start : Covers w 
           answer_names rs m.now event w.times past.sessions os given,
         ),
       )) h in
-      let says = by_coordinator (tc_by place.Tc (Some event)) event place.Tc m.step.sent a v.1.0 v.1.1 in
-      let grown = v.0 (λ after. EachSent (TellBranches after) ms) (λ r c q. more_branches ms r rs q) (before.branches, in_flight_too ms left before.branches left.flight) in
+      let told : Heard past.sessions ms rs = (before.branches, before.stay) in
+      let grown = v.0 (Heard past.sessions ms) (λ r c q. more_heard past.sessions ms r rs q) (told, in_flight_too past.sessions ms left told left.flight) in
+      let says = by_coordinator past.sessions (tc_by place.Tc (Some event)) event place.Tc m.step.sent a grown.0.1 v.1.0 v.1.1 in
       record {
         resources = (before.resources, subst (λ (q : Place). OnSent TellResources q m.step.sent) at says.resources);
-        branches = (grown.0, subst (λ (q : Place). OnSent (TellBranches (tc_by place.Tc (Some event))) q m.step.sent) at says.branches);
+        branches = (grown.0.0, subst (λ (q : Place). OnSent (TellBranches past.sessions (tc_by place.Tc (Some event))) q m.step.sent) at says.branches);
+        stay = grown.0.1;
       }
 
   at_resource : (k : ℕ) (event : Event) → place.Res k ≡ m.place → (o : Option Setup) → counted_at w.resources k ≡ o
-      → HappensAt (option_map (λ s. Resource s (past.resource k)) o) (own (place.Res k) ms) m.now event m.step → HeardBy (coordinator_left past ms).records (m ∷ ms)
+      → HappensAt (option_map (λ s. Resource s (past.resource k)) o) (own (place.Res k) ms) m.now event m.step → HeardBy past.sessions (coordinator_left past ms).records (m ∷ ms)
   at_resource k event at None known d = absurd d
   at_resource k event at (Some s) known d =
-      let c = covers w past numbered start ms legal.0 in
-      let moves = resource_moves s (past.resource k) (own (place.Res k) ms) event m.now m.step (c.at k s known).tickets d in
+      let moves = resource_moves s (past.resource k) (own (place.Res k) ms) event m.now m.step (have_tickets w past ms legal.0 k s known) d in
       same_records (place.Res k) (by moves.fits) at
     where
-      by : Fits s (memory_of past ms k s) event m.step ⊎ (m.step.sent ≡ None) → SaysAll (coordinator_left past ms).records (place.Res k) m.step.sent
-      by (inl fits) = by_resource s (memory_of past ms k s) event m.step.act k (numbered k s known) (coordinator_left past ms).records m.step.sent fits.1
-      by (inr none) = by_nobody (coordinator_left past ms).records (place.Res k) m.step.sent none
+      by : Fits s (memory_of past ms k s) event m.step ⊎ (m.step.sent ≡ None) → SaysAll past.sessions (coordinator_left past ms).records (place.Res k) m.step.sent
+      by (inl fits) = by_resource s (memory_of past ms k s) event m.step.act k (numbered k s known) past.sessions (coordinator_left past ms).records m.step.sent fits.1
+      by (inr none) = by_nobody past.sessions (coordinator_left past ms).records (place.Res k) m.step.sent none
 
   at_manager : (k : ℕ) (event : Event) → place.Man k ≡ m.place → (o : Option Settings) → counted_at w.managers k ≡ o
-      → HappensAt (option_map (λ s. Manager s) o) (own (place.Man k) ms) m.now event m.step → HeardBy (coordinator_left past ms).records (m ∷ ms)
+      → HappensAt (option_map (λ s. Manager s) o) (own (place.Man k) ms) m.now event m.step → HeardBy past.sessions (coordinator_left past ms).records (m ∷ ms)
   at_manager k event at None known d = absurd d
   at_manager k event at (Some settings) known d =
       let role : role_at w past (place.Man k) ≡ Some (Manager settings) = ap (option_map (λ s. Manager s)) known in
       same_records (place.Man k)
-      (by_manager (coordinator_left past ms).records (place.Man k) m.step.sent
+      (by_manager past.sessions (coordinator_left past ms).records (place.Man k) m.step.sent
       (manager_says settings (own (place.Man k) ms) (ran w past (place.Man k) (Manager settings) role ms legal.0) event m.now m.step d)) at
 
-  quiet : (p : Place) → p ≡ m.place → m.step ≡ still act.Nothing → HeardBy (coordinator_left past ms).records (m ∷ ms)
-  quiet p at is = same_records p (by_nobody (coordinator_left past ms).records p m.step.sent (ap (λ (step : Step). step.sent) is)) at
+  quiet : (p : Place) → p ≡ m.place → m.step ≡ still act.Nothing → HeardBy past.sessions (coordinator_left past ms).records (m ∷ ms)
+  quiet p at is = same_records p (by_nobody past.sessions (coordinator_left past ms).records p m.step.sent (ap (λ (step : Step). step.sent) is)) at
 
-  at_place : (p : Place) (event : Option Event) → p ≡ m.place → event ≡ m.event → Allowed (tc_by p event) → IsDone w past ms m event → HeardBy (tc_by p event) (m ∷ ms)
+  at_place : (p : Place) (event : Option Event) → p ≡ m.place → event ≡ m.event → Allowed (tc_by p event) → IsDone w past ms m event → HeardBy past.sessions (tc_by p event) (m ∷ ms)
   at_place place.Tc (Some event) at same a done = at_tc event at a (subst (λ p. HappensAt (role_at w past p) (own p ms) m.now event m.step) (sym at) done)
   at_place place.Tc None at same a done = quiet place.Tc at done.1
   at_place (place.Res k) (Some event) at same a done =
@@ -380,10 +428,10 @@ module _ (w : World) (past : Past) (numbered : AreNumbered w) (start : Covers w 
   at_place place.Net (Some event) at same a done = absurd (subst (λ p. HappensAt (role_at w past p) (own p ms) m.now event m.step) (sym at) done)
   at_place place.Net None at same a done = quiet place.Net at done.1
 
-  next_heard : Allowed (coordinator_left past (m ∷ ms)).records → HeardBy (coordinator_left past (m ∷ ms)).records (m ∷ ms)
+  next_heard : Allowed (coordinator_left past (m ∷ ms)).records → HeardBy past.sessions (coordinator_left past (m ∷ ms)).records (m ∷ ms)
   next_heard a = at_place m.place m.event refl refl a legal.1.done
 
-pub heard : (w : World) (past : Past) → AreNumbered w → Covers w past [] → (ms : List Moment) → Legal w past ms → HeardBy (coordinator_left past ms).records ms
-heard w past numbered start [] legal = record { resources = tt; branches = tt }
-heard w past numbered start (m ∷ ms) legal =
-    next_heard w past numbered start ms m legal (heard w past numbered start ms legal.0) (both_allowed w past (m ∷ ms) start.allowed.0 legal).stand
+pub heard : (w : World) (past : Past) → AreNumbered w → Allowed past.sessions → (ms : List Moment) → Legal w past ms → HeardBy past.sessions (coordinator_left past ms).records ms
+heard w past numbered allowed [] legal = record { resources = tt; branches = tt; stay = λ x e. e }
+heard w past numbered allowed (m ∷ ms) legal =
+    next_heard w past numbered ms m legal (heard w past numbered allowed ms legal.0) (both_allowed w past (m ∷ ms) allowed legal).stand

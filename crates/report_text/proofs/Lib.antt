@@ -4,11 +4,13 @@ pub mod SentLaws
 pub mod OpenLaws
 pub mod NumberedLaws
 pub mod MadeLaws
+pub mod NumberLaws
 pub mod SessionLaws
 pub mod HeardLaws
 pub mod ResourceLaws
 pub mod EffectsOfNone
 pub mod FewLaws
+pub mod SlotLaws
 pub mod ActLaws
 pub mod LockLaws
 pub mod PrintedLaws
@@ -16,7 +18,9 @@ pub mod SectionLaws
 pub mod TotalsLaws
 pub mod FoldLaws
 pub mod Counts
+pub mod BeforeLaws
 pub mod ReportLaws
+pub mod ShownLaws
 pub mod AskLaws
 pub mod ComingLaws
 pub mod RecordLaws

@@ -1,5 +1,5 @@
 -- The lines of a report, put one section after the other.
-use Rattle.std.proofs.Common.{◌≡◌, ℕ, List, [], ◌∷◌, ◌++◌, map, codes, refl, sym, ap, ◌∙◌, append_assoc}
+use Rattle.std.proofs.Common.{◌≡◌, ℕ, List, [], ◌∷◌, ◌++◌, map, codes, refl, sym, ap, ◌∙◌, append_assoc, append-nil}
 use Rattle.durable_records.specs.Fences.{Fence}
 use Rattle.seata_types.specs.declared.ids.Leg.{Leg}
 use Rattle.tcc_fence.specs.Meanings.{entry_of, fences_of}
@@ -9,7 +9,7 @@ use Rattle.history_text.specs.declared.entries.Names.{Names}
 use Rattle.history_text.specs.Lines.{entry_text}
 use Rattle.history_text.specs.Report.{line, lines, session_text, holder_text, table_row_text, fence_text}
 use Rattle.report_text.specs.Keeping.{CoordinatorKept, ResourceKept}
-use Rattle.report_text.specs.Sections.{line_in, locks_in, rows_kept, fences_kept, text_kept}
+use Rattle.report_text.specs.Sections.{line_in, locks_in, rows_kept, fences_kept, state_kept, text_kept}
 
 -- ---- lines
 
@@ -40,18 +40,36 @@ section : (before after head body behind : List ℕ) → after ≡ before ++ (he
 section before after head body behind put =
     ap (λ out. out ++ behind) put ∙ append_assoc before (head ++ body) behind ∙ ap (λ rest. before ++ rest) (append_assoc head body behind)
 
-module _ (names : Names) (es : List Entry) (k : CoordinatorKept) (ks : List ResourceKept) (reads : List ℕ) (out entries sessions locks tables fences heading whole : List ℕ) where
-  pub text_printed : entries ≡ out ++ (line (codes "entries") ++ lines (entry_text names) es)
-      → sessions ≡ entries ++ (line (codes "sessions") ++ lines (session_text names) (map line_in k.known.sessions))
-      → locks ≡ sessions ++ (line (codes "locks") ++ lines (holder_text names) (locks_in k))
-      → tables ≡ locks ++ (line (codes "tables") ++ lines (table_row_text names) (rows_kept ks))
-      → fences ≡ tables ++ (line (codes "fences") ++ lines (fence_text names) (fences_kept ks)) → heading ≡ fences ++ line (codes "reads") → whole ≡ heading ++ reads
-      → whole ≡ out ++ text_kept names es k ks reads
+-- what stands before more, where it ends in this
+front : (head body rest more whole : List ℕ) → rest ++ more ≡ whole → (head ++ (body ++ rest)) ++ more ≡ head ++ (body ++ whole)
+front head body rest more whole is = append_assoc head (body ++ rest) more ∙ ap (λ behind. head ++ behind) (append_assoc body rest more ∙ ap (λ behind. body ++ behind) is)
+
+module _ (names : Names) (k : CoordinatorKept) (ks : List ResourceKept) where
+  -- the sections of what stands, put one after the other
+  pub state_printed : (out sessions held tables fences : List ℕ) → sessions ≡ out ++ (line (codes "sessions") ++ lines (session_text names) (map line_in k.known.sessions))
+      → held ≡ sessions ++ (line (codes "locks") ++ lines (holder_text names) (locks_in k))
+      → tables ≡ held ++ (line (codes "tables") ++ lines (table_row_text names) (rows_kept ks))
+      → fences ≡ tables ++ (line (codes "fences") ++ lines (fence_text names) (fences_kept ks)) → fences ≡ out ++ state_kept names k ks []
+  state_printed out sessions held tables fences a b c d =
+      sym (append-nil fences)
+      ∙ section tables fences (line (codes "fences")) (lines (fence_text names) (fences_kept ks)) [] d
+      ∙ section held tables (line (codes "tables")) (lines (table_row_text names) (rows_kept ks)) _ c
+      ∙ section sessions held (line (codes "locks")) (lines (holder_text names) (locks_in k)) _ b
+      ∙ section out sessions (line (codes "sessions")) (lines (session_text names) (map line_in k.known.sessions)) _ a
+
+  -- and more behind them
+  state_front : (more : List ℕ) → state_kept names k ks [] ++ more ≡ state_kept names k ks more
+  state_front more =
+      front (line (codes "sessions")) (lines (session_text names) (map line_in k.known.sessions)) _ more _
+      (front (line (codes "locks")) (lines (holder_text names) (locks_in k)) _ more _
+      (front (line (codes "tables")) (lines (table_row_text names) (rows_kept ks)) _ more _
+      (front (line (codes "fences")) (lines (fence_text names) (fences_kept ks)) [] more more refl)))
+
+  pub text_printed : (es : List Entry) (reads out entries state heading whole : List ℕ) → entries ≡ out ++ (line (codes "entries") ++ lines (entry_text names) es)
+      → state ≡ entries ++ state_kept names k ks [] → heading ≡ state ++ line (codes "reads") → whole ≡ heading ++ reads → whole ≡ out ++ text_kept names es k ks reads
   unfolding text_kept
-  text_printed a b c d e f g =
-      g ∙ ap (λ front. front ++ reads) f ∙ append_assoc fences (line (codes "reads")) reads
-      ∙ section tables fences (line (codes "fences")) (lines (fence_text names) (fences_kept ks)) _ e
-      ∙ section locks tables (line (codes "tables")) (lines (table_row_text names) (rows_kept ks)) _ d
-      ∙ section sessions locks (line (codes "locks")) (lines (holder_text names) (locks_in k)) _ c
-      ∙ section entries sessions (line (codes "sessions")) (lines (session_text names) (map line_in k.known.sessions)) _ b
-      ∙ section out entries (line (codes "entries")) (lines (entry_text names) es) _ a
+  text_printed es reads out entries state heading whole a b c d =
+      let more : List ℕ = line (codes "reads") ++ reads in
+      d ∙ ap (λ text. text ++ reads) c ∙ append_assoc state (line (codes "reads")) reads
+      ∙ ap (λ text. text ++ more) b ∙ append_assoc entries (state_kept names k ks []) more ∙ ap (λ text. entries ++ text) (state_front more)
+      ∙ section out entries (line (codes "entries")) (lines (entry_text names) es) (state_kept names k ks more) a

@@ -25,7 +25,7 @@ use Rattle.history_law.proofs.Tests.{and_both}
 use Rattle.history_rules.specs.Own.{Event, added, asked_act, kept_part, kept_records, leaves, stood}
 use Rattle.history_rules.specs.ResourceMemory.{Setup, Memory, Open, opening_tables, open_at, effect_on, or_empty, local_of, phase_two, committed_of, tried_of, local_committed_of, boot_over, resource_record, opened_for, opens_after, opened_after, with_first}
 use Rattle.history_rules.specs.ResourceMemory.{booted as with_boot}
-use Rattle.report_text.specs.Following.{IsOfResource}
+use Rattle.report_text.specs.Following.{Come, IsOfResource}
 use Rattle.report_text.specs.Keeping.{ResourceKept, has_room, may_add, known_with, with_record, landed, ticket_in, less_ticket, less_open, asked_now, work_now, with_open, resource_taken, standing}
 use Rattle.report_text.specs.Made.{committed_from, tried_from, local_from, next_boot, images_on}
 use Rattle.report_text.specs.Opens.{Works, AreOpen, ticket_cmp, with_work, work_of}
@@ -35,11 +35,6 @@ use Rattle.report_text.proofs.Origins.{ticket_total, ticket_exact}
 use Rattle.report_text.proofs.SessionLaws.{few_stand, room_for}
 
 -- ---- records that come
-
--- each of these records may come after what is known of those before it
-abbrev pub Come : Database → List ResourceRecord → Type 0
-Come opening [] = Unit {0}
-Come opening (r ∷ rs) = Come opening rs × (may_come (known_of opening rs) r ≡ true)
 
 pub allowed_of : (opening : Database) (rs : List ResourceRecord) → Come opening rs → Allowed opening rs
 allowed_of opening [] c = tt

@@ -18,22 +18,22 @@ use Rattle.session_log.specs.SnapshotOf.{in_order, entry_now, failure_of, is_kep
 use Rattle.session_log.specs.declared.sessions.Snapshot.{Snapshot}
 use Rattle.session_memory.specs.Holding.{held_in}
 use Rattle.session_memory.proofs.Lists.{map_both}
-use Rattle.resource_memory.specs.Known.{Known, known_of}
+use Rattle.resource_memory.specs.Known.{Known}
 use Rattle.resource_memory.proofs.RecordLaws.{tables_of}
 use Rattle.history_rules.specs.Histories.{Moment, Legal, coordinator_left}
-use Rattle.history_rules.specs.Nodes.{Past, no_past}
+use Rattle.history_rules.specs.Nodes.{Past}
 use Rattle.history_rules.specs.Reports.{SessionLine, line_of, lines_of, session_lines, table_rows, rows_of, resource_rows, fence_lines, records_at, each, read_lines}
 use Rattle.history_rules.specs.Reports.{report as report_of}
 use Rattle.history_rules.specs.ResourceMemory.{Setup, opening_tables}
 use Rattle.history_law.proofs.SessionHistory.{both_allowed}
 use Rattle.history_text.specs.History.{entries}
 use Rattle.history_text.specs.Lines.{entry_text}
-use Rattle.history_text.specs.Report.{line, lines, session_text, holder_text, table_row_text, fence_text, read_text, names_of, sections_text, report_text, report}
+use Rattle.history_text.specs.Report.{line, lines, read_text, names_of, sections_text, report_text, report}
 use Rattle.history_text.specs.Worlds.{resources_of, world_of}
 use Rattle.report_text.specs.Folds.{FoldedKept}
 use Rattle.report_text.specs.Following.{Follows}
 use Rattle.report_text.specs.Keeping.{ResourceKept}
-use Rattle.report_text.specs.Sections.{failed_at, line_in, holder_in, locks_in, rows_of_tables, rows_in, rows_kept, fences_in, fences_kept, sections_kept, text_kept}
+use Rattle.report_text.specs.Sections.{failed_at, line_in, holder_in, locks_in, rows_of_tables, rows_in, rows_kept, fences_in, fences_kept, sections_kept, state_text, text_kept}
 use Rattle.report_text.proofs.LockLaws.{locks_alike}
 
 -- ---- sessions
@@ -76,25 +76,26 @@ tables_alike : (db : Database) (defs : List TableDef) → rows_of_tables db.reso
 tables_alike db [] = refl
 tables_alike db (def ∷ defs) = ap (λ rest. table_rows db def ++ rest) (tables_alike db defs)
 
-abbrev rows_now : Known → Rows
-rows_now known = rows_of_tables known.tables.resource known.tables.rows known.tables.schema.tables
+abbrev rows_now : Database → Rows
+rows_now db = rows_of_tables db.resource db.rows db.schema.tables
 
-module _ (s : Setup) (k : ResourceKept) (rs : List ResourceRecord) (is : k.known ≡ known_of (opening_tables s) rs) where
-  rows_alike : rows_in k ≡ resource_rows s rs
+module _ (s : Setup) (k : ResourceKept) (rs : List ResourceRecord) (is : k.known.tables ≡ tables (opening_tables s) rs) where
+  pub rows_alike : rows_in k ≡ resource_rows s rs
   rows_alike =
       ap rows_now is ∙ tables_alike (tables (opening_tables s) rs) (tables (opening_tables s) rs).schema.tables
       ∙ ap (λ schema. rows_of (tables (opening_tables s) rs) schema.tables) (tables_of (opening_tables s) rs).schema
 
-  fences_alike : fences_in k ≡ fence_lines s.number rs
-  fences_alike =
-      ap (λ (known : Known). map (λ f. (known.tables.resource, f)) known.fences) is
+  pub fences_alike : k.known.fences ≡ fences rs → fences_in k ≡ fence_lines s.number rs
+  fences_alike same =
+      ap (λ (db : Database). map (λ f. (db.resource, f)) k.known.fences) is
+      ∙ ap (λ fs. map (λ f. ((tables (opening_tables s) rs).resource, f)) fs) same
       ∙ ap (λ n. map (λ f. (n, f)) (fences rs)) (tables_of (opening_tables s) rs).resource
 
 -- ---- of each resource
 
 -- each of one list has one of the other at its place, that says the same
 module _ {A B C : Type 0} (f : A → List C) (g : B → List C) where
-  pub SaysSame : (xs : List A) (ys : List B) → ℕ → Type 0
+  unfoldable pub SaysSame : (xs : List A) (ys : List B) → ℕ → Type 0
   SaysSame xs ys k = (y : B) → slice_get ys k ≡ Some y → (x : A) × (slice_get xs k ≡ Some x) × (f x ≡ g y)
 
   first_same : (x : A) (xs : List A) (y : B) (ys : List B) → SaysSame (x ∷ xs) (y ∷ ys) 0 → f x ≡ g y
@@ -120,13 +121,14 @@ module _ (s : Scenario) (past : Past) (f : FoldedKept) (ms : List Moment) (follo
   unfolding SaysSame
   rows_say k u there =
       let kept = follows.resources k u there in
-      (kept.0, kept.1, rows_alike u kept.0 (records_at past ms u) kept.2.known)
+      (kept.0, kept.1, rows_alike u kept.0 (records_at past ms u) (ap (λ (known : Known). known.tables) kept.2.known))
 
   fences_say : (k : ℕ) → SaysSame fences_in (λ u. fence_lines u.number (records_at past ms u)) f.resources (resources_of s) k
   unfolding SaysSame
   fences_say k u there =
       let kept = follows.resources k u there in
-      (kept.0, kept.1, fences_alike u kept.0 (records_at past ms u) kept.2.known)
+      let tabled = ap (λ (known : Known). known.tables) kept.2.known in
+      (kept.0, kept.1, fences_alike u kept.0 (records_at past ms u) tabled (ap (λ (known : Known). known.fences) kept.2.known))
 
   pub all_rows : rows_kept f.resources ≡ each (λ u. resource_rows u (records_at past ms u)) (resources_of s)
   all_rows = each_same rows_in (λ u. resource_rows u (records_at past ms u)) f.resources (resources_of s) follows.count rows_say
@@ -149,15 +151,13 @@ module _ (s : Scenario) (past : Past) (f : FoldedKept) (ms : List Moment) (follo
       ap (λ reads. sections_kept names f.coordinator f.resources reads) follows.reads
       ∙ ap
       (λ (t : List SessionLine × (List (RowKey × ℕ) × (Rows × List (ℕ × ((ℕ × ℕ) × Fence))))).
-      line (codes "sessions") ++ (lines (session_text names) t.0 ++ (line (codes "locks") ++ (lines (holder_text names) t.1.0 ++
-      (line (codes "tables") ++ (lines (table_row_text names) t.1.1.0 ++ (line (codes "fences") ++ (lines (fence_text names) t.1.1.1 ++
-      (line (codes "reads") ++ lines (read_text names) (read_lines (world_of s) past ms))))))))))
+      state_text names t.0 t.1.0 t.1.1.0 t.1.1.1 (line (codes "reads") ++ lines (read_text names) (read_lines (world_of s) past ms)))
       (λ i. (all_sessions i, (all_locks a i, (all_rows i, all_fences i))))
 
 -- the text of what is kept of a legal history is its report
-pub text_alike : (s : Scenario) (f : FoldedKept) (ms : List Moment) → Legal (world_of s) no_past ms → Follows s no_past f ms
-    → text_kept (names_of s) (entries ms) f.coordinator f.resources f.reads ≡ report s no_past ms
+pub text_alike : (s : Scenario) (past : Past) (f : FoldedKept) (ms : List Moment) → Allowed past.sessions → Legal (world_of s) past ms → Follows s past f ms
+    → text_kept (names_of s) (entries ms) f.coordinator f.resources f.reads ≡ report s past ms
 unfolding text_kept report_text report
-text_alike s f ms legal follows =
+text_alike s past f ms allowed legal follows =
     ap (λ rest. line (codes "entries") ++ (lines (entry_text (names_of s)) (entries ms) ++ rest))
-    (sections_alike s no_past f ms follows (both_allowed (world_of s) no_past ms tt legal).stand)
+    (sections_alike s past f ms follows (both_allowed (world_of s) past ms allowed legal).stand)

@@ -1,5 +1,5 @@
 -- The statements of a resource's entry, found by what is printed of it, are those that its rules take.
-use Rattle.std.proofs.Common.{◌≡◌, ◌+◌, ℕ, zero, suc, List, [], ◌∷◌, Option, Some, None, option_map, refl, sym, ap, ◌∙◌, subst, arith}
+use Rattle.std.proofs.Common.{◌≡◌, ◌+◌, ℕ, zero, suc, List, ◌∷◌, Option, Some, None, option_map, refl, sym, ap, ◌∙◌, subst, arith}
 use Rattle.seata_types.specs.declared.acts.Act.{Act}
 use Rattle.seata_types.specs.declared.acts.Act.TheVariants as act
 use Rattle.seata_types.specs.declared.acts.Durable.{Durable}
@@ -17,16 +17,10 @@ use Rattle.durable_records.specs.RowsKept.{tables}
 use Rattle.durable_records.specs.SessionOrder.{Allowed}
 use Rattle.durable_records.specs.declared.coordinators.SessionRecord.{SessionRecord}
 use Rattle.scenario_form.specs.declared.scenarios.Scenario.{Scenario}
-use Rattle.history_law.specs.Cover.{memory_of}
 use Rattle.history_law.specs.Network.{EachSent}
-use Rattle.history_law.proofs.CallHistory.{calls, calls_first}
-use Rattle.history_law.proofs.Calls.{CallSaid, SaysCall, SaysCalls}
-use Rattle.history_law.proofs.CoverChains.{covers_first}
-use Rattle.history_law.proofs.CoverHistory.{covers}
-use Rattle.history_law.proofs.SessionHistory.{both_allowed}
-use Rattle.history_rules.specs.Chains.{IsBlankPast}
+use Rattle.history_law.proofs.Steps.{have_tickets}
 use Rattle.history_rules.specs.Histories.{Moment, Cause, Legal, HappensAt, IsDone, brings, own, coordinator_left, memory_at}
-use Rattle.history_rules.specs.Nodes.{Resource, counted_at, no_past, role_at}
+use Rattle.history_rules.specs.Nodes.{Past, Resource, counted_at, role_at}
 use Rattle.history_rules.specs.Own.{Event, Given}
 use Rattle.history_rules.specs.ResourceMemory.{Setup, Memory, opening_tables, or_empty, phase_two}
 use Rattle.history_text.specs.History.{cause_of}
@@ -34,8 +28,8 @@ use Rattle.history_text.specs.Worlds.{world_of}
 use Rattle.history_text.specs.declared.entries.Cause.{Cause as Printed}
 use Rattle.history_text.proofs.Worlds.{world_of-numbered}
 use Rattle.report_text.specs.Folds.{FoldedKept}
-use Rattle.report_text.specs.Following.{Follows, managers_of, calls_of}
-use Rattle.report_text.specs.Keeping.{number_at}
+use Rattle.report_text.specs.Following.{FindCalls, FindManagers, Follows}
+use Rattle.report_text.specs.Keeping.{CoordinatorKept, number_at}
 use Rattle.report_text.specs.Made.{run_by, run_for, tries_for, sending_manager}
 use Rattle.report_text.specs.Numbered.{statements_at, tries_at, confirms_at, cancels_at, local_at}
 use Rattle.report_text.proofs.ActLaws.{message_is, confirms_found, cancels_found, outside_found, slot_found, call_opened, local_opened}
@@ -45,21 +39,16 @@ use Rattle.report_text.proofs.HeardLaws.{TellBranches, heard}
 use Rattle.report_text.proofs.NumberedLaws.{IsSetupOf, setup_at}
 use Rattle.report_text.proofs.ReportLaws.{StatementsAre}
 use Rattle.report_text.proofs.ResourceLaws.{RunsFor, OpensFor, ActIs}
-
-blank : IsBlankPast no_past
-blank = record { sessions = refl; resources = λ n. (0, refl) }
+use Rattle.report_text.proofs.SlotLaws.{CallSaid, SaysSlot, SaysSlots, slots}
 
 -- ---- one entry
 
-module _ (s : Scenario) (k : ℕ) (u : Setup) (is : IsSetupOf s k u) (ms : List Moment) where
-  abbrev rs : List SessionRecord
-  rs = (coordinator_left no_past ms).records
-
+module _ (s : Scenario) (k : ℕ) (u : Setup) (is : IsSetupOf s k u) (past rs : List SessionRecord) (kept : CoordinatorKept) (managers : FindManagers past rs kept.managers) (calls : FindCalls past rs kept.calls) (ms : List Moment) where
   abbrev manager : ℕ → ℕ
-  manager x = number_at (managers_of rs) x
+  manager x = number_at kept.managers x
 
   abbrev call : ℕ → ℕ
-  call b = number_at (calls_of rs) b
+  call b = number_at kept.calls b
 
   abbrev here : Place
   here = place.Res (suc k)
@@ -67,7 +56,7 @@ module _ (s : Scenario) (k : ℕ) (u : Setup) (is : IsSetupOf s k u) (ms : List 
   after_it : k + 1 ≡ suc k
   after_it = omega arith
 
-  module _ (a : Allowed rs) (branches : EachSent (TellBranches rs) ms) (called : EachSent (SaysCalls (world_of s) rs (memory_of no_past ms)) ms) (why : Cause) (event : Event)
+  module _ (branches : EachSent (TellBranches past rs) ms) (called : EachSent (SaysSlots (world_of s)) ms) (why : Cause) (event : Event)
       (brought : Some event ≡ brings ms here why) where
     brings_it : (other : Event) → event ≡ other → Some other ≡ brings ms here why
     brings_it other same = ap (λ (e : Event). Some e) (sym same) ∙ brought
@@ -75,23 +64,22 @@ module _ (s : Scenario) (k : ℕ) (u : Setup) (is : IsSetupOf s k u) (ms : List 
     runs_are : (m : Memory) (d : Durable) → AsksFor m event d → RunsFor u event (run_by s manager call (suc k) d) d
     runs_are m (durable.Confirmed xid b) (from, kind, man, c, same) =
         ap (λ n. or_empty (confirms_at s n (manager xid.0) (call b.0))) (sym after_it)
-        ∙ confirms_found s k u is rs a ms branches why from here xid b kind man c (brings_it (Given (input.Message from (message.BranchCommit xid b kind man c))) same)
+        ∙ confirms_found s k u is past rs kept managers calls ms branches why from here xid b kind man c (brings_it (Given (input.Message from (message.BranchCommit xid b kind man c))) same)
         ∙ ap (phase_two u) (sym same)
     runs_are m (durable.Cancelled xid b) (from, kind, man, c, same) =
         ap (λ n. or_empty (cancels_at s n (manager xid.0) (call b.0))) (sym after_it)
-        ∙ cancels_found s k u is rs a ms branches why from here xid b kind man c (brings_it (Given (input.Message from (message.BranchRollback xid b kind man c))) same)
+        ∙ cancels_found s k u is past rs kept managers calls ms branches why from here xid b kind man c (brings_it (Given (input.Message from (message.BranchRollback xid b kind man c))) same)
         ∙ ap (phase_two u) (sym same)
-    runs_are m (durable.Outside n) asks = ap (λ j. or_empty (local_at s j n)) (sym after_it) ∙ outside_found s k u is rs a n
+    runs_are m (durable.Outside n) asks = ap (λ j. or_empty (local_at s j n)) (sym after_it) ∙ outside_found s k u is past rs kept managers calls n
     runs_are m _ asks = tt
 
     -- a ticket that is opened for a Call
     opened_by : (db : Database) (xid : Xid) (c : ℕ) (t : Ticket) (from : Place) (man r : ℕ) (w : Work) → event ≡ Given (input.Message from (message.Call xid man r c w))
         → OpensFor u db event (statements_at s (sending_manager (cause_of why)) c) (tries_at s (sending_manager (cause_of why)) c) t c
     opened_by db xid c t from man r w same =
-        let sent = message_is (SaysCalls (world_of s) rs (memory_of no_past ms)) ms called here from (message.Call xid man r c w) why
+        let sent = message_is (SaysSlots (world_of s)) ms called here from (message.Call xid man r c w) why
         (brings_it (Given (input.Message from (message.Call xid man r c w))) same) in
-        let said : CallSaid (world_of s) rs from sent.out.to xid.0 r c w =
-        subst (λ (q : Message). SaysCall (world_of s) rs (memory_of no_past ms) from sent.out.to q) sent.is sent.says in
+        let said : CallSaid (world_of s) from r c w = subst (λ (q : Message). SaysSlot (world_of s) from q) sent.is sent.says in
         let found = slot_found s said.manager r c w said.settings said.known said.slot in
         subst (λ (e : Event). OpensFor u db e (statements_at s (sending_manager (cause_of why)) c) (tries_at s (sending_manager (cause_of why)) c) t c) (sym same)
         (subst (λ (q : Cause). OpensFor u db (Given (input.Message from (message.Call xid man r c w))) (statements_at s (sending_manager (cause_of q)) c) (tries_at s (sending_manager (cause_of q)) c) t c)
@@ -112,42 +100,34 @@ module _ (s : Scenario) (k : ℕ) (u : Setup) (is : IsSetupOf s k u) (ms : List 
 
 -- ---- all legal histories
 
-module _ (s : Scenario) (ms : List Moment) (m : Moment) (f : FoldedKept) (follows : Follows s no_past f ms) (legal : Legal (world_of s) no_past (m ∷ ms)) where
+module _ (s : Scenario) (past : Past) (allowed : Allowed past.sessions) (ms : List Moment) (m : Moment) (f : FoldedKept) (follows : Follows s past f ms) (legal : Legal (world_of s) past (m ∷ ms)) where
   abbrev left : List SessionRecord
-  left = (coordinator_left no_past ms).records
+  left = (coordinator_left past ms).records
 
-  acts_are : (k : ℕ) (event : Event) → m.place ≡ place.Res (suc k) → m.event ≡ Some event → ActsFor s no_past ms f k event m.now m.cause m.step
+  acts_are : (k : ℕ) (event : Event) → m.place ≡ place.Res (suc k) → m.event ≡ Some event → ActsFor s past ms f k event m.now m.cause m.step
   unfolding ActsFor
   acts_are k event at given u e there cause done =
       let is = setup_at s k u there in
       let number : u.number ≡ suc k = ap (λ (v : Setup). v.number) is.is ∙ omega arith in
       let w = world_of s in
-      let start = covers_first w no_past blank in
       let known : counted_at w.resources u.number ≡ Some u = ap (counted_at w.resources) number ∙ there in
-      let covered = covers w no_past (world_of-numbered s) start ms legal.0 in
-      let tickets = (covered.at u.number u known).tickets in
+      let tickets = have_tickets w past ms legal.0 u.number u known in
       let at_it : m.place ≡ place.Res u.number = at ∙ ap place.Res (sym number) in
-      let happens : HappensAt (role_at w no_past m.place) (own m.place ms) m.now event m.step = subst (λ (o : Option Event). IsDone w no_past ms m o) given legal.1.done in
-      let here = subst (λ p. HappensAt (role_at w no_past p) (own p ms) m.now event m.step) at_it happens in
-      let role : role_at w no_past (place.Res u.number) ≡ Some (Resource u []) = ap (option_map (λ v. Resource v [])) known in
+      let happens : HappensAt (role_at w past m.place) (own m.place ms) m.now event m.step = subst (λ (o : Option Event). IsDone w past ms m o) given legal.1.done in
+      let here = subst (λ p. HappensAt (role_at w past p) (own p ms) m.now event m.step) at_it happens in
+      let role : role_at w past (place.Res u.number) ≡ Some (Resource u (past.resource u.number)) = ap (option_map (λ v. Resource v (past.resource u.number))) known in
       let ran = subst (λ r. HappensAt r (own (place.Res u.number) ms) m.now event m.step) role here in
-      let asked = is_asked u [] (own (place.Res u.number) ms) event m.now m.step tickets ran in
-      let both = both_allowed w no_past ms tt legal.0 in
-      let told = heard w no_past (world_of-numbered s) start ms legal.0 in
-      let called = (calls w no_past (world_of-numbered s) start (calls_first w no_past blank) ms legal.0).calls.said in
+      let asked = is_asked u (past.resource u.number) (own (place.Res u.number) ms) event m.now m.step tickets ran in
+      let told = heard w past (world_of-numbered s) allowed ms legal.0 in
+      let called = slots w past (world_of-numbered s) ms legal.0 in
       let brought : Some event ≡ brings ms (place.Res (suc k)) m.cause = sym given ∙ legal.1.brought ∙ ap (λ (p : Place). brings ms p m.cause) at in
-      let db = tables (opening_tables u) (memory_at no_past u ms).left.records in
-      let plain = act_is s k u is ms both.stand told.branches called m.cause event brought (memory_at no_past u ms) db m.step.act asked.asks in
-      let kept : ActIs u db event (run_for s (number_at f.coordinator.managers) (number_at f.coordinator.calls) (suc k) (cause_of m.cause) m.step.act) (tries_for s (cause_of m.cause) m.step.act) m.step.act =
-      subst (λ (ns : List ℕ). ActIs u db event (run_for s (number_at ns) (number_at f.coordinator.calls) (suc k) (cause_of m.cause) m.step.act) (tries_for s (cause_of m.cause) m.step.act) m.step.act)
-      (sym follows.coordinator.managers)
-      (subst (λ (ns : List ℕ). ActIs u db event (run_for s (number_at (managers_of left)) (number_at ns) (suc k) (cause_of m.cause) m.step.act) (tries_for s (cause_of m.cause) m.step.act) m.step.act)
-      (sym follows.coordinator.calls) plain) in
+      let db = tables (opening_tables u) (memory_at past u ms).left.records in
+      let kept = act_is s k u is past.sessions left f.coordinator follows.coordinator.managers follows.coordinator.calls ms told.branches called m.cause event brought (memory_at past u ms) db m.step.act asked.asks in
       let causes : ActIs u db event (run_for s (number_at f.coordinator.managers) (number_at f.coordinator.calls) (suc k) e.cause m.step.act) (tries_for s e.cause m.step.act) m.step.act =
       subst (λ (c : Printed). ActIs u db event (run_for s (number_at f.coordinator.managers) (number_at f.coordinator.calls) (suc k) c m.step.act) (tries_for s c m.step.act) m.step.act) (sym cause) kept in
       subst (λ (d : Act). ActIs u db event (run_for s (number_at f.coordinator.managers) (number_at f.coordinator.calls) (suc k) e.cause d) (tries_for s e.cause d) m.step.act) (sym done) causes
 
-  acts_by : (p : Place) (event : Option Event) → m.place ≡ p → m.event ≡ event → ActsHere s no_past f ms follows m.stamp m.now m.cause m.step p event
+  acts_by : (p : Place) (event : Option Event) → m.place ≡ p → m.event ≡ event → ActsHere s past f ms follows m.stamp m.now m.cause m.step p event
   acts_by (place.Res (suc k)) (Some event) at given = acts_are k event at given
   acts_by (place.Res zero) (Some event) at given = tt
   acts_by (place.Res zero) None at given = tt
@@ -158,4 +138,4 @@ module _ (s : Scenario) (ms : List Moment) (m : Moment) (f : FoldedKept) (follow
 
 pub statements_are : (s : Scenario) → StatementsAre s
 unfolding StatementsAre
-statements_are s ms m f follows legal = acts_by s ms m f follows legal m.place m.event refl refl
+statements_are s past ms m f follows allowed legal = acts_by s past allowed ms m f follows legal m.place m.event refl refl

@@ -2,22 +2,21 @@
 use Rattle.std.proofs.Common.{◌≡◌, ◌+◌, ℕ, ℤ, cond, List, [], ◌∷◌, ◌++◌, length, map, count_by, fold, codes, Option, Some, None, Result, Ok, Err, IfOk, refl, sym, ap, ◌∙◌, append_assoc, append-nil}
 use Rattle.std.proofs.lemmas.List.{length-map}
 use Rattle.seata_types.specs.declared.copies.NoMemory.{NoMemory}
-use Rattle.seata_types.specs.declared.rows.RowKey.{RowKey}
 use Rattle.durable_records.specs.SessionOrder.{Allowed}
-use Rattle.local_tables.specs.Rows.{Rows}
 use Rattle.session_log.specs.declared.sessions.SessionEntry.{SessionEntry}
 use Rattle.scenario_form.specs.declared.scenarios.Scenario.{Scenario}
 use Rattle.history_law.proofs.SessionHistory.{both_allowed}
-use Rattle.history_rules.specs.Histories.{Moment, Legal, coordinator_left}
-use Rattle.history_rules.specs.Nodes.{no_past}
-use Rattle.history_rules.specs.Reports.{SessionLine, each}
+use Rattle.history_rules.specs.Histories.{Moment, coordinator_left}
+use Rattle.history_rules.specs.Nodes.{Past}
+use Rattle.history_rules.specs.Reports.{each}
 use Rattle.history_rules.specs.Reports.{report as report_of}
 use Rattle.history_text.specs.declared.entries.Entry.{Entry}
 use Rattle.history_text.specs.Worlds.{world_of}
+use Rattle.report_text.specs.declared.before.Before.{Before}
 use Rattle.report_text.specs.Folds.{FoldedKept}
 use Rattle.report_text.specs.Following.{Follows, FollowsAll}
 use Rattle.report_text.specs.Sections.{line_in}
-use Rattle.report_text.specs.Totals.{Counts, column_sum, history_totals, is_over_entry, is_over_line, listed, totals_kept}
+use Rattle.report_text.specs.Totals.{CountsOver, column_sum, history_totals, is_over_entry, is_over_line, listed, totals_kept}
 use Rattle.report_text.specs.declared.kept.Totals.{Totals}
 use Rattle.report_text.proofs.SectionLaws.{all_locks, all_rows, all_sessions}
 
@@ -48,26 +47,27 @@ over_alike es = over_from 0 es
 
 -- ---- the numbers
 
-module _ (s : Scenario) (f : FoldedKept) (ms : List Moment) (follows : Follows s no_past f ms) where
-  sessions_alike : map line_in f.coordinator.known.sessions ≡ (report_of (world_of s) no_past ms).sessions
-  sessions_alike = all_sessions s no_past f ms follows
+module _ (s : Scenario) (past : Past) (f : FoldedKept) (ms : List Moment) (follows : Follows s past f ms) where
+  sessions_alike : map line_in f.coordinator.known.sessions ≡ (report_of (world_of s) past ms).sessions
+  sessions_alike = all_sessions s past f ms follows
 
-  totals_alike : Allowed (coordinator_left no_past ms).records → totals_kept f.coordinator f.resources ≡ history_totals s ms
+  totals_alike : Allowed (coordinator_left past ms).records → totals_kept f.coordinator f.resources ≡ history_totals s past ms
   unfolding history_totals
   totals_alike a =
-      let r = report_of (world_of s) no_past ms in
+      let r = report_of (world_of s) past ms in
       let begun : length f.coordinator.known.sessions ≡ length r.sessions = sym (length-map f.coordinator.known.sessions line_in) ∙ ap length sessions_alike in
       let ended : count_by is_over_entry f.coordinator.known.sessions ≡ count_by is_over_line r.sessions = over_alike f.coordinator.known.sessions ∙ ap (count_by is_over_line) sessions_alike in
       (λ i. record {
         begun = begun i;
         ended = ended i;
-        money = column_sum (codes "acc") 1 (all_rows s no_past f ms follows i);
-        held = column_sum (codes "stock") 2 (all_rows s no_past f ms follows i);
-        locks = length (all_locks s no_past f ms follows a i);
+        money = column_sum (codes "acc") 1 (all_rows s past f ms follows i);
+        held = column_sum (codes "stock") 2 (all_rows s past f ms follows i);
+        locks = length (all_locks s past f ms follows a i);
       })
 
-pub counts : (s : Scenario) (es : List Entry) (f : FoldedKept) (r : Result Totals NoMemory) → FollowsAll s es f → IfOk r (λ t. t ≡ totals_kept f.coordinator f.resources)
-    → IfOk r (Counts s es)
-counts s es f (Err e) follows is = tt
-counts s es f (Ok t) follows is =
-    λ ms legal same counted. is ∙ totals_alike s f ms (follows ms legal same counted) (both_allowed (world_of s) no_past ms tt legal).stand
+pub counts : (s : Scenario) (before : Before) (es : List Entry) (f : FoldedKept) (r : Result Totals NoMemory) → FollowsAll s before es f
+    → IfOk r (λ t. t ≡ totals_kept f.coordinator f.resources) → IfOk r (CountsOver s before es)
+counts s before es f (Err e) follows is = tt
+counts s before es f (Ok t) follows is =
+    λ past read ms legal same counted.
+    is ∙ totals_alike s past f ms (follows past ms read legal same counted) (both_allowed (world_of s) past ms read.allowed legal).stand

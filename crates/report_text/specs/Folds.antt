@@ -1,13 +1,13 @@
 -- For the proofs alone: what is kept of all nodes, and what one more entry does to it.
-use Rattle.std.specs.Prelude.{ℕ, zero, suc, List, [], ◌∷◌, ◌++◌, length, set, slice_get, Option, Some, None}
+use Rattle.std.specs.Prelude.{ℕ, zero, suc, List, [], ◌++◌, length, map, set, slice_get, Option, Some, None}
 use Rattle.seata_types.specs.declared.ids.Place.{Place}
 use Rattle.seata_types.specs.declared.ids.Place.TheVariants as place
 use Rattle.seata_types.specs.declared.statements.Stmt.{Stmt}
-use Rattle.scenario_form.specs.declared.scenarios.ResourceDef.{ResourceDef}
 use Rattle.scenario_form.specs.declared.scenarios.Scenario.{Scenario}
 use Rattle.history_text.specs.declared.entries.Entry.{Entry}
 use Rattle.history_text.specs.declared.entries.Names.{Names}
-use Rattle.report_text.specs.Keeping.{CoordinatorKept, ResourceKept, none_kept, number_at, session_taken, first_kept, resource_taken, standing}
+use Rattle.report_text.specs.declared.before.Before.{Before}
+use Rattle.report_text.specs.Keeping.{CoordinatorKept, ResourceKept, coordinator_over, number_at, resource_over, resource_taken, session_taken, standing}
 use Rattle.report_text.specs.Made.{session_made, run_for, tries_for}
 use Rattle.report_text.specs.Sections.{reads_text}
 use Rattle.report_text.specs.SentIndex.{Index, delivered_note, with_entry}
@@ -20,13 +20,9 @@ pub record FoldedKept : Type 0 where
   pub sent : Index
   pub reads : List ℕ
 
--- resources from number n on, before the first entry
-abbrev pub first_from : ℕ → List ResourceDef → List ResourceKept
-first_from n [] = []
-first_from n (def ∷ defs) = first_kept n def ∷ first_from (suc n) defs
-
-abbrev pub first_folded : Scenario → FoldedKept
-first_folded s = record { coordinator = none_kept; resources = first_from 1 s.resources; sent = []; reads = [] }
+-- before the first entry
+abbrev pub first_folded : Before → FoldedKept
+first_folded before = record { coordinator = coordinator_over before.sessions; resources = map resource_over before.resources.items; sent = []; reads = [] }
 
 -- ---- one more entry, behind these
 

@@ -1,24 +1,26 @@
 -- For the proofs alone: what is kept of each node, and what one more entry does to it.
-use Rattle.std.specs.Prelude.{ℕ, ◌-◌, ◌^◌, ◌&&◌, nat_lt, Bool, if◌then◌else◌, List, [], ◌∷◌, ◌++◌, Option, Some, None, unwrap_or}
+use Rattle.std.specs.Prelude.{ℕ, ◌-◌, ◌^◌, ◌&&◌, nat_lt, Bool, if◌then◌else◌, List, [], ◌∷◌, Option, Some, None, unwrap_or}
+use Rattle.std.specs.BTreeMap.{insert_entry, is_at}
+use Rattle.std.specs.Map.{lookup}
 use Rattle.std.specs.Option.{option_and_then}
+use Rattle.std.specs.Ordering.{nat_cmp}
 use Rattle.seata_types.specs.declared.acts.Act.{Act}
 use Rattle.seata_types.specs.declared.acts.Act.TheVariants as act
 use Rattle.seata_types.specs.declared.acts.Durable.{Durable}
 use Rattle.seata_types.specs.declared.acts.Durable.TheVariants as durable
 use Rattle.seata_types.specs.declared.ids.Ticket.{Ticket}
 use Rattle.seata_types.specs.declared.statements.Stmt.{Stmt}
-use Rattle.local_tables.specs.Rows.{Database, opened}
+use Rattle.local_tables.specs.Rows.{Database}
 use Rattle.durable_records.specs.declared.coordinators.SessionRecord.{SessionRecord}
 use Rattle.durable_records.specs.declared.coordinators.SessionRecord.TheVariants as session
 use Rattle.durable_records.specs.declared.resources.ResourceRecord.{ResourceRecord}
-use Rattle.scenario_form.specs.declared.scenarios.ResourceDef.{ResourceDef}
-use Rattle.session_log.specs.SnapshotOf.{snapshot_of}
+use Rattle.session_log.specs.declared.sessions.Branch.{Branch}
+use Rattle.session_log.specs.declared.sessions.SessionEntry.{SessionEntry}
 use Rattle.session_log.specs.declared.sessions.Snapshot.{Snapshot}
 use Rattle.session_memory.specs.Changes as sessions
 use Rattle.resource_memory.specs.Changes as resources
-use Rattle.resource_memory.specs.Known.{Known, known_of}
+use Rattle.resource_memory.specs.Known.{Known}
 use Rattle.history_rules.specs.Own.{kept_part}
-use Rattle.history_rules.specs.Nodes.{counted_at}
 use Rattle.history_rules.specs.ResourceMemory.{effect_on, or_empty}
 use Rattle.report_text.specs.Made.{next_boot, resource_made}
 use Rattle.report_text.specs.Opens.{Works, work_at, with_work, without_work}
@@ -30,26 +32,47 @@ has_room acts = nat_lt acts (2 ^ 32 - 1)
 
 -- ---- the coordinator
 
+-- small numbers by the numbers of what they belong to, which rise
+abbrev pub Numbers : Type 0
+Numbers = List (ℕ × ℕ)
+
+-- that of n; 0 where there is none
+abbrev pub number_at : Numbers → ℕ → ℕ
+number_at numbers n = unwrap_or (lookup (is_at (nat_cmp n)) numbers) 0
+
+abbrev pub with_number : Numbers → (n number : ℕ) → Numbers
+with_number numbers n number = insert_entry nat_cmp numbers n number
+
 -- what its records say, the record in flight, the manager of each transaction and the call of each branch
 pub record CoordinatorKept : Type 0 where
   pub known : Snapshot
   pub flight : Option SessionRecord
-  pub managers : List ℕ
-  pub calls : List ℕ
+  pub managers : Numbers
+  pub calls : Numbers
 
-abbrev pub none_kept : CoordinatorKept
-none_kept = record { known = snapshot_of []; flight = None; managers = []; calls = [] }
+-- with the managers of transactions that are known, and the calls of their branches
+abbrev pub managers_among : List SessionEntry → Numbers → Numbers
+managers_among [] managers = managers
+managers_among (e ∷ es) managers = managers_among es (with_number managers e.xid.0 e.session.manager)
 
--- the one of a number that is counted from 1; 0 where there is none
-abbrev pub number_at : List ℕ → ℕ → ℕ
-number_at numbers n = unwrap_or (counted_at numbers n) 0
+abbrev pub calls_of_branches : List Branch → Numbers → Numbers
+calls_of_branches [] calls = calls
+calls_of_branches (b ∷ bs) calls = calls_of_branches bs (with_number calls b.id.0 b.place.call)
 
-abbrev pub with_manager : SessionRecord → List ℕ → List ℕ
-with_manager (session.Begun xid manager begun timeout) managers = managers ++ manager ∷ []
+abbrev pub calls_among : List SessionEntry → Numbers → Numbers
+calls_among [] calls = calls
+calls_among (e ∷ es) calls = calls_among es (calls_of_branches e.session.branches calls)
+
+-- before the first entry, over what the coordinator's disks held
+abbrev pub coordinator_over : Snapshot → CoordinatorKept
+coordinator_over s = record { known = s; flight = None; managers = managers_among s.sessions []; calls = calls_among s.sessions [] }
+
+abbrev pub with_manager : SessionRecord → Numbers → Numbers
+with_manager (session.Begun xid manager begun timeout) managers = with_number managers xid.0 manager
 with_manager _ managers = managers
 
-abbrev pub with_call : SessionRecord → List ℕ → List ℕ
-with_call (session.Granted xid branch resource call ticket kind hold) calls = calls ++ call ∷ []
+abbrev pub with_call : SessionRecord → Numbers → Numbers
+with_call (session.Granted xid branch resource call ticket kind hold) calls = with_number calls branch.0 call
 with_call _ calls = calls
 
 abbrev pub may_stand : CoordinatorKept → SessionRecord → Bool
@@ -100,9 +123,9 @@ with_record (Some r) k = record k { known = known_with r k.known }
 abbrev pub booted : ResourceKept → ResourceKept
 booted k = record k { known = known_with (next_boot k.known) k.known }
 
--- before the first entry: one boot over the opening rows
-abbrev pub first_kept : ℕ → ResourceDef → ResourceKept
-first_kept n def = booted (record { known = known_of (opened n def.schema def.opening) []; flight = None; works = [] })
+-- before the first entry: one boot over what the resource's disks held
+abbrev pub resource_over : Known → ResourceKept
+resource_over known = booted (record { known = known; flight = None; works = [] })
 
 abbrev pub landed : Option Durable → ResourceKept → ResourceKept
 landed kept k = with_record (kept_part kept k.flight) (record k { flight = None })

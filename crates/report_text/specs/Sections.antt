@@ -14,11 +14,15 @@ use Rattle.lock_table.specs.Locks.{locks}
 use Rattle.session_log.specs.SnapshotOf.{snapshot_of}
 use Rattle.session_log.specs.declared.sessions.SessionEntry.{SessionEntry}
 use Rattle.session_memory.specs.Holding.{held_in}
+use Rattle.scenario_form.specs.declared.scenarios.Scenario.{Scenario}
+use Rattle.history_rules.specs.Nodes.{Past}
 use Rattle.history_rules.specs.Reports.{SessionLine, each, reads_in}
+use Rattle.history_rules.specs.Reports.{report as report_of}
 use Rattle.history_text.specs.declared.entries.Entry.{Entry}
 use Rattle.history_text.specs.declared.entries.Names.{Names}
 use Rattle.history_text.specs.Lines.{entry_text}
-use Rattle.history_text.specs.Report.{line, lines, session_text, holder_text, table_row_text, fence_text, read_text}
+use Rattle.history_text.specs.Report.{line, lines, names_of, session_text, holder_text, table_row_text, fence_text, read_text}
+use Rattle.history_text.specs.Worlds.{world_of}
 use Rattle.report_text.specs.Keeping.{CoordinatorKept, ResourceKept}
 
 -- ---- sessions and locks
@@ -69,12 +73,22 @@ reads_text names r = lines (read_text names) (reads_in r)
 
 -- ---- the text
 
--- the sections after the entries, with the lines of the reads
+-- the sections of what stands: transactions, held rows, tables and fences, and behind them the rest of a text
+abbrev pub state_text : Names → List SessionLine → List (RowKey × ℕ) → Rows → List (ℕ × ((ℕ × ℕ) × Fence)) → (rest : List ℕ) → List ℕ
+state_text names sessions held rows fences rest =
+    line (codes "sessions") ++ (lines (session_text names) sessions ++ (line (codes "locks") ++ (lines (holder_text names) held ++
+    (line (codes "tables") ++ (lines (table_row_text names) rows ++ (line (codes "fences") ++ (lines (fence_text names) fences ++ rest)))))))
+
+-- those of a scenario whose disks hold these records: what the report has of them before the first entry
+unfoldable pub shown_text : Scenario → Past → List ℕ
+shown_text s past = let r = report_of (world_of s) past [] in state_text (names_of s) r.sessions r.locks r.tables r.fences []
+
+-- for the proofs alone: those of what was kept, and with the lines of the reads
+abbrev pub state_kept : Names → CoordinatorKept → List ResourceKept → (rest : List ℕ) → List ℕ
+state_kept names k ks rest = state_text names (map line_in k.known.sessions) (locks_in k) (rows_kept ks) (fences_kept ks) rest
+
 abbrev pub sections_kept : Names → CoordinatorKept → List ResourceKept → (reads : List ℕ) → List ℕ
-sections_kept names k ks reads =
-    line (codes "sessions") ++ (lines (session_text names) (map line_in k.known.sessions) ++ (line (codes "locks") ++ (lines (holder_text names) (locks_in k) ++
-    (line (codes "tables") ++ (lines (table_row_text names) (rows_kept ks) ++ (line (codes "fences") ++ (lines (fence_text names) (fences_kept ks) ++
-    (line (codes "reads") ++ reads))))))))
+sections_kept names k ks reads = state_kept names k ks (line (codes "reads") ++ reads)
 
 -- the report of what was kept of a history with these entries
 unfoldable pub text_kept : Names → List Entry → CoordinatorKept → List ResourceKept → (reads : List ℕ) → List ℕ

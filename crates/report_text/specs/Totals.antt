@@ -10,14 +10,15 @@ use Rattle.seata_types.specs.declared.statuses.GlobalStatus.TheVariants as statu
 use Rattle.local_tables.specs.Rows.{Rows}
 use Rattle.session_log.specs.declared.sessions.SessionEntry.{SessionEntry}
 use Rattle.scenario_form.specs.declared.scenarios.Scenario.{Scenario}
-use Rattle.history_rules.specs.Nodes.{no_past}
+use Rattle.history_rules.specs.Nodes.{Past}
 use Rattle.history_rules.specs.Histories.{Moment, Legal}
 use Rattle.history_rules.specs.Reports.{Report, SessionLine, each}
 use Rattle.history_rules.specs.Reports.{report as report_of}
 use Rattle.history_text.specs.declared.entries.Entry.{Entry}
 use Rattle.history_text.specs.History.{entries}
 use Rattle.history_text.specs.Worlds.{world_of}
-use Rattle.report_text.specs.Following.{AreCounted}
+use Rattle.report_text.specs.declared.before.Before.{Before}
+use Rattle.report_text.specs.Following.{AreCounted, IsRead}
 use Rattle.report_text.specs.Keeping.{CoordinatorKept, ResourceKept}
 use Rattle.report_text.specs.Sections.{locks_in, rows_kept}
 use Rattle.report_text.specs.declared.kept.Totals.{Totals}
@@ -78,9 +79,9 @@ totals_of r = record {
   locks = length r.locks;
 }
 
--- of a history of a scenario, on disks without records
-unfoldable pub history_totals : Scenario → List Moment → Totals
-history_totals s ms = totals_of (report_of (world_of s) no_past ms)
+-- of a history of a scenario, over the records that its disks had before
+unfoldable pub history_totals : Scenario → Past → List Moment → Totals
+history_totals s past ms = totals_of (report_of (world_of s) past ms)
 
 -- for the proofs alone: of what was kept of one
 abbrev pub totals_kept : CoordinatorKept → List ResourceKept → Totals
@@ -92,6 +93,10 @@ totals_kept k ks = record {
   locks = length (locks_in k);
 }
 
--- these are the numbers of each legal history of a scenario that has these entries, on disks without records
-abbrev pub Counts : Scenario → List Entry → Totals → Type 0
-Counts s es t = (ms : List Moment) → Legal (world_of s) no_past ms → entries ms ≡ es → AreCounted es → t ≡ history_totals s ms
+-- these are the numbers of each legal history of a scenario that has these entries, over these records
+abbrev pub Counts : Scenario → Past → List Entry → Totals → Type 0
+Counts s past es t = (ms : List Moment) → Legal (world_of s) past ms → entries ms ≡ es → AreCounted s past es → t ≡ history_totals s past ms
+
+-- said of whatever the disks held that was read
+abbrev pub CountsOver : Scenario → Before → List Entry → Totals → Type 0
+CountsOver s before es t = (past : Past) → IsRead s before past → Counts s past es t

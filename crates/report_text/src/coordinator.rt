@@ -1,13 +1,15 @@
 //! One more entry of the coordinator.
 ghost use Rattle.std.specs.Prelude.{◌≡◌, ◌<◌, ◌+◌, ◌^◌, true, IfOk, OnOk, OnErr};
 ghost use Rattle.std.specs.Option.{option_copied, option_and_then};
+ghost use Rattle.report_text.specs.Keeping.{managers_among, calls_among, calls_of_branches};
 ghost use Rattle.report_text.specs.Made.{sending_resource, begun_from, granted_from, session_made};
 
 use crate::left::CoordinatorLeft;
-use crate::scenarios::counted;
+use crate::numbers::Numbers;
 use durable_records::SessionRecord;
 use history_text::{Cause, Entry, Note};
 use seata_types::{Act, BranchId, Decision, Duplicate, Durable, NoMemory, Place, Xid};
+use session_log::{Branch, SessionEntry};
 use session_memory::Memory;
 use session_memory::uncounted::{allows, apply};
 use std::alloc::Global;
@@ -17,36 +19,36 @@ impl CoordinatorLeft {
     ghost use Rattle.std.specs.Prelude.{◌≡◌, OnOk, IfOk};
     ghost use Rattle.std.specs.Option.{option_copied};
     ghost use Rattle.report_text.specs.Made.{session_made};
-    ghost use Rattle.report_text.specs.Keeping.{none_kept, number_at, with_session, with_sessions, settled, with_flight, session_taken, with_manager, with_call};
+    ghost use Rattle.report_text.specs.Keeping.{coordinator_over, number_at, with_session, with_sessions, settled, with_flight, session_taken, with_manager, with_call};
 
-    /// Before the first entry, on disks without records; takes no memory.
-    pub(crate) fn new(alloc: Global) -> CoordinatorLeft
-        ensures { result ≡ none_kept }
+    /// Before the first entry, over what the coordinator's disks held.
+    pub(crate) fn over(alloc: Global, memory: Memory) -> Result<CoordinatorLeft, NoMemory>
+        ensures { IfOk result (λ left. left ≡ coordinator_over memory) }
     {
-        CoordinatorLeft {
-            memory: Memory::new(alloc),
+        let mut managers = Numbers::new(alloc);
+        let mut calls = Numbers::new(alloc);
+        note_managers(&mut managers, memory.snapshot().sessions.as_slice())?;
+        note_calls(&mut calls, memory.snapshot().sessions.as_slice())?;
+        Ok(CoordinatorLeft {
+            memory,
             flight: None,
-            managers: Vec::new(alloc),
-            calls: Vec::new(alloc),
-        }
+            managers,
+            calls,
+        })
     }
 
-    /// The manager that began a transaction, 0 where it never began; takes no memory.
+    /// The manager that began a transaction, 0 where none is kept; takes no memory.
     pub(crate) fn manager(&self, xid: Xid) -> u16
         ensures { result ≡ number_at self.now.managers xid.0 }
     {
-        counted(self.managers.as_slice(), xid.0)
-            .copied()
-            .unwrap_or(0)
+        self.managers.at(xid.0)
     }
 
-    /// The call that a branch was granted for, 0 where it never was; takes no memory.
+    /// The call that a branch was granted for, 0 where none is kept; takes no memory.
     pub(crate) fn call(&self, branch: BranchId) -> u16
         ensures { result ≡ number_at self.now.calls branch.0 }
     {
-        counted(self.calls.as_slice(), branch.0)
-            .copied()
-            .unwrap_or(0)
+        self.calls.at(branch.0)
     }
 
     /// The next entry, with the note of the message that it took.
@@ -127,17 +129,41 @@ impl CoordinatorLeft {
         ensures flight { self.new.flight ≡ self.old.flight }
     {
         match item {
-            SessionRecord::Begun { manager, .. } => {
-                self.managers.push(*manager)?;
-                Ok(())
-            }
-            SessionRecord::Granted { call, .. } => {
-                self.calls.push(*call)?;
-                Ok(())
-            }
+            SessionRecord::Begun { xid, manager, .. } => self.managers.add(xid.0, *manager),
+            SessionRecord::Granted { branch, call, .. } => self.calls.add(branch.0, *call),
             _ => Ok(()),
         }
     }
+}
+
+// The managers of transactions that are known.
+fn note_managers(managers: &mut Numbers, sessions: &[SessionEntry]) -> Result<(), NoMemory>
+    ensures { OnOk result (managers.new ≡ managers_among sessions.now managers.old) }
+{
+    for entry in sessions {
+        managers.add(entry.xid.0, entry.session.manager)?;
+    }
+    Ok(())
+}
+
+// The calls of their branches.
+fn note_calls(calls: &mut Numbers, sessions: &[SessionEntry]) -> Result<(), NoMemory>
+    ensures { OnOk result (calls.new ≡ calls_among sessions.now calls.old) }
+{
+    for entry in sessions {
+        note_branches(calls, entry.session.branches.as_slice())?;
+    }
+    Ok(())
+}
+
+// The calls of these branches.
+fn note_branches(calls: &mut Numbers, branches: &[Branch]) -> Result<(), NoMemory>
+    ensures { OnOk result (calls.new ≡ calls_of_branches branches.now calls.old) }
+{
+    for branch in branches {
+        calls.add(branch.id.0, branch.place.call)?;
+    }
+    Ok(())
 }
 
 // The resource that sent the message that a cause delivers.

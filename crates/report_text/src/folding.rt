@@ -1,18 +1,18 @@
 //! The entries of a history, one after the other.
-ghost use Rattle.std.specs.Prelude.{◌≡◌, ◌<◌, ◌^◌, length, All, IfOk};
+ghost use Rattle.std.specs.Prelude.{◌≡◌, map, IfOk};
 ghost use Rattle.std.specs.Option.{option_copied};
-ghost use Rattle.scenario_form.specs.Contents.{IsResource};
 ghost use Rattle.scenario_form.specs.Runnable.{IsRunnable};
-ghost use Rattle.report_text.specs.Folds.{first_from};
-ghost use Rattle.report_text.specs.Keeping.{number_at};
+ghost use Rattle.report_text.specs.Keeping.{number_at, resource_over};
 ghost use Rattle.report_text.specs.Made.{sending_manager, run_by, run_for, tries_for};
 ghost use Rattle.report_text.specs.Numbered.{AreFound};
 
+use crate::before::Before;
 use crate::left::{CoordinatorLeft, Folded, ResourceLeft};
 use crate::scenarios;
 use crate::sent::SentIndex;
 use history_text::{Cause, Entry, Names};
-use scenario_form::{ResourceDef, Scenario};
+use resource_memory::Memory;
+use scenario_form::Scenario;
 use seata_types::{Act, Durable, List, NoMemory, Place, Stmt};
 use std::alloc::Global;
 
@@ -23,32 +23,37 @@ impl Folded {
     ghost use Rattle.report_text.specs.Folds.{first_folded, session_step, resource_step, entry_step};
     ghost use Rattle.report_text.specs.Following.{FollowsAll};
 
-    /// What the entries of a history leave, from the first to the last, on disks without records.
+    /// What the entries of a history leave, from the first to the last, over what its disks held.
     pub(crate) fn of_history(
         alloc: Global,
         scenario: &Scenario,
         names: &Names,
+        before: Before,
         history: &[Entry],
     ) -> Result<Folded, NoMemory>
         requires runnable { IsRunnable scenario.now }
         requires names { names.now ≡ names_of scenario.now }
-        ensures { IfOk result (FollowsAll scenario.now history.now) }
+        ensures { IfOk result (FollowsAll scenario.now before history.now) }
     {
-        let mut folded = Folded::new(alloc, scenario)?;
+        let mut folded = Folded::over(alloc, before)?;
         for (k, next) in history.iter().enumerate() {
             folded.take(alloc, scenario, names, &history[..k], next)?;
         }
         Ok(folded)
     }
 
-    // Before the first entry.
-    fn new(alloc: Global, scenario: &Scenario) -> Result<Folded, NoMemory>
-        requires { IsRunnable scenario.now }
-        ensures { IfOk result (λ folded. folded ≡ first_folded scenario.now) }
+    /// Before the first entry.
+    pub(crate) fn over(alloc: Global, before: Before) -> Result<Folded, NoMemory>
+        ensures { IfOk result (λ folded. folded ≡ first_folded before) }
     {
-        let resources = new_resources(alloc, scenario.resources.as_slice())?;
+        let Before {
+            sessions,
+            resources,
+        } = before;
+        let coordinator = CoordinatorLeft::over(alloc, sessions)?;
+        let resources = over_all(alloc, resources)?;
         Ok(Folded {
-            coordinator: CoordinatorLeft::new(alloc),
+            coordinator,
             resources,
             sent: SentIndex::new(alloc),
             reads: String::new(alloc),
@@ -111,15 +116,13 @@ impl Folded {
     }
 }
 
-// Resources before the first entry, counted from 1.
-fn new_resources(alloc: Global, defs: &[ResourceDef]) -> Result<Vec<ResourceLeft>, NoMemory>
-    requires each { All IsResource defs.now }
-    requires few { length defs.now < 2 ^ 16 }
-    ensures { IfOk result (λ made. made.items ≡ first_from 1 defs.now) }
+// Resources before the first entry.
+fn over_all(alloc: Global, memories: Vec<Memory>) -> Result<Vec<ResourceLeft>, NoMemory>
+    ensures { IfOk result (λ made. made.items ≡ map resource_over memories.items) }
 {
     let mut made = Vec::new(alloc);
-    for (k, def) in defs.iter().enumerate() {
-        let resource = ResourceLeft::new(alloc, k as u16 + 1, def)?;
+    for memory in memories {
+        let resource = ResourceLeft::over(alloc, memory)?;
         made.push(resource)?;
     }
     Ok(made)

@@ -1,4 +1,5 @@
 //! What the entries of a history leave.
+use crate::numbers::Numbers;
 use crate::open_works::OpenWorks;
 use crate::sent::SentIndex;
 use durable_records::{ResourceRecord, SessionRecord};
@@ -7,14 +8,14 @@ use session_memory::Memory as SessionMemory;
 use std::marker::Model;
 
 /// What the coordinator's entries leave: what its records say, the record in flight while it is down, and the manager of
-/// each transaction and the call of each branch, in the order in which they were numbered, from 1 on. A branch's call is
-/// asked for also once its transaction is forgotten.
+/// each transaction and the call of each branch, but of those that were forgotten before the history. They are asked for also
+/// once a transaction is forgotten.
 #[derive(Drop)]
 pub(crate) struct CoordinatorLeft {
     pub memory: SessionMemory,
     pub flight: Option<SessionRecord>,
-    pub managers: Vec<u16>,
-    pub calls: Vec<u16>,
+    pub managers: Numbers,
+    pub calls: Numbers,
 }
 
 impl Model for CoordinatorLeft {
@@ -22,7 +23,7 @@ impl Model for CoordinatorLeft {
 
     ghost Value = { CoordinatorKept };
 
-    ghost view = { λ c. record { known = c.memory; flight = c.flight; managers = c.managers.items; calls = c.calls.items } };
+    ghost view = { λ c. record { known = c.memory; flight = c.flight; managers = c.managers; calls = c.calls } };
 }
 
 /// What a resource's entries leave: what its records say, the record in flight while it is down, and the open tickets.

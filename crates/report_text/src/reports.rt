@@ -1,11 +1,13 @@
-//! The report of a history.
-ghost use Rattle.std.specs.Prelude.{◌≡◌, ◌++◌, codes, map, IfOk, OnOk, string_bytes};
+//! The report of a history, and what is shown of disks.
+ghost use Rattle.std.specs.Prelude.{◌≡◌, [], ◌++◌, codes, map, IfOk, OnOk, string_bytes};
 ghost use Rattle.scenario_form.specs.Runnable.{IsRunnable};
 ghost use Rattle.history_text.specs.Lines.{entry_text};
 ghost use Rattle.history_text.specs.Report as report;
-ghost use Rattle.report_text.specs.Following.{Reports};
-ghost use Rattle.report_text.specs.Sections.{line_in, locks_in, rows_in, rows_kept, fences_in, fences_kept, text_kept};
+ghost use Rattle.history_rules.specs.Nodes.{Past};
+ghost use Rattle.report_text.specs.Following.{IsRead, Reports};
+ghost use Rattle.report_text.specs.Sections.{line_in, locks_in, rows_in, rows_kept, fences_in, fences_kept, shown_text, state_kept, text_kept};
 
+use crate::before::Before;
 use crate::left::{CoordinatorLeft, Folded, ResourceLeft};
 use crate::sections;
 use history_text::{Entry, Names};
@@ -166,6 +168,23 @@ fn put_fences(
     Ok(())
 }
 
+/// The sections of what stands: transactions, rows that are held, tables and fences.
+fn put_state(
+    alloc: Global,
+    out: &mut String,
+    folded: &Folded,
+    names: &Names,
+) -> Result<(), NoMemory>
+    ensures { OnOk result (string_bytes out.new ≡ string_bytes out.old ++ state_kept names.now folded.now.coordinator folded.now.resources []) }
+{
+    let resources = folded.resources.as_slice();
+    put_sessions(out, &folded.coordinator, names)?;
+    put_locks(alloc, out, &folded.coordinator, names)?;
+    put_tables(alloc, out, resources, names)?;
+    put_fences(alloc, out, resources, names)?;
+    Ok(())
+}
+
 /// The text of a report.
 #[tactic(auto, unfolding(crate::specs::Sections::text_kept))]
 fn put_report(
@@ -177,32 +196,45 @@ fn put_report(
 ) -> Result<(), NoMemory>
     ensures { OnOk result (string_bytes out.new ≡ string_bytes out.old ++ text_kept names.now history.now folded.now.coordinator folded.now.resources folded.now.reads) }
 {
-    let resources = folded.resources.as_slice();
     put_entries(out, history, names)?;
-    put_sessions(out, &folded.coordinator, names)?;
-    put_locks(alloc, out, &folded.coordinator, names)?;
-    put_tables(alloc, out, resources, names)?;
-    put_fences(alloc, out, resources, names)?;
+    put_state(alloc, out, folded, names)?;
     put(out, "reads\n")?;
     put(out, folded.reads.as_str())?;
     Ok(())
 }
 
-/// The report of a history, from its scenario and its entries alone, on disks without records: the entries in order; the
+/// The report of a history, from its scenario, what its disks held before and its entries alone: the entries in order; the
 /// transactions that are known, with their statuses; the rows that are held; the rows of all tables; the branches that have a
 /// fence; and the rows that local commits read. An act in flight of a node that is down counts once a restart has kept it.
 pub fn write_report(
     alloc: Global,
     scenario: &Scenario,
+    before: Before,
     history: &[Entry],
 ) -> Result<String, NoMemory>
     requires { IsRunnable scenario.now }
-    ensures { IfOk result (λ text. Reports scenario.now history.now (string_bytes text)) }
+    ensures { IfOk result (λ text. (past : Past) → IsRead scenario.now before past →
+        Reports scenario.now past history.now (string_bytes text)) }
 {
     let names = node_names(alloc, scenario)?;
-    let folded = Folded::of_history(alloc, scenario, &names, history)?;
+    let folded = Folded::of_history(alloc, scenario, &names, before, history)?;
     let mut out = String::new(alloc);
     match put_report(alloc, &mut out, history, &folded, &names) {
+        Ok(()) => Ok(out),
+        Err(NoMemory) => Err(NoMemory),
+    }
+}
+
+/// What the disks of a scenario's nodes hold, from its scenario and what was read of them alone: the transactions that are
+/// known, with their statuses; the rows that are held; the rows of all tables; and the branches that have a fence.
+pub fn write_state(alloc: Global, scenario: &Scenario, before: Before) -> Result<String, NoMemory>
+    ensures { IfOk result (λ text. (past : Past) → IsRead scenario.now before past →
+        string_bytes text ≡ shown_text scenario.now past) }
+{
+    let names = node_names(alloc, scenario)?;
+    let folded = Folded::over(alloc, before)?;
+    let mut out = String::new(alloc);
+    match put_state(alloc, &mut out, &folded, &names) {
         Ok(()) => Ok(out),
         Err(NoMemory) => Err(NoMemory),
     }

@@ -13,7 +13,6 @@ use durable_records::ResourceRecord;
 use history_text::{Entry, Names};
 use local_tables::Effect;
 use resource_memory::Memory;
-use scenario_form::ResourceDef;
 use seata_types::{Act, Duplicate, Durable, List, NoMemory, Stmt, Ticket};
 use std::alloc::{AllocError, Global};
 use std::mem;
@@ -21,25 +20,16 @@ use std::mem;
 impl ResourceLeft {
     ghost use Rattle.std.specs.Prelude.{◌≡◌, ◌++◌, IfOk, OnOk, None, string_bytes};
     ghost use Rattle.std.specs.Option.{option_copied, option_and_then};
-    ghost use Rattle.local_tables.specs.Rows.{IsOpening};
     ghost use Rattle.history_rules.specs.Own.{kept_part};
     ghost use Rattle.report_text.specs.Made.{next_boot};
     ghost use Rattle.report_text.specs.Numbered.{AreFew};
     ghost use Rattle.report_text.specs.Sections.{reads_text};
-    ghost use Rattle.report_text.specs.Keeping.{first_kept, with_record, booted, landed, less_open, asked_now, with_open, less_work, fallen, resource_taken, standing};
+    ghost use Rattle.report_text.specs.Keeping.{resource_over, with_record, booted, landed, less_open, asked_now, with_open, less_work, fallen, resource_taken, standing};
 
-    /// Before the first entry: a boot over the opening rows.
-    pub(crate) fn new(
-        alloc: Global,
-        number: u16,
-        def: &ResourceDef,
-    ) -> Result<ResourceLeft, NoMemory>
-        requires { IsOpening number def.now.schema def.now.opening }
-        ensures { IfOk result (λ made. made ≡ first_kept number def.now) }
+    /// Before the first entry: a boot over what the resource's disks held.
+    pub(crate) fn over(alloc: Global, memory: Memory) -> Result<ResourceLeft, NoMemory>
+        ensures { IfOk result (λ made. made ≡ resource_over memory) }
     {
-        let schema = def.schema.copy(alloc)?;
-        let opening = def.opening.copy(alloc)?;
-        let memory = Memory::new(alloc, number, schema, opening)?;
         let mut made = ResourceLeft {
             memory,
             flight: None,

@@ -4,8 +4,9 @@ ghost use Rattle.seata_types.specs.Orders.{same_text};
 ghost use Rattle.local_tables.specs.Rows.{is_in};
 ghost use Rattle.scenario_form.specs.Runnable.{IsRunnable};
 ghost use Rattle.report_text.specs.Sections.{rows_in, rows_kept, rows_of_tables};
-ghost use Rattle.report_text.specs.Totals.{Counts, is_over, is_over_entry, number_at, number_in, numbers_in, totals_kept};
+ghost use Rattle.report_text.specs.Totals.{CountsOver, is_over, is_over_entry, number_at, number_in, numbers_in, totals_kept};
 
+use crate::before::Before;
 use crate::kept::Totals;
 use crate::left::{Folded, ResourceLeft};
 use crate::reports::node_names;
@@ -187,17 +188,18 @@ fn totals_of(alloc: Global, folded: &Folded) -> Result<Totals, NoMemory>
     })
 }
 
-/// The numbers of what stands after a history, from its scenario and its entries alone, on disks without records.
+/// The numbers of what stands after a history, from its scenario, what its disks held before and its entries alone.
 pub fn count_history(
     alloc: Global,
     scenario: &Scenario,
+    before: Before,
     history: &[Entry],
 ) -> Result<Totals, NoMemory>
     requires { IsRunnable scenario.now }
-    ensures { IfOk result (Counts scenario.now history.now) }
+    ensures { IfOk result (CountsOver scenario.now before history.now) }
 {
     let names = node_names(alloc, scenario)?;
-    let folded = Folded::of_history(alloc, scenario, &names, history)?;
+    let folded = Folded::of_history(alloc, scenario, &names, before, history)?;
     let totals = totals_of(alloc, &folded);
     drop(folded);
     totals

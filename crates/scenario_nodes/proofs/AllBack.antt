@@ -23,11 +23,11 @@ pub of_at : (before behind : List Server) (v : Server) (n : List ℕ) → IsDisk
 of_at [] behind v n named = inl named
 of_at (u ∷ before) behind v n named = inr (of_at before behind v n named)
 
-of_after : (before behind : List Server) (v : Server) (n : List ℕ) → IsOfOne (map name_of behind) n → IsOfOne (map name_of (before ++ v ∷ behind)) n
+pub of_after : (before behind : List Server) (v : Server) (n : List ℕ) → IsOfOne (map name_of behind) n → IsOfOne (map name_of (before ++ v ∷ behind)) n
 of_after [] behind v n o = inr o
 of_after (u ∷ before) behind v n o = inr (of_after before behind v n o)
 
-of_before : (before others : List Server) (n : List ℕ) → IsOfOne (map name_of before) n → IsOfOne (map name_of (before ++ others)) n
+pub of_before : (before others : List Server) (n : List ℕ) → IsOfOne (map name_of before) n → IsOfOne (map name_of (before ++ others)) n
 of_before before others n o = subst (λ (names : List (List ℕ)). IsOfOne names n) (sym (map-append name_of before others)) (of_front (map name_of before) (map name_of others) n o)
 
 -- ---- given back
@@ -110,7 +110,7 @@ module _ {D : Type 0} where
 
   -- ---- behind others that were opened, and were closed
 
-  fault_wider : (at : Place) (old now mid new : ShelfState D) (missed : RunFault) → old.faults ≤ now.faults → mid.faults ≤ new.faults → IsShelfFault at now mid missed → IsShelfFault at old new missed
+  pub fault_wider : (at : Place) (old now mid new : ShelfState D) (missed : RunFault) → old.faults ≤ now.faults → mid.faults ≤ new.faults → IsShelfFault at now mid missed → IsShelfFault at old new missed
   fault_wider at old now mid new (fault.Store place) before after (same, rose) = (same, omega (arith, rose, before, after))
   fault_wider at old now mid new fault.NoMemory before after cause = tt
   fault_wider at old now mid new (fault.Full place full) before after cause = absurd cause

@@ -110,3 +110,24 @@ servers_apart s runs = (
   apart_from coordinator_name (map resource_name s.resources) refl (names_plain s.resources runs.resources) (none_coordinator s.resources runs.resources),
   names_apart (map resource_name s.resources) (map manager_name s.managers) (names_plain s.resources runs.resources) runs.different,
 )
+
+-- ---- the disk of the scenario's text
+
+not_net : (name : List ℕ) → is_node_name name ≡ true → codes "net" ≢ name
+unfolding is_node_name
+not_net name e same =
+    let tests = and_right (is_word name) (not (same_text name (codes "tc")) && not (same_text name (codes "net"))) e in
+    let differs : same_text name (codes "net") ≡ false = not_true (same_text name (codes "net")) (and_right (not (same_text name (codes "tc"))) (not (same_text name (codes "net"))) tests) in
+    false≢true (sym differs ∙ ap (same_text name) same ∙ same_text_itself name)
+
+none_net : (defs : List ResourceDef) → All IsResource defs → AllByRecursion (λ y. codes "net" ≢ y) (map resource_name defs)
+none_net [] all = tt
+none_net (def ∷ defs) all = (not_net def.name (All-head IsResource def defs all).name.form, none_net defs (All-tail IsResource def defs all))
+
+net_not_coordinator : codes "net" ≢ coordinator_name
+net_not_coordinator e = cc
+
+-- `net` is the name of no disk of a node
+pub net_apart : (s : Scenario) → IsRunnable s → (n : List ℕ) → IsDiskName (codes "net") n → ¬ IsOfOne (coordinator_name ∷ map resource_name s.resources) n
+net_apart s runs =
+    apart_from (codes "net") (coordinator_name ∷ map resource_name s.resources) refl (refl, names_plain s.resources runs.resources) (net_not_coordinator, none_net s.resources runs.resources)

@@ -1,7 +1,7 @@
 pub mod AllBack
 mod AllLoaded
 mod AllStarted
-mod Apart
+pub mod Apart
 mod Closing
 mod Cut
 mod Framable
@@ -15,6 +15,10 @@ pub mod Numbered
 mod OpenedCoordinator
 mod OpenedResource
 mod Passes
+mod ReadStill
+mod ReadStores
+mod ReadNode
+pub mod ReadAll
 mod ReadParts
 mod SetupWithin
 mod Tables

@@ -4,3 +4,4 @@ pub mod Nodes
 pub mod Opening
 pub mod Shelves
 pub mod Together
+pub mod Reading

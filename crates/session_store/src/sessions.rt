@@ -253,6 +253,15 @@ impl<D: Disk> Sessions<D> {
         self.store.active_mut()
     }
 
+    /// What it knows, and the two disks, in their order.
+    pub fn into_parts(self) -> (Memory, D, D)
+        ensures memory { result.0 ≡ known self }
+        ensures first { result.1 ≡ first_disk (twin self) }
+        ensures second { result.2 ≡ second_disk (twin self) }
+    {
+        self.store.into_parts()
+    }
+
     /// The two disks, in their order.
     pub fn into_disks(self) -> (D, D)
         ensures { result ≡ (first_disk (twin self), second_disk (twin self)) }

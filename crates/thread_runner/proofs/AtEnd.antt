@@ -43,7 +43,7 @@ use Rattle.node_seat.specs.declared.faults.RunFault.{RunFault}
 use Rattle.node_seat.specs.declared.faults.RunFault.TheVariants as fault
 use Rattle.scenario_nodes.specs.Nodes.{HaveSize, Held, coordinator_disks, resource_disks}
 use Rattle.scenario_nodes.specs.Shelves.{pair_of}
-use Rattle.replay_runner.specs.Leaving.{AreLeft, CountsFailure, HavePlaces, HaveSizes, disks_in, nth_pair}
+use Rattle.replay_runner.specs.Leaving.{AllOpenAgain, AreLeft, CountsFailure, HavePlaces, HaveSizes, OpensAgain, disks_in, nth_pair}
 use Rattle.replay_runner.proofs.Lists.{member_at}
 use Rattle.replay_runner.proofs.Safe.{run_is_safe}
 use Rattle.replay_runner.proofs.Shown.{nth_map}
@@ -214,6 +214,9 @@ module _ {D : Type 0} (state : D → DiskState) (s : Scenario) (held : Held) (ru
     device : (p : Place) (role : Role) → role_at (world_of s) held.past p ≡ Some role → AreNodeDisks role (own p history) (disks_in pairs p)
     device p role known = at_place (λ q os. AreNodeDisks role os (disks_in pairs q)) p role known (λ e l i sh k. sh.device role k)
 
+    opens : AllOpenAgain s held history pairs
+    opens p role known = at_place (λ q os. OpensAgain role os (disks_in pairs q)) p role known (λ e l i sh k. sh.opens role k)
+
     places : HavePlaces s held history
     places = all_fit s held history (λ p role known. at_place (λ q os. HadPlaces role (held.starts q) s.disk os) p role known (λ e l i sh k. sh.places role k))
 
@@ -270,6 +273,7 @@ module _ {D : Type 0} (state : D → DiskState) (s : Scenario) (held : Held) (ru
       fits = places;
       count = count;
       device = device;
+      opens = opens;
       sized = sized;
       cause = cause;
     }
@@ -324,5 +328,6 @@ module _ {D : Type 0} (state : D → DiskState) (s : Scenario) (held : Held) (ru
         fits = places;
         laid = λ p role known. at_place (λ q os. AreLaid role (held.starts q) s.disk os (disks_in pairs q)) p role known (λ e l i sh k. sh.laid (calm e i) role k);
         device = λ p role known. at_place (λ q os. AreLeft role os (disks_in pairs q)) p role known (λ e l i sh k. sh.left (calm e i) role k);
+        opens = opens;
         sized = sized;
       }

@@ -36,10 +36,10 @@ use Rattle.node_seat.specs.declared.faults.RunFault.{RunFault}
 use Rattle.node_seat.specs.declared.faults.RunFault.TheVariants as fault
 use Rattle.scenario_nodes.specs.Nodes.{HaveSize, Held, coordinator_disks, resource_disks}
 use Rattle.scenario_nodes.specs.Shelves.{pair_of}
-use Rattle.replay_runner.specs.Leaving.{AreLeft}
+use Rattle.replay_runner.specs.Leaving.{AreLeft, OpensAgain}
 use Rattle.replay_runner.proofs.Blamed.{blames_alike}
 use Rattle.replay_runner.proofs.Roles.{from_map}
-use Rattle.replay_runner.proofs.Shown.{coordinator_laid, coordinator_leaves, coordinator_shows, manager_laid, manager_role_is, resource_laid, resource_leaves, resource_shows}
+use Rattle.replay_runner.proofs.Shown.{coordinator_laid, coordinator_leaves, coordinator_opens, coordinator_shows, manager_laid, manager_opens, manager_role_is, resource_laid, resource_leaves, resource_opens, resource_shows}
 use Rattle.run_ends.specs.Settled.{Shows}
 use Rattle.run_ends.proofs.Nodes.{shows}
 use Rattle.run_links.specs.Plans.{stops_of}
@@ -54,6 +54,7 @@ use Rattle.thread_runner.specs.Shown.{IsCauseAt, IsDoneAt, IsShown, KeepsOver}
 -- what its disks show, by what the node stands for
 pub record ShowsDisks (s : Scenario) (held : Held) (node : NodeState) (over : Type 0) (disks : Pair) : Type 0 where
   pub device : (role : Role) (owns : List Own) → node.stands_for role owns → AreNodeDisks role owns disks
+  pub opens : (role : Role) (owns : List Own) → node.stands_for role owns → OpensAgain role owns disks
   pub left : (role : Role) (owns : List Own) → node.stands_for role owns → HaveLast (last_pick owns) node.disks → AreLeft role owns disks
   pub blames : (role : Role) (owns : List Own) → node.stands_for role owns → (now : ℕ) (event : Event) (missed : RunFault)
       → Blames node.place role (held.starts node.place) s.disk owns now event node.disks missed → Blames node.place role (held.starts node.place) s.disk owns now event disks missed
@@ -139,6 +140,7 @@ module _ {D : Type 0} (state : D → DiskState) (s : Scenario) (held : Held) (ru
           fits = fit.fits;
           whole = λ calm. fit.whole calm (k.begun.turns calm);
           device = λ r e. with_role (λ x. AreNodeDisks x (own at ms) disks) (d.device role (own at ms) stands) r e;
+          opens = λ r e. with_role (λ x. OpensAgain x (own at ms) disks) (d.opens role (own at ms) stands) r e;
           left = λ calm r e. with_role (λ x. AreLeft x (own at ms) disks)
               (d.left role (own at ms) stands (subst (λ p. HaveLast (last_pick (own p ms)) (node_state seat.node).disks) (sym fit.here) (links.calm calm).picked)) r e;
           places = λ r e. with_role (λ x. HadPlaces x (held.starts at) s.disk (own at ms)) (from_start (HadPlaces role) links.fits) r e;
@@ -185,6 +187,7 @@ module _ {D : Type 0} (state : D → DiskState) (s : Scenario) (held : Held) (ru
     coordinator_shown tells over ends =
         seat_shown (coordinator.node_state state) seat k tells over (pair_of state (coordinator_disks seat.node)) (record {
           device = λ role owns st. coordinator_shows state seat.node role owns st;
+          opens = λ role owns st. coordinator_opens state seat.node role owns st;
           left = λ role owns st last. coordinator_leaves state seat.node role owns st last;
           blames = λ role owns st now event missed b. coordinator_blames role owns now event missed b;
           laid = λ role owns st lies. coordinator_laid state seat.node role (held.starts place.Tc) s.disk owns st lies;
@@ -215,6 +218,7 @@ module _ {D : Type 0} (state : D → DiskState) (s : Scenario) (held : Held) (ru
     resource_shown tells over =
         seat_shown (resource.node_state state) seat k tells over (pair_of state (resource_disks seat.node)) (record {
           device = λ role owns st. resource_shows state seat.node role owns st;
+          opens = λ role owns st. resource_opens state seat.node role owns st;
           left = λ role owns st last. resource_leaves state seat.node role owns st last;
           blames = λ role owns st now event missed b. resource_blames role owns now event missed b;
           laid = λ role owns st lies. resource_laid state seat.node role (held.starts (shown.stands_at seat.node)) s.disk owns st lies;
@@ -237,6 +241,7 @@ module _ {D : Type 0} (state : D → DiskState) (s : Scenario) (held : Held) (ru
     manager_shown tells over ends =
         seat_shown manager.node_state seat k tells over no_disks (record {
           device = λ role owns st. (manager_role_is state seat.node role owns no_disks st).0;
+          opens = λ role owns st. manager_opens state seat.node role owns no_disks st;
           left = λ role owns st last. (manager_role_is state seat.node role owns no_disks st).1;
           blames = λ role owns st now event missed b. b;
           laid = λ role owns st lies. manager_laid state seat.node role (held.starts (place.Man (manager.settings seat.node).number)) s.disk owns no_disks st;

@@ -28,7 +28,7 @@ use Rattle.node_seat.specs.Faults.{Blames}
 use Rattle.node_seat.specs.declared.faults.RunFault.{RunFault}
 use Rattle.node_seat.specs.declared.faults.RunFault.TheVariants as fault
 use Rattle.scenario_nodes.specs.Nodes.{Held}
-use Rattle.replay_runner.specs.Leaving.{AreAllLaid, AreLeft, HavePlaces, HaveSizes, UsesShelf, disks_in}
+use Rattle.replay_runner.specs.Leaving.{AllOpenAgain, AreAllLaid, AreLeft, HavePlaces, HaveSizes, UsesShelf, disks_in}
 use Rattle.run_links.specs.Plans.{stops_of}
 
 -- ---- a whole run
@@ -46,7 +46,7 @@ pub record IsRunOf (s : Scenario) (past : Past) (ms : List Moment) : Type 0 wher
   pub ended : HasEnded (world_of s) past ms
 
 -- The run was made and is safe, these are its entries, and the disks of each node, of the scenario's size, show it. Each record had a
--- place, and the journals end where the entries leave them.
+-- place, the journals end where the entries leave them, and the next opening takes them.
 pub record Completed (s : Scenario) (held : Held) (disks : List Pair) (es : List Entry) : Type 0 where
   pub history : List Moment
   pub is_run : IsRunOf s held.past history
@@ -55,6 +55,7 @@ pub record Completed (s : Scenario) (held : Held) (disks : List Pair) (es : List
   pub fits : HavePlaces s held history
   pub device : (p : Place) (role : Role) → role_at (world_of s) held.past p ≡ Some role → AreLeft role (own p history) (disks_in disks p)
   pub laid : AreAllLaid s held history disks
+  pub opens : AllOpenAgain s held history disks
   pub sized : HaveSizes s disks
 
 -- ---- a run that ended by a fault
@@ -83,7 +84,7 @@ IsCause s held ms disks missed = StopsAt s held ms disks missed
 
 -- The run ended by a fault: the history that its nodes made up to there is legal and safe, and follows the rules of a run but for messages
 -- that weren't taken; and the disks of each node, of the scenario's size, show its records and counted faults. Each of these records had a
--- place.
+-- place, and the next opening takes them.
 pub record Broken (s : Scenario) (held : Held) (disks : List Pair) (missed : RunFault) : Type 0 where
   pub history : List Moment
   pub is_run : IsBrokenRun (world_of s) held.past (stops_of s) history
@@ -91,6 +92,7 @@ pub record Broken (s : Scenario) (held : Held) (disks : List Pair) (missed : Run
   pub fits : HavePlaces s held history
   pub count : length disks ≡ length s.resources + 1
   pub device : (p : Place) (role : Role) → role_at (world_of s) held.past p ≡ Some role → AreNodeDisks role (own p history) (disks_in disks p)
+  pub opens : AllOpenAgain s held history disks
   pub sized : HaveSizes s disks
   pub cause : IsCause s held history (disks_in disks) missed
 

@@ -27,7 +27,7 @@ use Rattle.node_seat.specs.declared.faults.RunFault.{RunFault}
 use Rattle.node_seat.specs.declared.faults.RunFault.TheVariants as fault
 use Rattle.node_seat.specs.declared.plans.Plan.{Plan}
 use Rattle.scenario_nodes.specs.Nodes.{Held}
-use Rattle.replay_runner.specs.Leaving.{AreLeft}
+use Rattle.replay_runner.specs.Leaving.{AreLeft, OpensAgain}
 use Rattle.run_ends.specs.Ending.{Ending}
 use Rattle.run_ends.specs.Settled.{node_of}
 use Rattle.run_links.specs.Plans.{stops_of}
@@ -77,6 +77,7 @@ pub record IsShown (s : Scenario) (held : Held) (run : Run) (over : Type 0) (dis
   pub fits : FitsBroken (world_of s) held.past run.stops (node_of e ms)
   pub whole : e.fault ≡ None → FitsRun (world_of s) held.past run.stops (node_of e ms)
   pub device : (role : Role) → role_at (world_of s) held.past e.place ≡ Some role → AreNodeDisks role (own e.place ms) disks
+  pub opens : (role : Role) → role_at (world_of s) held.past e.place ≡ Some role → OpensAgain role (own e.place ms) disks
   pub left : e.fault ≡ None → (role : Role) → role_at (world_of s) held.past e.place ≡ Some role → AreLeft role (own e.place ms) disks
   pub places : (role : Role) → role_at (world_of s) held.past e.place ≡ Some role → HadPlaces role (held.starts e.place) s.disk (own e.place ms)
   pub laid : e.fault ≡ None → (role : Role) → role_at (world_of s) held.past e.place ≡ Some role → AreLaid role (held.starts e.place) s.disk (own e.place ms) disks

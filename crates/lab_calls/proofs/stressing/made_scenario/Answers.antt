@@ -1,4 +1,4 @@
-use Rattle.std.proofs.Common.{◌≡◌, ◌∙◌, subst}
+use Rattle.std.proofs.Common.{◌∙◌, subst}
 use Rattle.scenario_reader.proofs.Causes.{scenario_has_no_fault}
 use Rattle.scenario_reader.specs.Reading.{IsFault, with_base}
 use Rattle.scenario_maker.specs.Made.{made}

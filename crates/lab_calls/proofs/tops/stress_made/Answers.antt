@@ -9,14 +9,13 @@ returns-in_default g c =
 
 pub returns : goal.returns
 returns g c =
-    let e = c.run-end.ensures in
+    let e = c.run_over-end.ensures in
     record {
       ran = inr (record {
         scenario = c.in-Ok.scenario;
         is_made = c.in-Ok.ensures.is_made;
-        ended = c.run-end.result;
-        has_ended = e.runs;
-        calm = e.calm;
+        ended = c.run_over-end.result;
+        has_ended = e.ends;
         told = inl c.stressed.ensures;
       });
       returned = e.returned;

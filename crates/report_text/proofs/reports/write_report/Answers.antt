@@ -4,5 +4,5 @@ use Rattle.report_text.proofs.reports.write_report.Goals as goal
 
 pub returns-in-Ok : goal.returns-in-Ok
 returns-in-Ok c =
-    text_reports c.args.scenario.now c.args.history.now c.in_ok-folded.folded c.in_ok-names.names (string_bytes c.new-out.result) (string_bytes c.put_report.new.out)
+    text_reports c.args.scenario.now c.args.before c.args.history.now c.in_ok-folded.folded c.in_ok-names.names (string_bytes c.new-out.result) (string_bytes c.put_report.new.out)
     c.in_ok-folded.ensures c.in_ok-names.ensures c.new-out.ensures.bytes c.in-Ok.ensures

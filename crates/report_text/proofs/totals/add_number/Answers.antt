@@ -1,5 +1,5 @@
 use Rattle.std.proofs.Common.{◌≡◌, ◌++◌, ◌∙◌, None, sym, ap, append-nil}
-use Rattle.report_text.specs.Totals.{listed, number_at}
+use Rattle.report_text.specs.Totals.{listed}
 use Rattle.report_text.proofs.totals.add_number.Goals as goal
 
 pub returns-in_default : goal.returns-in_default

@@ -1,6 +1,6 @@
 use Rattle.std.proofs.Common.{refl, ap, ◌∙◌}
 use Rattle.session_log.specs.declared.sessions.Snapshot.{Snapshot}
-use Rattle.coordinator_core.specs.Starting.{started_on, no_moments}
+use Rattle.coordinator_rules.specs.Starting.{started_on, no_moments}
 use Rattle.coordinator_core.proofs.nodes.Coordinator.come_back.Goals as goal
 
 pub returns-in-Ok : goal.returns-in-Ok

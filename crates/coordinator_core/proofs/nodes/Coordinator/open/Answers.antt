@@ -3,7 +3,7 @@ use Rattle.session_log.specs.declared.sessions.Snapshot.{Snapshot}
 use Rattle.seata_types.specs.declared.errors.OpenError.TheVariants as open_error
 use Rattle.disk_model.specs.Stop.{below}
 use Rattle.coordinator_core.specs.Opening.{HandsBack}
-use Rattle.coordinator_core.specs.Starting.{start_in, started_on, no_moments}
+use Rattle.coordinator_rules.specs.Starting.{start_in, started_on, no_moments}
 use Rattle.coordinator_core.proofs.Disks.{stopped}
 use Rattle.coordinator_core.proofs.Opened.{settled_below, is_opened, hands_back, hands_opened}
 use Rattle.coordinator_core.proofs.nodes.Coordinator.open.Goals as goal

@@ -1,5 +1,5 @@
 use Rattle.std.proofs.Common.{subst}
-use Rattle.coordinator_core.specs.Changes.{GivesUp}
+use Rattle.coordinator_rules.specs.Changes.{GivesUp}
 use Rattle.coordinator_core.specs.Plain.{is_failure}
 use Rattle.coordinator_core.proofs.Errors.{unmade_after}
 use Rattle.coordinator_core.proofs.table.Table.add.Goals as goal

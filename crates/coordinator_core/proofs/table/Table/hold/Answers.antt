@@ -2,23 +2,23 @@ use Rattle.std.proofs.Common.{◌+◌, arith, rules}
 use Rattle.session_store.specs.Keeping.{managers_of, resources_of}
 use Rattle.coordinator_core.specs.Knowledge.{memory}
 use Rattle.coordinator_core.proofs.Registered.{record_within, record_short, keys_fit}
-use Rattle.coordinator_core.proofs.TakesRows.{is_new_branch}
+use Rattle.coordinator_rules.proofs.TakesRows.{is_new_branch}
 use Rattle.coordinator_core.proofs.Holds.{registered_answers, refused_answers}
 use Rattle.coordinator_core.proofs.table.Table.hold.Goals as goal
 
 pub returns-in-Ok-clause-answers : goal.returns-in-Ok-clause-answers
 returns-in-Ok-clause-answers g c =
-    let answers = registered_answers g.D.Disk.state c.args.self.now c.register.new.self c.args.now (omega (arith, c.requires.moment)) c.args.from c.args.xid c.args.place c.args.hold.now c.args.check.now c.requires.new c.requires.begin c.requires.timely
+    let answers = registered_answers g.D.Disk.state c.args.self.now c.register.new.self c.args.now (omega (arith, c.requires.moment)) c.args.from c.args.xid c.args.place c.args.hold.now c.args.check.now c.requires.by_rows
     c.next_branch-branch.result c.in-Ok.field-0 c.granted.result c.next_branch-branch.ensures c.in-Ok.ensures.made c.granted.ensures.value in
     search rules
 
 pub returns-in-Err-clause-answers : goal.returns-in-Err-clause-answers
 returns-in-Err-clause-answers g c =
-    refused_answers g.D.Disk.state c.args.self.now c.register.new.self c.args.now (omega (arith, c.requires.moment)) c.args.from c.args.xid c.args.place c.args.hold.now c.args.check.now c.requires.new c.requires.begin c.requires.timely
+    refused_answers g.D.Disk.state c.args.self.now c.register.new.self c.args.now (omega (arith, c.requires.moment)) c.args.from c.args.xid c.args.place c.args.hold.now c.args.check.now c.requires.by_rows
     c.next_branch-branch.result c.in-Err.error c.refuse.result c.next_branch-branch.ensures c.in-Err.ensures.made c.refuse.ensures.why
 
 pub register-requires-clause-new : goal.register-requires-clause-new
-register-requires-clause-new g c = is_new_branch (memory c.args.self.now) c.args.xid c.args.place c.requires.new
+register-requires-clause-new g c = is_new_branch (memory c.args.self.now) c.args.xid c.args.place c.requires.by_rows.new
 
 pub register-requires-clause-within : goal.register-requires-clause-within
 register-requires-clause-within g c =

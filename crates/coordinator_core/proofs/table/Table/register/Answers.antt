@@ -1,34 +1,22 @@
-use Rattle.std.proofs.Common.{refl, sym, ap, ◌∙◌, arith, rules}
-use Rattle.seata_types.specs.declared.acts.Act.TheVariants as act
 use Rattle.seata_types.specs.declared.messages.Input.TheVariants as input
-use Rattle.seata_types.specs.declared.messages.Message.TheVariants as message
-use Rattle.session_memory.specs.Changes.{is_begin}
-use Rattle.session_memory.specs.Lookups.{status_in}
-use Rattle.coordinator_core.specs.Answers.{Always}
-use Rattle.coordinator_core.specs.Knowledge.{knowledge, memory}
-use Rattle.coordinator_core.specs.Steps.{regranted_step, closed_step}
-use Rattle.coordinator_core.proofs.Errors.{answers_quiet}
-use Rattle.coordinator_core.proofs.TakesRows.{regranted_answered, closed_answered}
+use Rattle.session_store.specs.Keeping.{managers_of, resources_of}
+use Rattle.coordinator_rules.specs.Registering.{registers}
+use Rattle.coordinator_core.specs.Answers.{IsWithin}
+use Rattle.coordinator_core.proofs.Made.{timeout_made}
+use Rattle.coordinator_core.proofs.Taken.{taken_answers}
+use Rattle.coordinator_core.proofs.Turning.{first_ruled, goes_by_rows}
 use Rattle.coordinator_core.proofs.table.Table.register.Goals as goal
+
+pub take-requires-clause-asked : goal.take-requires-clause-asked
+take-requires-clause-asked g c =
+    let is = first_ruled c.args.self.now c.memory.result.now c.args.now c.args.from c.args.xid c.args.place c.args.hold.now c.args.check.now c.in-Some.answer c.memory.ensures c.in-Some.ensures.answered in
+    timeout_made c.args.self.now c.args.now (input.Message c.args.from (registers c.args.xid c.args.place c.args.hold.now c.args.check.now)) c.args.xid c.in-Some.answer.step.act c.in-Some.answer.asked c.in-Some.ensures.decides is.ruled.recorded
 
 pub returns-in-Some-clause-answers : goal.returns-in-Some-clause-answers
 returns-in-Some-clause-answers g c =
-    let place = c.args.place in
-    let leg = c.in-Some.leg in
-    let given = input.Message c.args.from (message.Register c.args.xid place.resource place.call place.ticket place.kind c.args.hold.now c.args.check.now) in
-    let answers = answers_quiet g.D.Disk.state Always c.args.self.now c.args.self.now given c.args.now c.regranted.result
-    (regranted_answered (knowledge c.args.self.now) c.args.now (omega (arith, c.requires.moment)) c.regranted.result c.args.from c.args.xid place c.args.hold.now c.args.check.now leg (sym c.in-Some.ensures.leg) c.regranted.ensures.value)
-    (act.Regranted leg.xid leg.branch) (regranted_step place leg).sent c.regranted.ensures.value refl refl in
-    search rules
+    let is = first_ruled c.args.self.now c.memory.result.now c.args.now c.args.from c.args.xid c.args.place c.args.hold.now c.args.check.now c.in-Some.answer c.memory.ensures c.in-Some.ensures.answered in
+    taken_answers g.D.Disk.state (IsWithin c.args.self.now) c.args.self.now c.take.new.self (input.Message c.args.from (registers c.args.xid c.args.place c.args.hold.now c.args.check.now)) c.args.now c.in-Some.answer is.ruled
+    (is.sent (managers_of c.args.self.now.sessions) (resources_of c.args.self.now.sessions)) c.take.result c.take.ensures
 
-pub returns-then-not-is_begin-clause-answers : goal.returns-then-not-is_begin-clause-answers
-returns-then-not-is_begin-clause-answers g c =
-    let place = c.args.place in
-    let given = input.Message c.args.from (message.Register c.args.xid place.resource place.call place.ticket place.kind c.args.hold.now c.args.check.now) in
-    let st = status_in (memory c.args.self.now) c.args.xid.0 in
-    let is = c.closed.ensures.value ∙ ap (closed_step place c.args.xid) c.status-status.ensures.status in
-    let answers = answers_quiet g.D.Disk.state Always c.args.self.now c.args.self.now given c.args.now c.closed.result
-    (closed_answered (knowledge c.args.self.now) c.args.now (omega (arith, c.requires.moment)) c.closed.result c.args.from c.args.xid place c.args.hold.now c.args.check.now (sym c.leg.ensures.leg ∙ c.in_default.is)
-    (ap is_begin (sym c.status-status.ensures.status) ∙ sym c.is_begin.ensures ∙ c.if-not-is_begin.true) is)
-    (act.Closed c.args.xid st) (closed_step place c.args.xid st).sent is refl refl in
-    search rules
+pub hold-requires-clause-by_rows : goal.hold-requires-clause-by_rows
+hold-requires-clause-by_rows g c = goes_by_rows c.args.self.now c.memory.result.now c.args.now c.args.xid c.args.place c.memory.ensures c.in-None.ensures.answered

@@ -1,0 +1,2 @@
+pub mod NetName
+pub mod NetKept

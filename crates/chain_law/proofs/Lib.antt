@@ -1,0 +1,4 @@
+mod Named
+mod Chosen
+mod Going
+mod Calls

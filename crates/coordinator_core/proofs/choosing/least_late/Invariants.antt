@@ -1,7 +1,0 @@
-use Rattle.std.proofs.Common.{◌≡◌, drop}
-use Rattle.std.specs.Prelude.{find}
-use Rattle.coordinator_core.specs.Choices.{is_late_entry}
-use Rattle.coordinator_core.proofs.choosing.least_late.Given as goal
-
-abbrev pub invariant-loop-entry : goal.invariant-loop-entry
-invariant-loop-entry l = find (is_late_entry l.now) (drop l.entry-index l.sessions) ≡ find (is_late_entry l.now) l.sessions

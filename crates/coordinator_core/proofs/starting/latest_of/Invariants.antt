@@ -1,6 +1,0 @@
-use Rattle.std.proofs.Common.{◌≡◌, max, drop}
-use Rattle.coordinator_core.specs.Starting.{latest_of}
-use Rattle.coordinator_core.proofs.starting.latest_of.Given as goal
-
-abbrev pub invariant-loop-entry : goal.invariant-loop-entry
-invariant-loop-entry l = max l.latest (latest_of (drop l.entry-index l.sessions)) ≡ latest_of l.sessions

@@ -1,0 +1,15 @@
+pub mod PlanLaws
+pub mod Firsts
+pub mod Records
+pub mod Kept
+pub mod Laws
+pub mod Chosen
+pub mod AnswerLaws
+pub mod Takes
+pub mod TakesBranches
+pub mod TakesRows
+pub mod RowSearch
+pub mod TakesTurns
+pub mod AskedLaws
+pub mod RulingLaws
+pub mod StartLaws

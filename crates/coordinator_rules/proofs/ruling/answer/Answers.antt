@@ -1,0 +1,18 @@
+use Rattle.std.proofs.Common.{subst}
+use Rattle.seata_types.specs.declared.messages.Input.{Input}
+use Rattle.coordinator_rules.specs.Answers.{Answers, ComesInTime}
+use Rattle.coordinator_rules.specs.Knowledge.{knows, waits}
+use Rattle.coordinator_rules.proofs.RulingLaws.{of_like, ok_as}
+use Rattle.coordinator_rules.proofs.ruling.answer.Goals as goal
+
+pub turn-requires : goal.turn-requires
+turn-requires g c = subst (λ (i : Input). ComesInTime i c.args.now) c.in-Turn.is c.requires
+
+pub returns-in-Turn-clause-answers : goal.returns-in-Turn-clause-answers
+returns-in-Turn-clause-answers g c = λ retry.
+    of_like (λ i. Answers (knows (waits retry c.args.forget) c.args.memory.now c.args.moments.now) i c.args.now c.turn.result) c.args.given.now _ c.in-Turn.is (c.turn.ensures retry)
+
+pub returns-in-Message-clause-answers : goal.returns-in-Message-clause-answers
+returns-in-Message-clause-answers g c =
+    ok_as c.hear.result (λ a all retry. of_like (λ i. Answers (knows (waits retry c.args.forget) c.args.memory.now c.args.moments.now) i c.args.now a) c.args.given.now _ c.in-Message.is
+    (all (waits retry c.args.forget) c.args.moments.now)) c.hear.ensures.answers

@@ -1,0 +1,12 @@
+pub mod Changes
+pub mod Knowledge
+pub mod Choices
+pub mod Steps
+pub mod Tracks
+pub mod Costs
+pub mod Framing
+pub mod Naming
+pub mod Answers
+pub mod Looked
+pub mod Registering
+pub mod Starting

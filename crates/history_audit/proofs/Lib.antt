@@ -1,0 +1,12 @@
+mod SameNotes
+mod Counted
+mod Origins
+mod Orders
+mod LetterLaws
+mod NodeLaws
+mod Served
+mod SoFar
+mod Made
+mod SetupLaws
+mod Taking
+mod JudgeLaws

@@ -1,0 +1,6 @@
+pub mod Order
+pub mod Letters
+pub mod Setups
+pub mod Nodes
+pub mod Finding
+pub mod Judging

@@ -1,0 +1,7 @@
+//! A resource in the judge of printed histories: what its own entries left, and whether the act of the next one may be done.
+#![tactic(auto)]
+
+pub mod benches;
+pub mod resources;
+
+pub use benches::Bench;

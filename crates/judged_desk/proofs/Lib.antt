@@ -1,0 +1,7 @@
+pub mod Planned
+pub mod Due
+pub mod Counts
+pub mod Asked
+pub mod Took
+pub mod Served
+pub mod First

@@ -1,0 +1,4 @@
+pub mod Planning
+pub mod Leaving
+pub mod Standing
+pub mod Following

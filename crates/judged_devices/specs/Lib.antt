@@ -1,0 +1,4 @@
+pub mod Taking
+pub mod Noting
+pub mod Showing
+pub mod Looking

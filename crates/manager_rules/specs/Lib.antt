@@ -1,0 +1,4 @@
+pub mod Within
+pub mod Calls
+pub mod Tracks
+pub mod Answers

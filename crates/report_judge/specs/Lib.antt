@@ -1,0 +1,5 @@
+pub mod Lines
+pub mod Reading
+pub mod Judging
+pub mod Steps
+pub mod Safe

@@ -1,0 +1,30 @@
+-- What the steps of reading give.
+use Rattle.std.specs.Prelude.{◌≡◌, ℕ, Bool, List, [], ◌∷◌, ◌++◌, Result, Ok, Err}
+use Rattle.seata_types.specs.Orders.{same_text}
+use Rattle.scenario_form.specs.declared.scenarios.Scenario.{Scenario}
+use Rattle.history_rules.specs.Nodes.{no_past}
+use Rattle.history_text.specs.declared.entries.Entry.{Entry}
+use Rattle.history_text.specs.declared.entries.Names.{Names}
+use Rattle.report_text.specs.Following.{Reports}
+use Rattle.report_judge.specs.Reading.{IsEntryLine, IsUnreadable}
+use Rattle.report_judge.specs.declared.errors.LinesError.{LinesError}
+use Rattle.report_judge.specs.declared.errors.LinesError.TheVariants as error
+
+-- what was asked for is given; nothing is said where memory was refused
+abbrev pub Gives : (Result (List Entry) ℕ → Type 0) → Result (List Entry) LinesError → Type 0
+Gives asked (Ok es) = asked (Ok es)
+Gives asked (Err (error.Line number)) = asked (Err number)
+Gives asked (Err error.NoMemory) = Unit {0}
+
+-- the entry of a line stands behind the others
+abbrev pub Adds : Names → List ℕ → (old new : List Entry) → Type 0
+Adds names line old new = (e : Entry) × IsEntryLine names line e × (new ≡ old ++ e ∷ [])
+
+-- a line with this number isn't readable; nothing is said where memory was refused
+abbrev pub RefusesLine : Names → List ℕ → ℕ → LinesError → Type 0
+RefusesLine names line number (error.Line told) = IsUnreadable names line × (told ≡ number)
+RefusesLine names line number error.NoMemory = Unit {0}
+
+-- whether the text is one that is the report of each legal history of these entries
+abbrev pub ComparesReport : Scenario → List Entry → (text : List ℕ) → Bool → Type 0
+ComparesReport s es text is = (told : List ℕ) × Reports s no_past es told × (is ≡ same_text told text)

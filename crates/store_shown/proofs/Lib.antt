@@ -1,0 +1,4 @@
+mod Joined
+mod BaseRead
+mod BeforeRead
+mod Told

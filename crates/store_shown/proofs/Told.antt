@@ -1,0 +1,169 @@
+-- What is told of the disks of a shelf, and that they have the bytes that they had.
+use Rattle.std.proofs.Common.{◌≡◌, ◌≢◌, ◌⊎◌, ⊎_elim, inl, inr, ◌∙◌, ℕ, List, [], ◌∷◌, Option, Some, None, Result, Ok, Err, IfOk, refl, sym, subst}
+use Rattle.std.specs.List.{AllByRecursion}
+use Rattle.disk_model.specs.Disk.{DiskState, present}
+use Rattle.disk_model.specs.Shelf.{KeepsOthers, OnlyTellersHave, ShelfState, TakenAs}
+use Rattle.disk_model.proofs.Named.{same_or_other}
+use Rattle.disk_model.proofs.Taken.{next_since}
+use Rattle.seata_types.specs.declared.copies.NoMemory.{NoMemory}
+use Rattle.seata_types.specs.declared.limits.TheConstants.{SCENARIO_DISK}
+use Rattle.scenario_form.specs.declared.scenarios.Scenario.{Scenario}
+use Rattle.scenario_form.specs.Runnable.{IsRunnable}
+use Rattle.scenario_reader.specs.declared.errors.ScenarioError.{ScenarioError}
+use Rattle.scenario_reader.specs.declared.errors.ScenarioError.TheVariants as error
+use Rattle.scenario_reader.specs.Reading.{IsFault, IsScenario}
+use Rattle.base_records.specs.Pieces.{IsWhole, joined}
+use Rattle.base_shelf.specs.Keeping.{HoldsBase, NetIs, net_name}
+use Rattle.base_shelf.proofs.NetName.{nodes_away, nodes_hold}
+use Rattle.history_text.specs.declared.entries.Names.{Names}
+use Rattle.history_text.specs.Report.{names_of}
+use Rattle.node_seat.specs.declared.faults.RunFault.{RunFault}
+use Rattle.node_seat.specs.declared.faults.RunFault.TheVariants as fault
+use Rattle.report_text.specs.declared.before.Before.{Before}
+use Rattle.scenario_nodes.specs.Nodes.{Held, HoldAll, Holds, Server, servers_of}
+use Rattle.scenario_nodes.specs.Reading.{GivesStill, HoldStill}
+use Rattle.scenario_nodes.specs.Shelves.{AllTell, ReturnsAll, second_name}
+use Rattle.scenario_nodes.proofs.Holding.{bytes_of}
+use Rattle.scenario_nodes.proofs.Returned.{all_after}
+use Rattle.store_shown.specs.declared.found.Shown.{Shown}
+use Rattle.store_shown.specs.declared.found.Shown.TheVariants as shown
+use Rattle.store_shown.specs.Bases.{ReadsBase}
+use Rattle.store_shown.specs.Before.{ReadsBefore}
+use Rattle.store_shown.specs.Showing.{IsFound, IsFoundAt, IsState, KeepsBytes, Shows, ShowsNodes}
+
+-- ---- the nodes
+
+module _ {D : Type 0} (state : D → DiskState) (s : Scenario) (old new : ShelfState D) where
+  -- what was read is told
+  pub nodes_shown : (before : Before) (result : Result Shown NoMemory) → IfOk result (IsState s before) → ReadsBefore state s old new (Ok before) → ShowsNodes state s old new result
+  nodes_shown before result is r = record { found = by result is; still = r.still; keeps = r.keeps; returned = r.returned }
+    where
+      by : (a : Result Shown NoMemory) → IfOk a (IsState s before) → IfOk a (IsFoundAt state s old new)
+      by (Ok (shown.State text)) told = λ all held holds. told held.past (r.says all held holds)
+      by (Ok shown.Empty) told = absurd told
+      by (Ok (shown.NoScenario e)) told = absurd told
+      by (Ok (shown.Unread missed names)) told = absurd told
+      by (Err refused) told = tt
+
+  -- or why they weren't read
+  pub nodes_unread : (missed : RunFault) (names : Names) (result : Result Shown NoMemory) → names ≡ names_of s → IfOk result (λ found. (missed ≢ fault.NoMemory) × (found ≡ shown.Unread missed names))
+      → ReadsBefore state s old new (Err missed) → ShowsNodes state s old new result
+  nodes_unread missed names result named is r = record { found = by result is; still = r.still; keeps = r.keeps; returned = r.returned }
+    where
+      by : (a : Result Shown NoMemory) → IfOk a (λ found. (missed ≢ fault.NoMemory) × (found ≡ shown.Unread missed names)) → IfOk a (IsFoundAt state s old new)
+      by (Ok found) told = subst (IsFoundAt state s old new) (sym told.1) (told.0, named, r.refused)
+      by (Err refused) told = tt
+
+  pub nodes_forgotten : (missed : RunFault) (refused : NoMemory) → ReadsBefore state s old new (Err missed) → ShowsNodes state s old new (Err refused)
+  nodes_forgotten missed refused r = record { found = tt; still = r.still; keeps = r.keeps; returned = r.returned }
+
+-- ---- bytes
+
+module _ {D : Type 0} (state : D → DiskState) where
+  -- a disk that was there is there with its bytes, where the shelf gives those next
+  kept_under : (old new : ShelfState D) → OnlyTellersHave old → ReturnsAll old new → AllTell state → (size : ℕ) (name : List ℕ)
+      → ((x : List ℕ) → TakenAs state (old.given_back name) size x → TakenAs state (new.given_back name) size x)
+      → (disk : D) → old.given_back name disk → (same : D) × new.given_back name same × (present (state same) ≡ present (state disk))
+  kept_under old new law returned all size name stays disk given =
+      let (x, is_x) = bytes_of (state disk) (all disk) in by x is_x (stays x (inl (disk, given, is_x)))
+    where
+      by : (x : List ℕ) → present (state disk) ≡ Some x → TakenAs state (new.given_back name) size x → (same : D) × new.given_back name same × (present (state same) ≡ present (state disk))
+      by x is_x (inl (same, there, is)) = (same, there, is ∙ sym is_x)
+      by x is_x (inr (none, zero)) = let (same, there) = returned.kept (law name disk given) name (disk, given) in absurd (none same there)
+
+  -- where only the disk `net` was read
+  net_kept : (old new : ShelfState D) → OnlyTellersHave old → ReturnsAll old new → KeepsOthers (λ n. n ≡ net_name) old new → (AllTell state → (x : List ℕ) → NetIs state old x → NetIs state new x) → KeepsBytes state old new
+  net_kept old new law returned keeps stays all name disk given = by (same_or_other name net_name)
+    where
+      by : (name ≡ net_name) ⊎ (name ≢ net_name) → (same : D) × new.given_back name same × (present (state same) ≡ present (state disk))
+      by (inl is) =
+          kept_under old new law returned all SCENARIO_DISK name
+          (subst (λ (n : List ℕ). (x : List ℕ) → TakenAs state (old.given_back n) SCENARIO_DISK x → TakenAs state (new.given_back n) SCENARIO_DISK x) (sym is) (stays all)) disk given
+      by (inr other) = (disk, (keeps.others name other disk).1 given, refl)
+
+  -- where the nodes' disks were
+  nodes_kept : (old new : ShelfState D) → OnlyTellersHave old → ReturnsAll old new → (size : ℕ) → GivesStill state size old new → KeepsBytes state old new
+  nodes_kept old new law returned size still all name disk given = kept_under old new law returned all size name (still.next all name) disk given
+
+  kept_then : (old mid new : ShelfState D) → KeepsBytes state old mid → KeepsBytes state mid new → KeepsBytes state old new
+  kept_then old mid new one two all name disk given =
+      let (a, there, is) = one all name disk given in
+      let (b, here, iz) = two all name a there in
+      (b, here, iz ∙ is)
+
+  -- the nodes' disks hold what they held
+  all_still : (s : Scenario) (old new : ShelfState D) → GivesStill state s.disk old new → AllTell state → (vs : List Server) → AllByRecursion (Holds state old s) vs → AllByRecursion (Holds state new s) vs
+  all_still s old new still all [] holds = tt
+  all_still s old new still all (v ∷ vs) holds = (
+    record {
+      first = holds.0.first;
+      second = holds.0.second;
+      next = record { first = still.next all v.name holds.0.first holds.0.next.first; second = still.next all (second_name v.name) holds.0.second holds.0.next.second };
+      stand = holds.0.stand;
+    },
+    all_still s old new still all vs holds.1,
+  )
+
+-- ---- all of it
+
+module _ {D S : Type 0} (state : D → DiskState) (seen : S → ShelfState D) (law : (shelf : S) → OnlyTellersHave (seen shelf)) (old mid : S) where
+  -- the disk `net` alone was read
+  pub net_shown : (read : Result (Option (List ℕ)) RunFault) (result : Result Shown NoMemory) → ReadsBase state (seen old) (seen mid) read → IfOk result (IsFound state seen old mid) → Shows state seen old mid result
+  net_shown read result base found = record {
+    found = found;
+    bytes = net_kept state (seen old) (seen mid) (law old) base.returned base.keeps base.still;
+    net = base.still;
+    tells = base.keeps.tells;
+    returned = base.returned;
+  }
+
+  -- it wasn't read
+  pub base_unread : (missed : RunFault) (names : Names) (result : Result Shown NoMemory) → ReadsBase state (seen old) (seen mid) (Err missed)
+      → IfOk result (λ found. (missed ≢ fault.NoMemory) × (found ≡ shown.Unread missed names)) → Shows state seen old mid result
+  base_unread missed names result base is = net_shown (Err missed) result base (by result is)
+    where
+      by : (a : Result Shown NoMemory) → IfOk a (λ found. (missed ≢ fault.NoMemory) × (found ≡ shown.Unread missed names)) → IfOk a (IsFound state seen old mid)
+      by (Ok found) told = subst (IsFound state seen old mid) (sym told.1) (told.0, inl base.refused)
+      by (Err refused) told = tt
+
+  -- it keeps no text
+  pub base_empty : ReadsBase state (seen old) (seen mid) (Ok None) → Shows state seen old mid (Ok shown.Empty)
+  base_empty base = net_shown (Ok None) (Ok shown.Empty) base base.reads
+
+  module _ (text : List ℕ) (base : ReadsBase state (seen old) (seen mid) (Ok (Some text))) where
+    -- or one that is no scenario
+    pub text_refused : (e : ScenarioError) (result : Result Shown NoMemory) → (e ≢ error.NoMemory → IsFault text e) → IfOk result (λ found. (e ≢ error.NoMemory) × (found ≡ shown.NoScenario e))
+        → Shows state seen old mid result
+    text_refused e result refused is = net_shown (Ok (Some text)) result base (by result is)
+      where
+        by : (a : Result Shown NoMemory) → IfOk a (λ found. (e ≢ error.NoMemory) × (found ≡ shown.NoScenario e)) → IfOk a (IsFound state seen old mid)
+        by (Ok found) told = subst (IsFound state seen old mid) (sym told.1) (λ all records h. let kept = base.reads all records h in (kept.0, subst (λ (t : List ℕ). IsFault t e) kept.1 (refused told.0)))
+        by (Err _) told = tt
+
+    -- or that of a scenario, whose nodes' disks were read
+    module _ (new : S) (s : Scenario) (is : IsScenario text s) (runs : IsRunnable s) (result : Result Shown NoMemory) (nodes : ShowsNodes state s (seen mid) (seen new) result) where
+      kept_scenario : AllTell state → (records : List (List ℕ)) → HoldsBase state (seen old) records → IsWhole records × IsScenario (joined records) s
+      kept_scenario all records h = let kept = base.reads all records h in (kept.0, subst (λ (t : List ℕ). IsScenario t s) kept.1 is)
+
+      to_mid : HoldStill state s (seen old) (seen mid)
+      to_mid = nodes_hold state s (seen old) (seen mid) runs base.keeps
+
+      still : HoldStill state s (seen old) (seen new)
+      still all held holds = all_still state s (seen mid) (seen new) nodes.still all (servers_of s held) (to_mid all held holds)
+
+      by : (a : Result Shown NoMemory) → IfOk a (IsFoundAt state s (seen mid) (seen new)) → IfOk a (IsFound state seen old new)
+      by (Ok (shown.State t)) told = record { scenario = s; kept = kept_scenario; is_text = λ all held holds. told all held (to_mid all held holds); still = still }
+      by (Ok (shown.Unread missed names)) told = (told.0, inr (record { scenario = s; kept = kept_scenario; named = told.1; between = mid; keeps = base.keeps; refused = told.2; still = still }))
+      by (Ok shown.Empty) told = absurd told
+      by (Ok (shown.NoScenario e)) told = absurd told
+      by (Err refused) told = tt
+
+      pub scenario_shown : Shows state seen old new result
+      scenario_shown = record {
+        found = by result nodes.found;
+        bytes = kept_then state (seen old) (seen mid) (seen new) (net_kept state (seen old) (seen mid) (law old) base.returned base.keeps base.still)
+            (nodes_kept state (seen mid) (seen new) (law mid) nodes.returned s.disk nodes.still);
+        net = λ all bytes next. next_since state ((seen mid).given_back net_name) ((seen new).given_back net_name) SCENARIO_DISK (nodes.keeps.others net_name (λ its. nodes_away s runs net_name its refl)) bytes (base.still all bytes next);
+        tells = nodes.keeps.tells ∙ base.keeps.tells;
+        returned = all_after (seen old) (seen mid) (seen new) base.keeps.tells base.returned nodes.returned;
+      }

@@ -1,0 +1,4 @@
+pub mod Texts
+pub mod Bases
+pub mod Before
+pub mod Showing
