@@ -258,12 +258,14 @@ const CHECKS = {
     want(at("alone").textContent.includes("Drop the scenario"), "Shape alone");
     page.show(['{"resources": [', "scenario: NotJson\n"]);
     want(marks().length === 1, "NotJson");
+    page.show([scenario, "scenario: Other\n"]);
+    want(marks().length === 0 && at("alone").textContent.includes("another scenario"), "Other");
     for (const line of ["full: tc needs 4106 of 4096", "store: tc", "damaged: tc.2 at 19", "scenario: Limit /timeout 1",
       "scenario: Mode /managers/0/calls/0/try/0"]) {
       page.show([scenario, line + "\n"]);
       want(!at("alone").textContent.includes("isn't one"), line);
     }
-    for (const word of ["full:", "store:", "damaged:", ...["NotJson", "Shape", "Limit", "Sql", "Name", "Mode"]
+    for (const word of ["full:", "store:", "damaged:", ...["NotJson", "Shape", "Limit", "Sql", "Name", "Mode", "Other"]
       .map((kind) => "scenario: " + kind)]) {
       want(words.includes(word) && FAULTS.some(([pattern]) => pattern.source.startsWith("^" + word)), "the document and the page: " + word);
     }

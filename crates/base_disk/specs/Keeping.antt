@@ -8,7 +8,7 @@ use Rattle.disk_journal.specs.declared.errors.JournalError.TheVariants as why
 use Rattle.disk_journal.specs.declared.journal.Journal.{Journal}
 use Rattle.disk_journal.specs.declared.layout.TheConstants.{SHORTEST}
 use Rattle.disk_journal.specs.Journals.{Keeps, disk_of, from_of, is_down}
-use Rattle.disk_journal.specs.Keeping.{Holds, IsBeforeOrAfter, IsDamageIn, IsFull, StandsFor}
+use Rattle.disk_journal.specs.Keeping.{Holds, IsBeforeOrAfter, IsDamageIn, IsFull, OnlyReads, StandsFor}
 use Rattle.disk_journal.specs.Reading.{row_length}
 use Rattle.base_records.specs.Pieces.{IsFront, records_of}
 use Rattle.base_disk.specs.declared.errors.BaseError.{BaseError}
@@ -55,12 +55,15 @@ pub record LacksRoom (text : List ℕ) (size : ℕ) (full : Full) : Type 0 where
   pub is_full : IsFull (row_length records + length next + SHORTEST) size full
 
 -- A text was to be kept on a disk. Where that is done, each image stands for its records; else the answer says why not. However it ends,
--- and at each moment on the way, the images stand for the records that the disk had, or for some of the missing ones besides.
+-- and at each moment on the way, the images stand for the records that the disk had, or for some of the missing ones besides. Other records and
+-- damaged bytes are left alone.
 pub record KeepsText (text : List ℕ) (old new : DiskState) (result : Result (Unit {0}) BaseError) : Type 0 where
   pub kept : OnOk result (Holds new 0 (records_of BODY_BYTES text))
   pub tells : (bytes : List ℕ) → present old ≡ Some bytes → Tells text bytes result
   pub images : (bytes : List ℕ) (records : List (List ℕ)) → present old ≡ Some bytes → StandsFor 0 records bytes
       → Leaves old new (IsOnTheWay text records)
+  pub other : result ≡ Err error.Other → OnlyReads old new
+  pub damaged : (at : ℕ) → result ≡ Err (error.Damaged at) → OnlyReads old new
   pub full : (full : Full) → result ≡ Err (error.Full full) → LacksRoom text new.size full
   pub failed : result ≡ Err error.Failed → HasCause old.counts new.counts
   pub rest : KeepsRest old new

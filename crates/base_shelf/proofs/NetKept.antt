@@ -1,11 +1,12 @@
 -- The disk `net`, taken and given back with the text, or why not.
 use Rattle.std.proofs.Common.{◌≡◌, inl, inr, ◌∙◌, ℕ, IsTrue, List, [], Some, Result, Ok, Err, OnOk, IfErr, refl, sym, ap, subst, arith, append-nil}
-use Rattle.disk_model.specs.Disk.{DiskState, present}
+use Rattle.disk_model.specs.Disk.{DiskState, Rose, present}
 use Rattle.disk_model.specs.Shelf.{IsGivenBack, IsTaken, KeepsOthers, SamePlaces, SameUnder, ShelfState, taken_tells}
 use Rattle.disk_model.specs.declared.errors.ShelfError.{ShelfError}
 use Rattle.disk_model.specs.declared.errors.ShelfError.TheVariants as shelf
 use Rattle.disk_model.proofs.Taken.{next_since}
-use Rattle.disk_journal.specs.Keeping.{Holds, StandsFor}
+use Rattle.disk_journal.specs.Keeping.{Holds, OnlyReads, StandsFor}
+use Rattle.disk_journal.proofs.Readings.{still_present}
 use Rattle.seata_types.specs.declared.ids.Place.TheVariants as place
 use Rattle.seata_types.specs.declared.limits.TheConstants.{BODY_BYTES, SCENARIO_DISK}
 use Rattle.base_records.specs.Pieces.{IsFront, records_of}
@@ -15,12 +16,11 @@ use Rattle.base_disk.specs.Keeping.{IsOnTheWay, KeepsText, LacksRoom, Tells}
 use Rattle.base_disk.proofs.Standing.{same_records}
 use Rattle.node_seat.specs.declared.faults.RunFault.{RunFault}
 use Rattle.node_seat.specs.declared.faults.RunFault.TheVariants as fault
-use Rattle.disk_model.specs.Disk.{Rose}
 use Rattle.scenario_nodes.specs.Opening.{IsShelfFault}
-use Rattle.scenario_nodes.specs.Shelves.{AllTell, HasDisk, IsGivenIn, ReturnsAll}
+use Rattle.scenario_nodes.specs.Shelves.{AllTell, HasDisk, IsGivenIn}
 use Rattle.scenario_nodes.proofs.Holding.{bytes_of}
 use Rattle.scenario_nodes.proofs.Returned.{all_in, given_since, keeps_then, none_made, one_given, one_made, still}
-use Rattle.base_shelf.specs.Keeping.{AnswersFor, HoldsBase, HoldsMore, IsNetBack, IsNetFault, IsNoNet, KeepsBase, NetIs, fault_of, net_name, told_of}
+use Rattle.base_shelf.specs.Keeping.{AnswersFor, HoldsBase, IsNetFault, KeepsBase, LeavesNet, NetIs, TellsNet, net_name, told_of}
 
 -- ---- it wasn't had
 
@@ -37,6 +37,20 @@ no_answer text records old new (fault.Full at full) cause = absurd cause
 no_answer text records old new (fault.Damaged at second offset) cause = absurd cause
 no_answer text records old new fault.Other cause = absurd cause
 
+no_word : {D : Type 0} (text bytes : List ℕ) (old new : ShelfState D) (missed : RunFault) → IsShelfFault place.Net old new missed → TellsNet text bytes (Err missed)
+no_word text bytes old new (fault.Store at) cause = tt
+no_word text bytes old new fault.NoMemory cause = tt
+no_word text bytes old new (fault.Full at full) cause = absurd cause
+no_word text bytes old new (fault.Damaged at second offset) cause = absurd cause
+no_word text bytes old new fault.Other cause = absurd cause
+
+none_left : {D : Type 0} (state : D → DiskState) (old new : ShelfState D) (missed : RunFault) → IsShelfFault place.Net old new missed → LeavesNet state old new (Err missed)
+none_left state old new (fault.Store at) cause = tt
+none_left state old new fault.NoMemory cause = tt
+none_left state old new (fault.Full at full) cause = tt
+none_left state old new (fault.Damaged at second offset) cause = absurd cause
+none_left state old new fault.Other cause = absurd cause
+
 module _ {D : Type 0} (state : D → DiskState) (text : List ℕ) (old new : ShelfState D) (missed : RunFault) (cause : IsShelfFault place.Net old new missed) (places : SamePlaces old new)
     (same : SameUnder net_name old new) (keeps : KeepsOthers (λ n. n ≡ net_name) old new) where
   pub not_had : KeepsBase state text old new (Err missed)
@@ -49,6 +63,8 @@ module _ {D : Type 0} (state : D → DiskState) (text : List ℕ) (old new : She
       stand = record { more = []; stand = subst (λ rs. StandsFor 0 rs h.bytes) (sym (append-nil records)) h.stand; front = inl refl };
     };
     answers = λ all records h. no_answer text records old new missed cause;
+    tells = λ all bytes next. no_word text bytes old new missed cause;
+    left = none_left state old new missed cause;
     keeps = keeps;
     returned = none_made net_name old new places same keeps;
   }
@@ -62,6 +78,14 @@ answers_for text bytes records (Err error.Other) tells stand = λ front. tells.o
 answers_for text bytes records (Err (error.Damaged at)) tells stand = let no : Err at ≡ Ok records = sym tells ∙ stand in absurd cc
 answers_for text bytes records (Err error.Failed) tells stand = tt
 answers_for text bytes records (Err error.NoMemory) tells stand = tt
+
+tells_for : (text bytes : List ℕ) (answer : Result (Unit {0}) BaseError) → Tells text bytes answer → TellsNet text bytes (told_of answer)
+tells_for text bytes (Ok done) tells = tells
+tells_for text bytes (Err (error.Full full)) tells = tells
+tells_for text bytes (Err error.Other) tells = tells
+tells_for text bytes (Err (error.Damaged at)) tells = tells
+tells_for text bytes (Err error.Failed) tells = tt
+tells_for text bytes (Err error.NoMemory) tells = tt
 
 module _ {D : Type 0} (state : D → DiskState) (text : List ℕ) (old mid new : ShelfState D) (before disk : D) (stays : (c : List ℕ) → present (state disk) ≡ Some c → (state disk).may_leave c) (taken : IsTaken state (old.given_back net_name) SCENARIO_DISK (state before))
     (out : mid.has_place net_name) (took : KeepsOthers (λ n. n ≡ net_name) old mid)
@@ -85,6 +109,17 @@ module _ {D : Type 0} (state : D → DiskState) (text : List ℕ) (old mid new :
   -- these bytes are there now
   is_next : IsTrue old.tells → (c : List ℕ) → present (state disk) ≡ Some c → NetIs state new c
   is_next told c is = inl (disk, back.given (tells_still told), is)
+
+  unwritten : OnlyReads (state before) (state disk) → AllTell state → IsTrue old.tells → (bytes : List ℕ) → NetIs state old bytes → NetIs state new bytes
+  unwritten reads all told bytes next = is_next told bytes (still_present bytes reads (had all bytes next))
+
+  left : (a : Result (Unit {0}) BaseError) → KeepsText text (state before) (state disk) a → LeavesNet state old new (told_of a)
+  left (Ok done) k = tt
+  left (Err error.Failed) k = tt
+  left (Err (error.Full full)) k = tt
+  left (Err (error.Damaged at)) k = unwritten (k.damaged at refl)
+  left (Err error.Other) k = unwritten (k.other refl)
+  left (Err error.NoMemory) k = tt
 
   whole : (a : Result (Unit {0}) BaseError) → OnOk a (Holds (state disk) 0 (records_of BODY_BYTES text)) → OnOk (told_of a) (Holds (state disk) 0 (records_of BODY_BYTES text))
   whole (Ok done) holds = holds
@@ -113,6 +148,8 @@ module _ {D : Type 0} (state : D → DiskState) (text : List ℕ) (old mid new :
     next = λ all told records h.
         let (c, is_c) = bytes_of (state disk) (all disk) in record { bytes = c; next = is_next told c is_c; stand = images all records h c (stays c is_c) };
     answers = λ all records h. answers_for text h.bytes records answer (kept.tells h.bytes (had all h.bytes h.next)) h.stand;
+    tells = λ all bytes next. tells_for text bytes answer (kept.tells bytes (had all bytes next));
+    left = left answer kept;
     keeps = keeps_then (λ n. n ≡ net_name) (λ n. n ≡ net_name) (λ n. n ≡ net_name) old mid new (λ n its. its) (λ n its. its) took gave;
     returned = all_in (λ n. n ≡ net_name) old mid new took.tells (one_made net_name old mid took) (one_given net_name disk mid new places back gave)
         (λ told n same. subst (HasDisk new) (sym same) (disk, back.given (tells_still told)));

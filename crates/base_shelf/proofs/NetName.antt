@@ -13,11 +13,11 @@ use Rattle.scenario_form.specs.declared.scenarios.Scenario.{Scenario}
 use Rattle.scenario_form.specs.Contents.{IsResource}
 use Rattle.scenario_form.specs.Names.{is_node_name, is_word, is_word_byte}
 use Rattle.scenario_form.specs.Runnable.{IsRunnable, resource_name}
-use Rattle.scenario_nodes.specs.Nodes.{Held, HoldAll, Holds, resource_server, server_names}
-use Rattle.scenario_nodes.specs.Reading.{HoldStill}
+use Rattle.scenario_nodes.specs.Nodes.{Held, Holds, Server, coordinator_server, resource_server, server_names, servers_of}
+use Rattle.scenario_nodes.specs.Reading.{HoldStill, IsSound}
 use Rattle.scenario_nodes.specs.Shelves.{IsDiskName, coordinator_name, second_name}
 use Rattle.scenario_nodes.specs.Together.{IsOfOne, numbered}
-use Rattle.scenario_nodes.proofs.Returned.{holds_since}
+use Rattle.scenario_nodes.proofs.Returned.{are_next_since, holds_since}
 use Rattle.base_shelf.specs.Keeping.{net_name}
 
 -- ---- names
@@ -66,6 +66,10 @@ nodes_away s runs n its same =
 
 -- a call for other names than those of the nodes' disks
 module _ {D : Type 0} (state : D → DiskState) (s : Scenario) (IsItsName : List ℕ → Type 0) (old new : ShelfState D) (keeps : KeepsOthers IsItsName old new) where
+  -- bytes that are sound behind it were so before
+  sound_before : (v : Server) → ¬ IsItsName v.name → ¬ IsItsName (second_name v.name) → IsSound state new s v → IsSound state old s v
+  sound_before v one two sound a b next = sound a b (are_next_since state s.disk v.name a b old new (keeps.others v.name one) (keeps.others (second_name v.name) two) next)
+
   resources_hold : (held : Held) (k : ℕ) (defs : List ResourceDef) → ((n : List ℕ) → IsOfOne (map resource_name defs) n → ¬ IsItsName n)
       → AllByRecursion (Holds state old s) (map (resource_server s held) (numbered k defs)) → AllByRecursion (Holds state new s) (map (resource_server s held) (numbered k defs))
   resources_hold held k [] away holds = tt
@@ -80,6 +84,24 @@ module _ {D : Type 0} (state : D → DiskState) (s : Scenario) (IsItsName : List
     resources_hold held 1 s.resources (λ n its. away n (inr its)) holds.1,
   )
 
+  resources_sound : (held : Held) (k : ℕ) (defs : List ResourceDef) → ((n : List ℕ) → IsOfOne (map resource_name defs) n → ¬ IsItsName n)
+      → AllByRecursion (IsSound state new s) (map (resource_server s held) (numbered k defs)) → AllByRecursion (IsSound state old s) (map (resource_server s held) (numbered k defs))
+  resources_sound held k [] away sound = tt
+  resources_sound held k (def ∷ defs) away sound = (
+    sound_before (resource_server s held (k, def)) (away def.name (inl (inl refl))) (away (second_name def.name) (inl (inr refl))) sound.0,
+    resources_sound held (k + 1) defs (λ n its. away n (inr its)) sound.1,
+  )
+
+  pub sound_others : ((n : List ℕ) → IsOfOne (server_names s) n → ¬ IsItsName n) → (held : Held) → AllByRecursion (IsSound state new s) (servers_of s held) → AllByRecursion (IsSound state old s) (servers_of s held)
+  sound_others away held sound = (
+    sound_before (coordinator_server s held) (away coordinator_name (inl (inl refl))) (away (second_name coordinator_name) (inl (inr refl))) sound.0,
+    resources_sound held 1 s.resources (λ n its. away n (inr its)) sound.1,
+  )
+
 -- one for the disk `net`
 pub nodes_hold : {D : Type 0} (state : D → DiskState) (s : Scenario) (old new : ShelfState D) → IsRunnable s → KeepsOthers (λ n. n ≡ net_name) old new → HoldStill state s old new
 nodes_hold state s old new runs keeps = hold_others state s (λ n. n ≡ net_name) old new keeps (nodes_away s runs)
+
+pub nodes_sound : {D : Type 0} (state : D → DiskState) (s : Scenario) (old new : ShelfState D) → IsRunnable s → KeepsOthers (λ n. n ≡ net_name) old new → (held : Held)
+    → AllByRecursion (IsSound state new s) (servers_of s held) → AllByRecursion (IsSound state old s) (servers_of s held)
+nodes_sound state s old new runs keeps = sound_others state s (λ n. n ≡ net_name) old new keeps (nodes_away s runs)

@@ -1,5 +1,5 @@
 -- The disk `net` of a shelf, which keeps the text of a scenario.
-use Rattle.std.specs.Prelude.{◌≡◌, ◌⊎◌, ◌≤◌, ◌++◌, ℕ, false, IsTrue, List, Some, Result, Ok, Err, OnOk, IfErr, codes}
+use Rattle.std.specs.Prelude.{◌≡◌, ◌⊎◌, ◌≤◌, ℕ, false, IsTrue, List, Some, Result, Ok, Err, OnOk, IfErr, codes}
 use Rattle.disk_model.specs.Disk.{DiskState, present}
 use Rattle.disk_model.specs.Shelf.{KeepsOthers, ShelfState, TakenAs}
 use Rattle.disk_journal.specs.Keeping.{Holds, IsDamageIn, StandsFor}
@@ -9,7 +9,7 @@ use Rattle.seata_types.specs.declared.limits.TheConstants.{BODY_BYTES, SCENARIO_
 use Rattle.base_records.specs.Pieces.{IsFront, records_of}
 use Rattle.base_disk.specs.declared.errors.BaseError.{BaseError}
 use Rattle.base_disk.specs.declared.errors.BaseError.TheVariants as error
-use Rattle.base_disk.specs.Keeping.{IsOnTheWay, KeepsText, LacksRoom}
+use Rattle.base_disk.specs.Keeping.{HoldFirst, HoldOthers, IsOnTheWay, KeepsText, LacksRoom}
 use Rattle.node_seat.specs.declared.faults.RunFault.{RunFault}
 use Rattle.node_seat.specs.declared.faults.RunFault.TheVariants as fault
 use Rattle.scenario_nodes.specs.Opening.{IsShelfFault, IsUntouched}
@@ -38,6 +38,22 @@ pub record HoldsMore {D : Type 0} (state : D → DiskState) (shelf : ShelfState 
   pub stand : IsOnTheWay text records bytes
 
 -- ---- answers
+
+-- What an answer tells of the bytes that it had: where the text is kept, or has no room, they are a journal of its first records; at `Other`
+-- they are one of others; and damage stands there at that offset. So damaged bytes have no other answer than that, or that they weren't read.
+abbrev pub TellsNet : (text bytes : List ℕ) → Result (Unit {0}) RunFault → Type 0
+TellsNet text bytes (Ok done) = HoldFirst text bytes
+TellsNet text bytes (Err (fault.Full at full)) = HoldFirst text bytes
+TellsNet text bytes (Err fault.Other) = HoldOthers text bytes
+TellsNet text bytes (Err (fault.Damaged at second offset)) = IsDamageIn 0 bytes (why.Damaged offset)
+TellsNet text bytes (Err (fault.Store at)) = Unit {0}
+TellsNet text bytes (Err fault.NoMemory) = Unit {0}
+
+-- the bytes that it had were left alone, where they aren't those of the text's first records
+abbrev pub LeavesNet : {D : Type 0} → (D → DiskState) → (old new : ShelfState D) → Result (Unit {0}) RunFault → Type 0
+LeavesNet state old new (Err fault.Other) = AllTell state → IsTrue old.tells → (bytes : List ℕ) → NetIs state old bytes → NetIs state new bytes
+LeavesNet state old new (Err (fault.Damaged at second offset)) = AllTell state → IsTrue old.tells → (bytes : List ℕ) → NetIs state old bytes → NetIs state new bytes
+LeavesNet state old new _ = Unit {0}
 
 -- What an answer tells of the records that it held: they are the first ones of the text, or at `Other` they aren't. Bytes that stand for
 -- records are never damaged.
@@ -77,12 +93,15 @@ pub record IsNoNet {D : Type 0} (old new : ShelfState D) (result : Result (Unit 
   pub same : IsUntouched old new net_name
 
 -- The text of a scenario was to be kept on the disk `net` of a shelf. Where disks tell their bytes and the shelf tells what was given back: the
--- records of the text are there next, if the text is kept; else those that were there, or some of the missing ones besides.
+-- records of the text are there next, if the text is kept; else those that were there, or some of the missing ones besides. What the answer
+-- tells of the bytes that were there holds of any, damaged ones too.
 pub record KeepsBase {D : Type 0} (state : D → DiskState) (text : List ℕ) (old new : ShelfState D) (result : Result (Unit {0}) RunFault) : Type 0 where
   pub net : IsNetBack state text old new result ⊎ IsNoNet old new result
   pub kept : OnOk result (AllTell state → IsTrue old.tells → HoldsBase state new (records_of BODY_BYTES text))
   pub next : AllTell state → IsTrue old.tells → (records : List (List ℕ)) → HoldsBase state old records → HoldsMore state new text records
   pub answers : AllTell state → (records : List (List ℕ)) → HoldsBase state old records → AnswersFor text records result
+  pub tells : AllTell state → (bytes : List ℕ) → NetIs state old bytes → TellsNet text bytes result
+  pub left : LeavesNet state old new result
   pub keeps : KeepsOthers (λ n. n ≡ net_name) old new
   pub returned : ReturnsAll old new
 

@@ -29,7 +29,7 @@ pub fn not_had(error: ShelfError) -> RunFault
 }
 
 /// The fault of a text that isn't kept on it.
-pub fn base_fault(error: BaseError) -> RunFault
+fn base_fault(error: BaseError) -> RunFault
     ensures { result ≡ fault_of error }
 {
     let place = Place::Net;

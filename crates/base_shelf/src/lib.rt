@@ -4,4 +4,4 @@
 
 mod keeping;
 
-pub use keeping::{NET_DISK, base_fault, keep_base, not_had};
+pub use keeping::{NET_DISK, keep_base, not_had};

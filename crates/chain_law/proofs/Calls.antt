@@ -1,5 +1,5 @@
 -- Replays and runs, whose disks the next call may begin with.
-use Rattle.std.proofs.Common.{◌≡◌, ◌+◌, ℕ, IsTrue, List, [], ◌∷◌, map, Result, Ok, Err, refl, ap, sym, subst}
+use Rattle.std.proofs.Common.{◌≡◌, inl, inr, ◌+◌, ℕ, IsTrue, List, [], ◌∷◌, map, Result, Ok, Err, refl, ap, sym, subst}
 use Rattle.std.specs.List.{AllByRecursion}
 use Rattle.disk_model.specs.Disk.{DiskState, IsLawful}
 use Rattle.disk_model.specs.Shelf.{ShelfState}
@@ -22,11 +22,12 @@ use Rattle.scenario_nodes.specs.Reading.{GivesStill}
 use Rattle.scenario_nodes.specs.Shelves.{AllTell, pair_of, second_name}
 use Rattle.scenario_nodes.specs.Together.{numbered}
 use Rattle.scenario_nodes.proofs.Holding.{unused_hold}
-use Rattle.replay_runner.specs.Leaving.{GivesBack}
+use Rattle.replay_runner.specs.Leaving.{EndsAtOpening, GivesBack, Showing}
 use Rattle.replay_runner.specs.Leaving as replayed
 use Rattle.thread_runner.specs.Running as ran
-use Rattle.chain_law.specs.Chained.{CallsGoOn, GoesOn, IsAfter, ReplaysAreChained, RunsAreChained, ran_history, replayed_history, with_schedule}
+use Rattle.chain_law.specs.Chained.{CallsGoOn, ChainsGrow, ChainsStay, GoesOn, IsAfter, ReplaysAreChained, StaysAfter, RunsAreChained, ran_history, replayed_history, with_schedule}
 use Rattle.chain_law.proofs.Going.{goes_on}
+use Rattle.chain_law.proofs.Unopened.{after_opening}
 
 module _ {D S : Type 0} (state : D → DiskState) (seen : S → ShelfState D) (lawful : (d : D) → IsLawful (state d)) where
   module _ (old new : ShelfState D) (s : Scenario) (runs : IsRunnable s) (all : AllTell state) (tells : IsTrue new.tells) (held : Held) (holds : HoldAll state old s held) where
@@ -118,6 +119,34 @@ module _ {D : Type 0} (state : D → DiskState) (old new : ShelfState D) (s : Sc
   grows ms legal on = (on.next, record { is_chain = is_longer (world_of s) held.past ms chain after.is_chain after.follows legal; hold = on.hold; follows = on.follows })
 
 module _ {D S : Type 0} (state : D → DiskState) (seen : S → ShelfState D) (lawful : (d : D) → IsLawful (state d)) where
+  replays_grow : ChainsGrow state seen replayed.Leaves replayed_history
+  replays_grow old new s result runs g all tells chain held after =
+      let left = g.leaves all held after.hold in
+      grows state (seen old) (seen new) s chain held after (replayed_history s held (map (pair_of state) g.disks) result left) (replay_legal s held (map (pair_of state) g.disks) result left)
+      (replays_chained state seen lawful old new s result runs g all tells held after.hold)
+
+  runs_grow : ChainsGrow state seen ran.Leaves ran_history
+  runs_grow old new s result runs g all tells chain held after =
+      let left = g.leaves all held after.hold in
+      grows state (seen old) (seen new) s chain held after (ran_history s held (map (pair_of state) g.disks) result left) (run_legal s held (map (pair_of state) g.disks) result left)
+      (runs_chained state seen lawful old new s result runs g all tells held after.hold)
+
+  -- however they end
+  unopened_stays : (old new : S) (s : Scenario) (result : Result (List Entry) RunFault) → EndsAtOpening state (seen old) (seen new) s result → AllTell state → IsTrue (seen new).tells
+      → (chain : List (Past × List Moment)) (held : Held) → IsAfter state (seen old) s chain held → StaysAfter state (seen new) s chain
+  unopened_stays old new s (Ok es) none all tells chain held after = absurd none
+  unopened_stays old new s (Err missed) refused all tells chain held after =
+      let (next, is) = after_opening state lawful all s (seen old) (seen new) tells missed refused chain held after in
+      record { longer = chain; is = inl refl; held = next; after = is }
+
+  stay : (Shows : Scenario → Held → Showing) (history : (s : Scenario) (held : Held) (disks : List Pair) (result : Result (List Entry) RunFault) → Shows s held disks result → List Moment)
+      → ChainsGrow state seen Shows history → ChainsStay state seen Shows
+  stay Shows history grow old new s result runs (inl g) all tells chain held after =
+      let made = history s held (map (pair_of state) g.disks) result (g.leaves all held after.hold) in
+      let (next, is) = grow old new s result runs g all tells chain held after in
+      record { longer = (held.past, made) ∷ chain; is = inr (held.past, made, refl); held = next; after = is }
+  stay Shows history grow old new s result runs (inr refused) all tells chain held after = unopened_stays old new s result refused all tells chain held after
+
   pub calls_go_on : CallsGoOn state seen
   calls_go_on = record {
     first = λ shelf s runs unused. record {
@@ -125,14 +154,12 @@ module _ {D S : Type 0} (state : D → DiskState) (seen : S → ShelfState D) (l
       hold = unused_hold state (seen shelf) s runs unused;
       follows = record { sessions = refl; resources = λ n. (0, refl) };
     };
-    replay = λ old new s result runs g all tells chain held after.
-        let left = g.leaves all held after.hold in
-        grows state (seen old) (seen new) s chain held after (replayed_history s held (map (pair_of state) g.disks) result left) (replay_legal s held (map (pair_of state) g.disks) result left)
-        (replays_chained state seen lawful old new s result runs g all tells held after.hold);
-    run = λ old new s result runs g all tells chain held after.
-        let left = g.leaves all held after.hold in
-        grows state (seen old) (seen new) s chain held after (ran_history s held (map (pair_of state) g.disks) result left) (run_legal s held (map (pair_of state) g.disks) result left)
-        (runs_chained state seen lawful old new s result runs g all tells held after.hold);
+    replay = replays_grow;
+    run = runs_grow;
+    any_replay = stay replayed.Leaves replayed_history replays_grow;
+    any_run = stay ran.Leaves ran_history runs_grow;
     schedule = λ shelf s chain held after stops schedule. after_schedule state (seen shelf) s stops schedule held chain after;
     reading = λ old new s all still chain held after. after_reading state s (seen old) (seen new) all still chain held after;
+    still = λ old new s all still chain held after. record { is_chain = after.is_chain; hold = still all held after.hold; follows = after.follows };
+    unopened = λ old new s missed refused all tells chain held after. after_opening state lawful all s (seen old) (seen new) tells missed refused chain held after;
   }

@@ -1,6 +1,6 @@
 -- The disks that a history left hold records that it may leave.
 use Rattle.std.proofs.Common.{◌≡◌, inl, ◌+◌, ℕ, zero, suc, add-one, true, IsTrue, List, [], ◌∷◌, length, map, slice_get, Some, None, option_map, refl, ap, sym, subst, ◌∙◌, arith}
-use Rattle.std.specs.List.{AllByRecursion, list_all}
+use Rattle.std.specs.List.{list_all}
 use Rattle.std.proofs.lemmas.Option.{slice_get-map}
 use Rattle.disk_model.specs.Disk.{DiskState, IsLawful, present}
 use Rattle.disk_model.specs.Shelf.{ShelfState, TakenAs}
@@ -23,7 +23,6 @@ use Rattle.history_law.proofs.MessageHistory.{messages_over_any}
 use Rattle.history_text.specs.Worlds.{resources_of, setup_of, times_of, world_of}
 use Rattle.scenario_nodes.specs.Nodes.{Held, HoldAll, Holds, coordinator_role, resource_role, resource_server}
 use Rattle.scenario_nodes.specs.Shelves.{AllTell, AreGivenBack, IsGivenIn, coordinator_name, pair_of}
-use Rattle.scenario_nodes.specs.Together.{numbered}
 use Rattle.scenario_nodes.proofs.Holding.{bytes_of}
 use Rattle.replay_runner.specs.Leaving.{AllOpenAgain, AreAllBack, OpensAgain, nth_pair}
 use Rattle.replay_runner.proofs.NewNodes.{held_named}
@@ -31,7 +30,7 @@ use Rattle.replay_runner.proofs.Roles.{from_map, length-managers, length-resourc
 use Rattle.replay_runner.proofs.Shown.{nth_map}
 use Rattle.replay_runner.proofs.Worlds.{world_of-names}
 use Rattle.chain_law.specs.Chained.{GoesOn}
-use Rattle.chain_law.proofs.Chosen.{choices, chosen_at, each_at, of_number}
+use Rattle.chain_law.proofs.Chosen.{choices, chosen_at, each_at, numbered_all, of_number}
 use Rattle.chain_law.proofs.Named.{are_named, are_within, left_named, may_stand_named}
 
 -- what the disks of a resource hold, and where their journal stands
@@ -165,18 +164,10 @@ module _ {D : Type 0} (state : D → DiskState) (lawful : (d : D) → IsLawful (
         subst (λ (kept : Kept). Holds state new s (record { name = def.name; role = ResourceRole (setup_of s (k + 1) def) kept.0; start = kept.1 }))
         (sym (ap (of_number kept_at none_kept) (add-one k))) (all_chosen.1 k def at).holds_next
 
-    numbered_hold : (n : ℕ) (defs : List ResourceDef) → ((k : ℕ) (def : ResourceDef) → slice_get defs k ≡ Some def → Holds state new s (resource_server s next (n + k, def)))
-        → AllByRecursion (Holds state new s) (map (resource_server s next) (numbered n defs))
-    numbered_hold n [] each = tt
-    numbered_hold n (def ∷ defs) each = (
-      subst (λ (j : ℕ). Holds state new s (resource_server s next (j, def))) (let same : n + 0 ≡ n = omega arith in same) (each zero def refl),
-      numbered_hold (n + 1) defs (λ k d at. subst (λ (j : ℕ). Holds state new s (resource_server s next (j, d))) (let same : n + suc k ≡ n + 1 + k = omega arith in same) (each (suc k) d at)),
-    )
-
     hold : HoldAll state new s next
     hold = (
       first.holds_next,
-      numbered_hold 1 s.resources (λ k def at. subst (λ (j : ℕ). Holds state new s (resource_server s next (j, def))) (let same : k + 1 ≡ 1 + k = omega arith in same) (resource_holds k def at)),
+      numbered_all (Holds state new s) (resource_server s next) 1 s.resources (λ k def at. subst (λ (j : ℕ). Holds state new s (resource_server s next (j, def))) (let same : k + 1 ≡ 1 + k = omega arith in same) (resource_holds k def at)),
     )
 
     -- what may stand at a resource

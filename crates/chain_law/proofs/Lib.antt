@@ -1,4 +1,5 @@
 mod Named
 mod Chosen
 mod Going
-mod Calls
+mod Unopened
+pub mod Calls

@@ -16,7 +16,8 @@ pub fn runs_are_chained<H: Shelf>()
 {}
 
 /// So calls of a scenario in a row, from a shelf on that was never used for its nodes, are a chain: each replay and each run, with
-/// whatever stops and schedule, adds its history to those before it, and its disks hold what the longer chain may leave.
+/// whatever stops and schedule, adds its history to those before it, and its disks hold what the longer chain may leave. One
+/// whose nodes weren't opened adds none, and its disks hold what the chain of before may leave.
 pub fn calls_go_on<H: Shelf>()
     ensures { CallsGoOn H.D.state H.state }
 {}

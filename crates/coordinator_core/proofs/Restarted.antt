@@ -27,12 +27,14 @@ use Rattle.history_rules.specs.Devices.{calls_left, in_flight, flight_after, may
 use Rattle.history_rules.specs.CoordinatorMemory.{Times, sessions_left, session_record}
 use Rattle.history_rules.specs.Nodes.{Role, Resource, Manager, happens}
 use Rattle.history_rules.specs.Nodes.{Coordinator as CoordinatorRole}
-use Rattle.node_steps.specs.Durable.{keepable, own_faults}
-use Rattle.node_steps.specs.Promises.{NodeState, own_entry, AreTold, DisksFail, IsRestartError, Restarts, StandsAsBefore, StaysItself}
+use Rattle.node_steps.specs.Durable.{StandsForRecords, keepable, of_coordinator, own_faults}
+use Rattle.node_steps.specs.Promises.{NodeState, own_entry, AreTold, Brings, BringsKept, DisksFail, IsRestartError, Restarts, StandsAsBefore, StaysItself}
+use Rattle.node_steps.proofs.Kept.{brings_kept}
 use Rattle.session_memory.proofs.Small.{none_some}
 use Rattle.coordinator_core.specs.declared.nodes.Coordinator.{Coordinator}
 use Rattle.coordinator_core.specs.Knowledge.{knowledge, memory}
 use Rattle.coordinator_core.specs.Lying.{AtEither, extent_after}
+use Rattle.coordinator_core.specs.NodeLaws.{stands_for_records}
 use Rattle.coordinator_core.specs.Moving.{ArmsPair, ArmsWith, FallsAgain, SameRest, StartsAgain, kept_of}
 use Rattle.coordinator_core.specs.Serving.{ServesInput}
 use Rattle.coordinator_core.specs.Standing.{node_state, StandsOver, LiesOver, OnDisks, IsFallen, StandsForEither, course, pair_of, active_of, disks_of, sessions_of, start_of, is_down, times_of}
@@ -199,6 +201,29 @@ module _ {D : Type 0} (state : D → DiskState) (law : (d : Stoppable D) → IsL
       kept_all : (r : SessionRecord) → KeepsRecords (state_of state) (r ∷ rs) (sessions_of c') → kept_of c' ≡ in_flight os
       kept_all r k = kept_when (suc (length rs)) (ap (λ (s : Snapshot). s.acts) k.knows) ∙ ap (λ b. if b then c'.flight else None) (less_one (length rs)) ∙ flight ∙ is_fallen.flight
 
+      -- the records with the one in flight, where it may be kept
+      with_kept : (r : SessionRecord) → may_keep ≡ Some r → added (kept_part (in_flight os) left.flight) rs ≡ r ∷ rs
+      with_kept r is =
+          let may = keepable_by (may_stand (calls_left false os)) left.flight r is in
+          let done = flight_act past os r may.1 in
+          ap (λ d. added (kept_part d left.flight) rs) done.1 ∙ ap (λ q. added q rs) may.1
+
+      -- the images that came back stand for what is kept
+      stand_kept : StandsForRecords of_coordinator (added (kept_part (kept_of c') left.flight) rs) back.a back.b
+      stand_kept = by (either_in back.a back.b (st.disks.images back.a back.b back.first.0 back.second.0))
+        where
+          by : StandsFor s1 rs back.a back.b ⊎ ((r : SessionRecord) × (may_keep ≡ Some r) × StandsFor s1 (r ∷ rs) back.a back.b)
+              → StandsForRecords of_coordinator (added (kept_part (kept_of c') left.flight) rs) back.a back.b
+          by (inl e) =
+              subst (λ k. StandsForRecords of_coordinator (added (kept_part k left.flight) rs) back.a back.b) (sym (kept_none (armed.keeps rs (back.keeps rs e))))
+              (stands_for_records (managers_of s1) (resources_of s1) rs back.a back.b e)
+          by (inr (r, is, e)) =
+              subst (λ k. StandsForRecords of_coordinator (added (kept_part k left.flight) rs) back.a back.b) (sym (kept_all r (armed.keeps (r ∷ rs) (back.keeps (r ∷ rs) e))))
+              (subst (λ l. StandsForRecords of_coordinator l back.a back.b) (sym (with_kept r is)) (stands_for_records (managers_of s1) (resources_of s1) (r ∷ rs) back.a back.b e))
+
+      pub brings_back : BringsKept of_coordinator left (disks_of state c) pick (act.Restarted (kept_of c'))
+      brings_back = brings_kept of_coordinator (λ (s : Snapshot). s.acts) (λ l. refl) left (disks_of state c) pick (act.Restarted (kept_of c')) back.a back.b back.first back.second stand_kept
+
       abbrev pub Comes : Type 0
       Comes = (keeps : Bool) × (kept_of c' ≡ kept_act keeps os (calls_left false os)) × StandsOver state c' past (entry (kept_of c') ∷ os)
 
@@ -210,13 +235,11 @@ module _ {D : Type 0} (state : D → DiskState) (law : (d : Stoppable D) → IsL
       with_flight : (r : SessionRecord) → may_keep ≡ Some r → KeepsRecords (state_of state) (r ∷ rs) s1 → Comes
       with_flight r is k =
           let may = keepable_by (may_stand (calls_left false os)) left.flight r is in
-          let done = flight_act past os r may.1 in
-          let kept = kept_all r (armed.keeps (r ∷ rs) k) in
-          let part : added (kept_part (in_flight os) left.flight) rs ≡ r ∷ rs = ap (λ d. added (kept_part d left.flight) rs) done.1 ∙ ap (λ q. added q rs) may.1 in (
+          let kept = kept_all r (armed.keeps (r ∷ rs) k) in (
             true,
             kept ∙ sym (ap (λ b. if b then in_flight os else None) may.0),
             subst (λ q. StandsOver state c' past (entry q ∷ os)) (sym kept)
-                (stands_back (in_flight os) (subst (λ l. KeepsRecords (state_of state) l s1) (sym part) k)),
+                (stands_back (in_flight os) (subst (λ l. KeepsRecords (state_of state) l s1) (sym (with_kept r is)) k)),
           )
 
       pub comes : Comes
@@ -384,6 +407,7 @@ module _ {D : Type 0} (state : D → DiskState) (law : (d : Stoppable D) → IsL
           (subst (SameOpening (sessions_of c)) (sym is) opening) (ap sessions_down is ∙ fell) rest role owns s,
       restart_cause state law c s1 go_on c' pick calls now error told up.first.kind up.second.kind damaged failing role owns s,
     );
+    brings = λ told. tt;
     not_full = not_full;
     not_due = subst (λ q. StaysWhereShort (state_of state) (twin (sessions_of c)) (twin q)) (sym is) stays;
     settles = λ told. tt;
@@ -412,6 +436,7 @@ module _ {D : Type 0} (state : D → DiskState) (law : (d : Stoppable D) → IsL
                 (subst (λ p. own_faults (disks_of state c) ≤ own_faults p) pair (up_grown state true pick (sessions_of c) s1 both)) now_opening fell.down beside role owns s,
             tt,
           );
+          brings = λ told. tt;
           not_full = tt;
           not_due = λ short x y first second. stays short x y (subst (λ (p : Pair). p.first.may_leave x) (sym pair) first) (subst (λ (p : Pair). p.second.may_leave y) (sym pair) second);
           settles = λ told. tt;
@@ -443,6 +468,7 @@ module _ {D : Type 0} (state : D → DiskState) (law : (d : Stoppable D) → IsL
       is_back c1 c2 c' is rest starts_again arms kept kept_is = subst (λ k. RestartsBy state c c' pick calls now (Ok (act.Restarted k))) (sym kept_is) (record {
         restarts = λ told. comes_back told;
         after = λ told. tt;
+        brings = λ told. brings_all told;
         not_full = tt;
         not_due = tt;
         settles = λ told. armed.back pick (sessions_of c) (back told.first told.second);
@@ -523,3 +549,10 @@ module _ {D : Type 0} (state : D → DiskState) (law : (d : Stoppable D) → IsL
               )
           comes_back told (Resource setup past) owns s = absurd s
           comes_back told (Manager settings) owns s = absurd s
+
+          brings_all : AreTold (disks_of state c) → Brings (node_state state c) pick (act.Restarted (kept_of c'))
+          brings_all told (CoordinatorRole times past) owns (same, s) =
+              brings_back state law c c' s1 past owns s down pick now calls (back told.first told.second) opening up (up_grown state true pick (sessions_of c) s1 both) armed (omega (arith, in_time)) moments all_rest.start
+              all_rest.flight all_rest.records
+          brings_all told (Resource setup past) owns s = absurd s
+          brings_all told (Manager settings) owns s = absurd s

@@ -23,7 +23,7 @@ use Rattle.history_rules.specs.CoordinatorMemory.{session_asked}
 use Rattle.history_rules.specs.Nodes.{Role, answer}
 use Rattle.node_steps.specs.Durable.{SamePicks, HavePick}
 use Rattle.node_steps.specs.Framing.{ComesFramable, SendsFramable}
-use Rattle.node_steps.specs.Promises.{Does, TakesStep, AfterError, DisksFail, StaysItself, goes_down, own_step, steps_of, AreTold, Restarts, FailsRestart, stays_down}
+use Rattle.node_steps.specs.Promises.{Does, TakesStep, AfterError, DisksFail, StaysItself, goes_down, own_step, steps_of, AreTold, Restarts, FailsRestart, Brings, stays_down}
 use Rattle.coordinator_core.specs.declared.nodes.Coordinator.{Coordinator}
 use Rattle.coordinator_rules.specs.Costs.{InputCosts}
 use Rattle.coordinator_rules.specs.Naming.{ComesNamed, IsNamed}
@@ -100,6 +100,7 @@ pub record CrashesBy {D : Type 0} (state : D → DiskState) (old new : Coordinat
 pub record RestartsBy {D : Type 0} (state : D → DiskState) (old new : Coordinator D) (pick : ℕ) (calls : Option ℕ) (now : ℕ) (result : Result Act OpenError) : Type 0 where
   pub restarts : AreTold (disks_of state old) → IfOk result (Restarts (node_state state old) (node_state state new) pick calls now)
   pub after : AreTold (disks_of state old) → IfErr result (FailsRestart (node_state state old) (node_state state new) pick calls now)
+  pub brings : AreTold (disks_of state old) → IfOk result (Brings (node_state state old) pick)
   pub not_full : IfErr result IsNotFull
   -- one that fails changes no byte where the records are short
   pub not_due : OnErr result (StaysWhereShort (state_of state) (twin (sessions_of old)) (twin (sessions_of new)))

@@ -30,3 +30,9 @@ no_line names line found is differs = λ are e types fits text.
     let back : found ≡ e = is ∙ ap (λ t. entry_of names t) (sym text) ∙ reads_back names e are types fits in
     no_both (same_text (entry_text names e) line) (is_entry names e)
     (subst (λ (x : Entry). (same_text (entry_text names x) line && is_entry names x) ≡ false) back differs) (own_line names line e text) fits
+
+pub unlike : (names : Names) (line : List ℕ) (found : Entry) → found ≡ entry_of names line → (same_text (entry_text names found) line && is_entry names found) ≡ false
+    → IsLineOf names (entry_of names line) line → ⊥
+unlike names line found is differs of =
+    no_both (same_text (entry_text names found) line) (is_entry names found) differs
+    (own_line names line found (ap (entry_text names) is ∙ of.text)) (ap (is_entry names) is ∙ of.fits)

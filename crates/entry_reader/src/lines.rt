@@ -12,12 +12,16 @@ use history_text::{Entry, Names, write_entry};
 use seata_types::NoMemory;
 use std::alloc::Global;
 
-/// The entry whose line this is, as `write_entry` prints it with these names. `Refused` says that no
-/// entry that can be printed with them has this line, where they are the different names of nodes.
-#[tactic(auto, using(crate::proofs::Exact::line_of, crate::proofs::Exact::no_line))]
+/// The entry whose line this is, as `write_entry` prints it with these names: the one that the line
+/// looks like. `Refused` says that this one has another line, and that no entry that can be printed
+/// with these names has this line, where they are the different names of nodes.
+#[tactic(auto, using(crate::proofs::Exact::line_of, crate::proofs::Exact::no_line, crate::proofs::Exact::unlike))]
 pub fn read_entry(alloc: Global, line: &str, names: &Names) -> Result<Entry, LineError>
     ensures read { IfOk result (λ found. spec.IsLineOf names.now found line.now) }
+    ensures seen { IfOk result (λ found. found ≡ spec.entry_of names.now line.now) }
     ensures refused { IfErr result (λ e. e ≡ LineError.Refused → spec.IsNoLine names.now line.now) }
+    ensures unlike { IfErr result (λ e. e ≡ LineError.Refused →
+        spec.IsLineOf names.now (spec.entry_of names.now line.now) line.now → ⊥) }
 {
     let Ok(found) = entry(alloc, names, line) else {
         return Err(LineError::NoMemory);

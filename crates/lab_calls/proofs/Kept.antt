@@ -1,31 +1,36 @@
 -- A replay or a run, after the text of its scenario was kept on the disk `net`.
-use Rattle.std.proofs.Common.{◌≡◌, ◌⊎◌, ⊎_elim, inl, inr, ◌++◌, ℕ, IsTrue, List, ◌∷◌, Result, Ok, Err, refl, ap, sym, subst, ◌∙◌, arith}
+use Rattle.std.proofs.Common.{◌≡◌, ◌⊎◌, ⊎_elim, inl, inr, ◌+◌, ◌++◌, ℕ, IsTrue, true, List, [], ◌∷◌, map, Result, Ok, Err, refl, ap, sym, subst, ◌∙◌, arith}
 use Rattle.std.specs.List.{AllByRecursion}
 use Rattle.disk_model.specs.Disk.{DiskState, Rose}
 use Rattle.disk_model.specs.Shelf.{KeepsOthers, SameUnder, ShelfState}
 use Rattle.disk_model.proofs.Taken.{next_since}
 use Rattle.seata_types.specs.declared.limits.TheConstants.{BODY_BYTES, SCENARIO_DISK}
+use Rattle.seata_types.specs.declared.errors.Full.{Full}
+use Rattle.seata_types.specs.declared.ids.Place.{Place}
 use Rattle.seata_types.specs.declared.ids.Place.TheVariants as place
 use Rattle.base_records.specs.Pieces.{IsFront}
+use Rattle.base_disk.specs.Keeping.{LacksRoom}
 use Rattle.base_shelf.specs.Keeping.{HoldsBase, IsNetBack, IsNoNet, KeepsBase, net_name}
 use Rattle.base_shelf.proofs.NetName.{nodes_away}
 use Rattle.scenario_form.specs.declared.scenarios.Scenario.{Scenario}
-use Rattle.scenario_form.specs.Runnable.{IsRunnable}
+use Rattle.scenario_form.specs.declared.scenarios.ResourceDef.{ResourceDef}
+use Rattle.scenario_form.specs.Runnable.{IsRunnable, resource_name}
 use Rattle.node_seat.specs.declared.faults.RunFault.{RunFault}
 use Rattle.node_seat.specs.declared.faults.RunFault.TheVariants as run_fault
-use Rattle.scenario_nodes.specs.Nodes.{Held, HoldAll, Holds, Server, servers_of}
+use Rattle.scenario_nodes.specs.Nodes.{Held, HoldAll, Holds, Server, coordinator_server, none_held, resource_server, servers_of}
 use Rattle.scenario_nodes.specs.Opening.{AreNotOpened, IsShelfFault}
-use Rattle.scenario_nodes.specs.Reading.{HoldStill}
-use Rattle.scenario_nodes.specs.Shelves.{AllTell, IsGivenIn}
-use Rattle.scenario_nodes.proofs.Returned.{still}
+use Rattle.scenario_nodes.specs.Reading.{HoldStill, IsReadFault, IsSound}
+use Rattle.scenario_nodes.specs.Shelves.{AllTell, IsDiskName, IsGivenIn, second_name}
+use Rattle.scenario_nodes.specs.Together.{IsOfOne, numbered}
+use Rattle.scenario_nodes.proofs.Returned.{are_next_since, still}
 use Rattle.scenario_nodes.proofs.Together.{all_behind}
 use Rattle.replay_runner.specs.Leaving.{IsCalmEnd, IsCalmShelf, IsServerDisk, Showing}
 use Rattle.replay_runner.proofs.Calm.{NeverDamaged}
 use Rattle.lab_calls.specs.declared.played.Played.{Played}
-use Rattle.lab_calls.specs.Answers.{IsEndText, status_of}
+use Rattle.lab_calls.specs.Answers.{IsEndText, ended_status, is_among, status_of}
 use Rattle.lab_calls.specs.Kept.{EndsKept, HasBase, IsCalmNet, PlaysKept}
-use Rattle.lab_calls.specs.Once.{TellsBase}
-use Rattle.lab_calls.specs.Over.{EndsOver, entries_of}
+use Rattle.lab_calls.specs.Once.{TellsBase, TellsSound}
+use Rattle.lab_calls.specs.Over.{AllSound, EndsOver, entries_of}
 use Rattle.lab_calls.proofs.Concluded.{false_true}
 use Rattle.lab_calls.proofs.Over.{given_over, over_calmly}
 
@@ -41,6 +46,25 @@ given_still Others old mid new name disk same keeps given = record {
   counted = λ told. let rose = given.counted told in let more = keeps.gives name in omega (arith, rose, more);
 }
 
+-- the disks of the nodes weren't damaged before either
+module _ {D : Type 0} (state : D → DiskState) (s : Scenario) (old mid : ShelfState D) where
+  one_sound : (v : Server) → ((n : List ℕ) → IsDiskName v.name n → SameUnder n old mid) → IsSound state mid s v → IsSound state old s v
+  one_sound v same sound a b next = sound a b (are_next_since state s.disk v.name a b old mid (same v.name (inl refl)) (same (second_name v.name) (inr refl)) next)
+
+  resources_sound : (held : Held) (k : ℕ) (defs : List ResourceDef) → ((n : List ℕ) → IsOfOne (map resource_name defs) n → SameUnder n old mid)
+      → AllByRecursion (IsSound state mid s) (map (resource_server s held) (numbered k defs)) → AllByRecursion (IsSound state old s) (map (resource_server s held) (numbered k defs))
+  resources_sound held k [] same sound = tt
+  resources_sound held k (def ∷ defs) same sound = (
+    one_sound (resource_server s held (k, def)) (λ n its. same n (inl its)) sound.0,
+    resources_sound held (k + 1) defs (λ n its. same n (inr its)) sound.1,
+  )
+
+  sound_before : ((n : List ℕ) → IsServerDisk s n → SameUnder n old mid) → AllSound state mid s → AllSound state old s
+  sound_before same sound all held = (
+    one_sound (coordinator_server s held) (λ n its. same n (inl its)) (sound all held).0,
+    resources_sound held 1 s.resources (λ n its. same n (inr its)) (sound all held).1,
+  )
+
 module _ {D S : Type 0} (Shows : Held → Showing) (state : D → DiskState) (seen : S → ShelfState D) (s : Scenario) where
   pub kept_over : (old mid new : S) → IsRunnable s → KeepsBase state s.base (seen old) (seen mid) (Ok tt) → HoldStill state s (seen old) (seen mid) → (ended : Result Played RunFault) → EndsOver Shows state seen mid new s ended
       → KeepsOthers (IsServerDisk s) (seen mid) (seen new) → EndsKept Shows state seen old new s ended
@@ -48,6 +72,7 @@ module _ {D S : Type 0} (Shows : Held → Showing) (state : D → DiskState) (se
     between = mid;
     kept = kept;
     still = holds;
+    same = λ name its. kept.keeps.others name (nodes_away s runs name its);
     ends = ends;
     stays = keeps.others net_name (λ its. nodes_away s runs net_name its refl);
     keeps = keeps;
@@ -56,8 +81,11 @@ module _ {D S : Type 0} (Shows : Held → Showing) (state : D → DiskState) (se
   module _ (old new : S) where
     -- what was made behind the text was made on the disks that the shelf gave before
     pub done_kept : (p : Played) → (k : PlaysKept Shows state seen old new s (Ok p)) → EndsOver Shows state seen old new s (Ok p)
-    done_kept p k =
-        (given_over (λ n. n ≡ net_name) Shows state s (seen old) (seen k.between) (seen new) (Ok p.history) k.still k.kept.keeps k.ends.0, λ all held had. k.ends.1 all held (k.still all held had))
+    done_kept p k = (
+      given_over (λ n. n ≡ net_name) Shows state s (seen old) (seen k.between) (seen new) (Ok p.history) k.still k.kept.keeps k.ends.0,
+      λ all held had. k.ends.1 all held (k.still all held had),
+      sound_before state s (seen old) (seen k.between) k.same k.ends.2,
+    )
 
     pub has_base : (ended : Result Played RunFault) → PlaysKept Shows state seen old new s ended → HasBase state (seen old) (seen new) s
     has_base ended k = by k.kept.net
@@ -127,10 +155,10 @@ module _ {D : Type 0} (state : D → DiskState) (all : AllTell state) (s : Scena
   not_other (inr t) = (t.refused.unopened all (holds_at t.before t.behind (servers_of s held) t.server t.all holds)).cause
 
 module _ {D S : Type 0} (Shows : Held → Showing) (state : D → DiskState) (seen : S → ShelfState D) (s : Scenario) (all : AllTell state) (held : Held) (never : NeverDamaged (Shows held)) where
-  never_other : (old new : S) → HoldAll state (seen old) s held → EndsOver Shows state seen old new s (Err run_fault.Other) → ⊥
-  never_other old new holds (inl (inl g)) = never.other _ (g.leaves all held holds)
-  never_other old new holds (inl (inr e)) = not_other state all s held (seen old) (seen new) holds (e held)
-  never_other old new holds (inr n) = not_other state all s held (seen n.between) (seen new) (n.still all held holds) (n.refused held)
+  pub never_other : (old new : S) → HoldAll state (seen old) s held → EndsOver Shows state seen old new s (Err run_fault.Other) → ⊥
+  never_other old new holds (inl g) = never.other _ (g.0.leaves all held holds)
+  never_other old new holds (inr (inl u)) = u.cause held
+  never_other old new holds (inr (inr n)) = not_other state all s held (seen n.between) (seen new) (n.still all held holds) (n.refused held)
 
   module _ (old new : S) (holds : HoldAll state (seen old) s held) (records : List (List ℕ)) (had : HoldsBase state (seen old) records) where
     kept_base : (ended : Result Played RunFault) (text : List ℕ) (n : ℕ) → PlaysKept Shows state seen old new s ended → IsEndText s ended text n → TellsBase n s.base records
@@ -155,3 +183,64 @@ module _ {D S : Type 0} (Shows : Held → Showing) (state : D → DiskState) (se
     tells_base ended text n (inl k) t = kept_base ended text n k t
     tells_base (Ok p) text n (inr none) t = absurd none
     tells_base (Err missed) text n (inr k) t = unkept_base missed text n k t
+
+-- ---- damaged bytes
+
+-- a reading never ends with a status where no disk failed
+read_never : (servers : List Server) (missed : RunFault) → IsReadFault servers missed → is_among (0 ∷ 3 ∷ 8 ∷ []) (status_of missed) ≡ true → ⊥
+read_never servers (run_fault.Store at) cause known = false_true known
+read_never servers (run_fault.Full at full) cause known = cause
+read_never servers (run_fault.Damaged at second offset) cause known = false_true known
+read_never servers run_fault.Other cause known = cause
+read_never servers run_fault.NoMemory cause known = false_true known
+
+module _ {D S : Type 0} (Shows : Held → Showing) (state : D → DiskState) (seen : S → ShelfState D) (s : Scenario) (all : AllTell state) where
+  over_sound : (old new : S) (ended : Result Played RunFault) → EndsOver Shows state seen old new s ended → is_among (0 ∷ 3 ∷ 8 ∷ []) (ended_status ended) ≡ true → AllSound state (seen old) s
+  over_sound old new (Ok p) ends known = ends.2
+  over_sound old new (Err missed) (inl g) known = g.1
+  over_sound old new (Err missed) (inr (inl u)) known = absurd (read_never (servers_of s none_held) missed (u.cause none_held) known)
+  over_sound old new (Err missed) (inr (inr n)) known = n.sound
+
+  module _ (old new : S) where
+    status_is : (ended : Result Played RunFault) (text : List ℕ) (n : ℕ) → IsEndText s ended text n → n ≡ ended_status ended
+    status_is (Ok p) text n t = t.0
+    status_is (Err missed) text n t = t.1
+
+    kept_sound : (ended : Result Played RunFault) (text : List ℕ) (n : ℕ) → PlaysKept Shows state seen old new s ended → IsEndText s ended text n → is_among (0 ∷ 3 ∷ 8 ∷ []) n ≡ true
+        → TellsSound state (seen old) n s
+    kept_sound ended text n k t known = record {
+      net = λ bytes is. let first = k.kept.tells all bytes is in (first.records, first.stand);
+      nodes = inl (sound_before state s (seen old) (seen k.between) k.same
+          (over_sound k.between new ended k.ends (subst (λ m. is_among (0 ∷ 3 ∷ 8 ∷ []) m ≡ true) (status_is ended text n t) known)));
+    }
+
+    -- the text had no room
+    no_room : (at : Place) (full : Full) → IsNetBack state s.base (seen old) (seen new) (Err (run_fault.Full at full)) ⊎ IsNoNet (seen old) (seen new) (Err (run_fault.Full at full)) → LacksRoom s.base SCENARIO_DISK full
+    no_room at full (inl b) = b.cause.1
+    no_room at full (inr n) = absurd (not_had n.missed (ap fault_in n.is) n.cause)
+      where
+        not_had : (missed : RunFault) → run_fault.Full at full ≡ missed → IsShelfFault place.Net (seen old) (seen new) missed → ⊥
+        not_had (run_fault.Store p) is cause = cc
+        not_had run_fault.NoMemory is cause = cc
+        not_had (run_fault.Full p more) is cause = cause
+        not_had (run_fault.Damaged p second offset) is cause = cause
+        not_had run_fault.Other is cause = cause
+
+    unkept_sound : (missed : RunFault) (text : List ℕ) (n : ℕ) → KeepsBase state s.base (seen old) (seen new) (Err missed) → IsEndText s (Err missed) text n → is_among (0 ∷ 3 ∷ 8 ∷ []) n ≡ true
+        → TellsSound state (seen old) n s
+    unkept_sound (run_fault.Full at full) text n k t known = record {
+      net = λ bytes is. let first = k.tells all bytes is in (first.records, first.stand);
+      nodes = inr (inr (t.1, (full, no_room at full k.net)));
+    }
+    unkept_sound run_fault.Other text n k t known = record {
+      net = λ bytes is. let others = k.tells all bytes is in (others.records, others.stand);
+      nodes = inr (inl (t.1, λ records had. k.answers all records had));
+    }
+    unkept_sound (run_fault.Store at) text n k t known = false_true (rw t.1 at known)
+    unkept_sound (run_fault.Damaged at second offset) text n k t known = false_true (rw t.1 at known)
+    unkept_sound run_fault.NoMemory text n k t known = absurd (t.0 refl)
+
+    pub tells_sound : (ended : Result Played RunFault) (text : List ℕ) (n : ℕ) → EndsKept Shows state seen old new s ended → IsEndText s ended text n → is_among (0 ∷ 3 ∷ 8 ∷ []) n ≡ true → TellsSound state (seen old) n s
+    tells_sound ended text n (inl k) t known = kept_sound ended text n k t known
+    tells_sound (Ok p) text n (inr none) t known = absurd none
+    tells_sound (Err missed) text n (inr k) t known = unkept_sound missed text n k t known

@@ -1,6 +1,7 @@
 mod Answered
 mod Audited
 mod CalmStatus
+mod Chained
 mod Concluded
 mod Over
 mod Kept

@@ -35,19 +35,19 @@ keeps_both s old mid new one two = keeps_then (IsServerDisk s) (IsServerDisk s) 
 module _ {D S : Type 0} (Shows : Held → Showing) (state : D → DiskState) (seen : S → ShelfState D) (s : Scenario) (old mid new : S) where
   -- the disks couldn't be read
   pub unread_over : (missed : RunFault) → ReadsBefore state s (seen old) (seen mid) (Err missed) → EndsOver Shows state seen old mid s (Err missed)
-  unread_over missed r = inl (inr (λ held. inl (r.refused held)))
+  unread_over missed r = inr (inl (record { refused = r.refused; cause = r.cause }))
 
   module _ (before : Before) (r : ReadsBefore state s (seen old) (seen mid) (Ok before)) where
     holds : HoldStill state s (seen old) (seen mid)
     holds = hold_still state s (seen old) (seen mid) r.back
 
     pub made_over : (es : List Entry) → UsesShelf Shows state (seen mid) (seen new) s (Ok es) → EndsOver Shows state seen old new s (Ok (record { before = before; history = es }))
-    made_over es (inl g) = (given_over (IsServerDisk s) Shows state s (seen old) (seen mid) (seen new) (Ok es) holds r.keeps g, λ all held had. r.says all held had)
+    made_over es (inl g) = (given_over (IsServerDisk s) Shows state s (seen old) (seen mid) (seen new) (Ok es) holds r.keeps g, λ all held had. r.says all held had, λ all held. r.sound all held)
     made_over es (inr none) = absurd none
 
     pub broken_over : (missed : RunFault) → UsesShelf Shows state (seen mid) (seen new) s (Err missed) → EndsOver Shows state seen old new s (Err missed)
-    broken_over missed (inl g) = inl (inl (given_over (IsServerDisk s) Shows state s (seen old) (seen mid) (seen new) (Err missed) holds r.keeps g))
-    broken_over missed (inr refused) = inr (record { between = mid; still = holds; keeps = r.keeps; refused = refused })
+    broken_over missed (inl g) = inl (given_over (IsServerDisk s) Shows state s (seen old) (seen mid) (seen new) (Err missed) holds r.keeps g, λ all held. r.sound all held)
+    broken_over missed (inr refused) = inr (inr (record { sound = λ all held. r.sound all held; between = mid; still = holds; keeps = r.keeps; refused = refused }))
 
 -- ---- where nothing fails
 
@@ -55,8 +55,9 @@ module _ {D S : Type 0} (Shows : Held → Showing) (state : D → DiskState) (se
     (same : (seen new).tells ≡ (seen old).tells) where
   pub over_calmly : (ended : Result Played RunFault) → EndsOver Shows state seen old new s ended → IsCalmShelf state s (seen old) (seen new) → IsCalmEnd (entries_of ended)
   over_calmly (Ok p) ends calm = tt
-  over_calmly (Err missed) (inl u) calm = ends_calmly Shows state s (seen old) (seen new) held never holds (Err missed) same u calm
-  over_calmly (Err missed) (inr n) calm =
+  over_calmly (Err missed) (inl g) calm = ends_calmly Shows state s (seen old) (seen new) held never holds (Err missed) same (inl g.0) calm
+  over_calmly (Err missed) (inr (inl u)) calm = ends_calmly Shows state s (seen old) (seen new) held never holds (Err missed) same (inr (λ some. inl (u.refused some))) calm
+  over_calmly (Err missed) (inr (inr n)) calm =
       ends_calmly Shows state s (seen n.between) (seen new) held never (n.still calm.told held holds) (Err missed) (same ∙ sym n.keeps.tells) (inr n.refused)
       (record {
         tells = still (seen old).tells (seen n.between).tells n.keeps.tells calm.tells;

@@ -18,7 +18,7 @@ use Rattle.lab_calls.specs.Streams.{Devices}
 use Rattle.lab_calls.proofs.CalmStatus.{calm_status}
 use Rattle.lab_calls.proofs.Concluded.{concluded}
 use Rattle.lab_calls.proofs.Headline.{IsReportOf, answer_zero, status_zero}
-use Rattle.lab_calls.proofs.Kept.{tells_base}
+use Rattle.lab_calls.proofs.Kept.{tells_base, tells_sound}
 use Rattle.lab_calls.proofs.Replayed.{replay_texts, tells_play}
 use Rattle.lab_calls.proofs.Shelved.{shelf_told}
 
@@ -40,6 +40,8 @@ module _ {D S : Type 0} (Shows : Scenario → Held → Showing) (never : (s : Sc
         shelf = shelf_told ends same status old new answer read.input read.shelf wrote;
         base = λ input r all held holds records net.
             tells_base (Shows r.scenario) state seen r.scenario all held (never r.scenario held) had has holds records net r.is_play.ended r.text status r.is_play.has_ended r.is_play.is_text;
+        sound = λ known input r all.
+            tells_sound (Shows r.scenario) state seen r.scenario all had has r.is_play.ended r.text status r.is_play.has_ended r.is_play.is_text known;
         calm = λ still input s told is held holds shelf net. calm_status Shows never state seen had has read.same_tells status old new input told s is held holds net said still shelf;
         returned = read.returned;
         same_tells = read.same_tells;

@@ -18,13 +18,14 @@ use Rattle.lab_calls.specs.Over.{EndsOver}
 -- ---- how it ends
 
 -- The text was kept, and its disk is there as that left it. What came then began with this shelf, on
--- which the disks of the nodes hold what they held.
+-- which the disks of the nodes are the same ones and hold what they held.
 pub record PlaysKept {D S : Type 0} (Shows : Held → Showing) (state : D → DiskState)
     (seen : S → ShelfState D) (old new : S) (s : Scenario) (ended : Result Played RunFault)
     : Type 0 where
   pub between : S
   pub kept : KeepsBase state s.base (seen old) (seen between) (Ok tt)
   pub still : HoldStill state s (seen old) (seen between)
+  pub same : (name : List ℕ) → IsServerDisk s name → SameUnder name (seen old) (seen between)
   pub ends : EndsOver Shows state seen between new s ended
   pub stays : SameUnder net_name (seen between) (seen new)
   pub keeps : KeepsOthers (IsServerDisk s) (seen between) (seen new)

@@ -3,6 +3,7 @@ pub mod FrameLines
 pub mod Listings
 pub mod Over
 pub mod Kept
+pub mod Chained
 pub mod Answers
 pub mod Steps
 pub mod Making

@@ -8,7 +8,7 @@ use Rattle.history_text.specs.Report.{line}
 use Rattle.scenario_nodes.specs.Shelves.{AllTell, ReturnsAll}
 use Rattle.store_shown.specs.declared.found.Shown.{Shown}
 use Rattle.store_shown.specs.declared.found.Shown.TheVariants as shown
-use Rattle.store_shown.specs.Showing.{IsFound, KeepsBytes}
+use Rattle.store_shown.specs.Showing.{IsFound, KeepsBytes, Touches}
 use Rattle.lab_calls.specs.declared.answers.Answer.{Answer}
 use Rattle.lab_calls.specs.Answers.{end_text, fault_text, is_among, status_of}
 use Rattle.lab_calls.specs.Streams.{GainsFront, SinkState}
@@ -32,6 +32,10 @@ pub record TellsFound {D S : Type 0} (state : D → DiskState) (seen : S → She
 
 -- ---- the call
 
+-- the statuses that come with a text
+abbrev pub shown_statuses : List ℕ
+shown_statuses = 0 ∷ 3 ∷ 7 ∷ 9 ∷ []
+
 -- the sink got such a text, with its status
 pub record WritesFound {D S : Type 0} (state : D → DiskState) (seen : S → ShelfState D)
     (had has : S) (status : ℕ) (old new : SinkState) : Type 0 where
@@ -49,13 +53,13 @@ pub record CutsFound {D S : Type 0} (state : D → DiskState) (seen : S → Shel
 
 -- A call showed what the disks of a shelf hold. The status is 0 where that was written, 3 where the
 -- disk `net` keeps no whole text or one that is no scenario, 5 where the sink failed, 6 where memory
--- was refused, and else that of the fault that kept the disks from being read. However it ends: each
--- disk that was there has its bytes, the disk `net` comes next with those that it had, blank or not,
--- and the disks that were taken are given back.
+-- was refused, and else 7 or 9, of the fault that kept the disks from being read. However it ends: each
+-- disk that was there has its bytes, the disk `net` comes next with those that it had, blank or not, so
+-- do the disks of the nodes, no other is touched, and the disks that were taken are given back.
 pub record ShowsOnce {D S : Type 0} (state : D → DiskState) (seen : S → ShelfState D) (had has : S)
     (status : ℕ) (old new : SinkState) : Type 0 where
-  pub statuses : is_among (0 ∷ 3 ∷ 5 ∷ 6 ∷ 7 ∷ 8 ∷ 9 ∷ []) status ≡ true
-  pub told : is_among (0 ∷ 3 ∷ 7 ∷ 8 ∷ 9 ∷ []) status ≡ true
+  pub statuses : is_among (5 ∷ 6 ∷ shown_statuses) status ≡ true
+  pub told : is_among shown_statuses status ≡ true
       → WritesFound state seen had has status old new
   pub cut_short : status ≡ 5 → CutsFound state seen had has old new
   pub sink_failed : status ≡ 5 → Rose old.faults new.faults
@@ -63,6 +67,7 @@ pub record ShowsOnce {D S : Type 0} (state : D → DiskState) (seen : S → Shel
   pub bytes : KeepsBytes state (seen had) (seen has)
   pub net : AllTell state → (bytes : List ℕ) → NetIs state (seen had) bytes
       → NetIs state (seen has) bytes
+  pub touches : Touches state (seen had) (seen has)
   pub returned : ReturnsAll (seen had) (seen has)
   pub same_tells : (seen has).tells ≡ (seen had).tells
 
@@ -76,5 +81,6 @@ pub record AnswersShown {D S : Type 0} (state : D → DiskState) (seen : S → S
   pub bytes : KeepsBytes state (seen had) (seen has)
   pub net : AllTell state → (bytes : List ℕ) → NetIs state (seen had) bytes
       → NetIs state (seen has) bytes
+  pub touches : Touches state (seen had) (seen has)
   pub returned : ReturnsAll (seen had) (seen has)
   pub same_tells : (seen has).tells ≡ (seen had).tells

@@ -99,8 +99,9 @@ IsRunOrNot state seen had has same n size tells unwritten =
 
 -- A call ran the scenario that is made of a number for so many managers. The status is 0 where its
 -- numbers were written, 5 where the sink failed, 6 where memory was refused, and else that of the fault
--- that ended the run. Where no device fails, and the disks held records of the nodes, it is 0, 6 or 8.
--- The disks that were taken are given back.
+-- that ended the run. Where the disks held records of the nodes it is never 3, and where besides no
+-- device fails 0, 6 or 8. At 0 no disk of a node was damaged before, by how the run ended. The disks that
+-- were taken are given back.
 pub record StressesOnce {D S : Type 0} (state : D → DiskState) (seen : S → ShelfState D)
     (had has : S) (same : Type 0) (n size status : ℕ) (old new : SinkState) : Type 0 where
   pub statuses : is_among (0 ∷ 3 ∷ 5 ∷ 6 ∷ 7 ∷ 8 ∷ 9 ∷ []) status ≡ true
@@ -110,6 +111,8 @@ pub record StressesOnce {D S : Type 0} (state : D → DiskState) (seen : S → S
   pub done : status ≡ 0 → (s : Scenario) × IsScenario (made n size) s
       × ((text : List ℕ) × Appends old.written new.written text
       × IsStressed state (seen had) (seen has) s text)
+  pub other : status ≡ 3 → AllTell state → (s : Scenario) → IsScenario (made n size) s
+      → (held : Held) → ¬ HoldAll state (seen had) s held
   pub calm : ¬ Rose old.faults new.faults → (s : Scenario) → IsScenario (made n size) s
       → (held : Held) → HoldAll state (seen had) s held → IsCalmShelf state s (seen had) (seen has)
       → is_calm_end status ≡ true

@@ -1,5 +1,8 @@
-//! What holds of the lines of frames.
+//! What holds of the lines of frames, and of calls in a row.
+ghost use Rattle.lab_calls.specs.Chained.{KeptCallsGoOn};
 ghost use Rattle.lab_calls.specs.FrameLines.{FrameAddsLine, NothingHasNoLine, BadFrameEnds, FrameOrFault};
+
+use disk_model::Shelf;
 
 /// The lines of bytes are determined by what the bytes are: a frame in front adds its line to the lines of what is
 /// behind it, no bytes have none, and bytes that don't begin with a frame have the line of their fault alone. There is
@@ -9,4 +12,13 @@ pub fn frames_have_their_lines()
     ensures nothing { NothingHasNoLine }
     ensures bad_frame { BadFrameEnds }
     ensures all { FrameOrFault }
+{}
+
+/// Whatever its status, a replay or a run leaves disks that the next one of the same scenario may begin with, where the shelf and
+/// its disks tell: on a shelf whose disks calls of the scenario left, those of the nodes hold records that the longer chain of
+/// histories may leave, and the disk `net` the first ones of its text. So what is said of a call over disks that hold records, and
+/// over a `net` of the same text, is said of each call in a row, with whatever stops and schedule; no disk is damaged there, and
+/// none is another scenario's.
+pub fn kept_calls_go_on<H: Shelf>()
+    ensures { KeptCallsGoOn H.D.state H.state }
 {}

@@ -172,12 +172,13 @@ fn write_answer<K: Sink>(sink: &mut K, answer: Result<Answer, u8>) -> u8
 /// schedule and stops is kept on the disk `net` of the shelf. The status is 0 where that is done, 3 where the input is no
 /// scenario or the records of `net` aren't the first ones of its text, 4 where the source failed, 5 where the sink did, 6 where
 /// memory was refused, 7 where a disk couldn't be had or its opening or restart failed, 8 where the next record of a node or of
-/// the text would pass the end of its disk, and 9 where a disk has bytes that are no journal. At each status the disks that
-/// were taken are given back: where the shelf tells of them, each name that has a place there had one before or has a disk that
-/// was given back to it, and a name that had such a disk still has one. Where a shelf had no place for any node before, its
-/// places say of how many nodes the disks were taken. What is said of the history and its report is said over whatever records
-/// the disks held before. Where nothing fails, the shelf and its disks tell, and these held records of the nodes and `net` the
-/// first ones of the text, the status of a scenario is 0, 6 or 8.
+/// the text would pass the end of its disk, and 9 where a disk has bytes that are no journal: it is 9 then, or that of a fault
+/// which came before, and a scenario is never done over such a disk, nor is it taken for another scenario's. At each status the
+/// disks that were taken are given back: where the shelf tells of them, each name that has a place there had one before or has a
+/// disk that was given back to it, and a name that had such a disk still has one. Where a shelf had no place for any node before,
+/// its places say of how many nodes the disks were taken. What is said of the history and its report is said over whatever
+/// records the disks held before. Where nothing fails, the shelf and its disks tell, and these held records of the nodes and
+/// `net` the first ones of the text, the status of a scenario is 0, 6 or 8.
 pub fn replay_once<S: Source, K: Sink, H: Shelf>(
     alloc: Global,
     source: &mut S,
@@ -238,8 +239,9 @@ pub fn make_once<K: Sink>(alloc: Global, number: u64, size: u32, sink: &mut K) -
 /// Runs the scenario that is made of a number for so many managers, on worker threads, and writes four lines of the numbers of
 /// its history: how many transactions began and how many of these are finished or failed, the sum of all `acc.m`, the sum of
 /// all `stock.held`, and how many rows are held. It keeps no text on the disk `net`. Its other statuses are those of `run_once`
-/// but 4, since there is no input, and so is what they say of the disks of the nodes. It may wait, and where messages are lost
-/// for good it may never return.
+/// but 4, since there is no input, and so is what they say of the disks of the nodes; 3 isn't said to be impossible on disks that
+/// hold no records of the nodes, but it is on those that do. It may wait, and where messages are lost for good it may never
+/// return.
 pub fn stress_once<K: Sink, H: Shelf, G: Gate, R: Threads + Wait + Sync>(
     rt: &R,
     alloc: Global,
@@ -262,8 +264,8 @@ pub fn stress_once<K: Sink, H: Shelf, G: Gate, R: Threads + Wait + Sync>(
 }
 
 /// Writes what the disks of a shelf hold of the scenario whose text the disk `net` keeps: the transactions that are known, the
-/// rows that are held, the rows of all tables, and the branches that have a fence, as in a report. No byte of a disk is changed.
-/// The status is 0 where that is done, 3 where `net` keeps no whole text or one that is no scenario, 5 where the sink failed, 6
+/// rows that are held, the rows of all tables, and the branches that have a fence, as in a report. No byte of a disk is changed,
+/// one that is taken anew stays blank, and no other is taken than `net` and those of the nodes of its scenario. The status is 0 where that is done, 3 where `net` keeps no whole text or one that is no scenario, 5 where the sink failed, 6
 /// where memory was refused, 7 where a disk couldn't be had or read, and 9 where a disk has bytes that are no journal. At each
 /// status the disks that were taken are given back.
 pub fn show_once<K: Sink, H: Shelf>(alloc: Global, sink: &mut K, shelf: &mut H) -> u8

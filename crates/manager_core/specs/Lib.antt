@@ -1,6 +1,3 @@
 pub mod Within
-pub mod Calls
-pub mod Tracks
-pub mod Answers
 pub mod Standing
 pub mod Laws

@@ -8,7 +8,7 @@ use Rattle.history_rules.specs.ManagerRules.{Settings, is_closed, is_silent, sen
 use Rattle.history_rules.specs.Nodes.{Role, happens}
 use Rattle.history_rules.specs.Nodes.{Manager as ManagerRole}
 use Rattle.node_steps.specs.Promises.{NodeState, own_step, no_disks}
-use Rattle.manager_core.specs.Tracks.{Tracks}
+use Rattle.manager_rules.specs.Tracks.{Tracks}
 use Rattle.manager_core.specs.declared.nodes.Manager.{Manager}
 
 -- its settings

@@ -1,9 +1,8 @@
 //! The manager as a node.
 ghost use Rattle.std.specs.Prelude.{◌+◌, ◌<◌, ◌^◌};
 
-use crate::phases::Phase;
-use crate::settings::Settings;
-use crate::talks::Talk;
+use crate::speakers::Speaker;
+use manager_rules::Settings;
 use node_steps::Node;
 use seata_types::limits::NODE_STEPS;
 use seata_types::{Act, Ending, Input, List, NoMemory, NodeError, OpenError, Place, Step, Work};
@@ -12,7 +11,7 @@ use std::alloc::Global;
 /// A transaction manager, in memory. It runs one transaction.
 #[derive(Drop)]
 pub struct Manager {
-    talk: Talk,
+    talk: Speaker,
     left: u32,
     ghost room: { talk.sent + left < 2 ^ 32 },
 }
@@ -21,7 +20,8 @@ impl Manager {
     ghost use Rattle.std.specs.Prelude.{◌≡◌, List as Entries, []};
     ghost use Rattle.history_rules.specs.Own.{Own};
     ghost use Rattle.manager_core.specs.Standing.{StandsFor, settings, steps_of, is_finished};
-    ghost use Rattle.manager_core.specs.Within.{IsWithin, settings_with};
+    ghost use Rattle.manager_core.specs.Within.{IsWithin};
+    ghost use Rattle.manager_rules.specs.Within.{settings_with};
     ghost use Rattle.seata_types.specs.declared.limits.TheConstants.{NODE_STEPS};
 
     /// A manager that did nothing yet, with its timeout in ticks, how often each call may be busy, its calls with the numbers
@@ -43,11 +43,8 @@ impl Manager {
             settings_with number timeout tries calls ending silent poll }
         ensures steps { steps_of result ≡ NODE_STEPS }
     {
-        let talk = Talk {
-            settings: Settings::new(number, timeout, tries, calls, ending, silent, poll),
-            sent: 0,
-            phase: Phase::Unstarted,
-        };
+        let settings = Settings::new(number, timeout, tries, calls, ending, silent, poll);
+        let talk = Speaker::new(settings);
         Manager {
             talk,
             left: NODE_STEPS,
@@ -60,7 +57,7 @@ impl Manager {
         ensures { (owns : Entries Own) → StandsFor self.now owns →
             result ≡ is_finished (settings self.now) owns }
     {
-        self.talk.is_closed() || self.talk.is_silent()
+        self.talk.talk().is_closed() || self.talk.talk().is_silent()
     }
 }
 
@@ -76,7 +73,7 @@ impl Node for Manager {
     ghost state = { node_state };
 
     fn place(&self) -> Place {
-        Place::Man(self.talk.settings.number())
+        Place::Man(self.talk.talk().settings.number())
     }
 
     #[tactic(auto, unfolding(crate::specs::Standing::StandsFor))]

@@ -1,5 +1,6 @@
 mod DurableExamples
 pub mod DurableImages
 pub mod EndLaws
+pub mod Kept
 mod EndExamples
 pub mod Served

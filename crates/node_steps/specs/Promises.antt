@@ -16,11 +16,12 @@ use Rattle.seata_types.specs.declared.errors.OpenError.TheVariants as open_error
 use Rattle.seata_types.specs.declared.messages.Input.{Input}
 use Rattle.seata_types.specs.declared.messages.Step.{Step}
 use Rattle.resource_log.specs.Records.{record_bytes}
-use Rattle.history_rules.specs.Own.{Event, Given, Restarted, Own, still}
+use Rattle.history_rules.specs.Own.{Event, Given, Restarted, Own, Left, still, kept_records}
 use Rattle.history_rules.specs.Devices.{is_short, kept_act}
-use Rattle.history_rules.specs.ResourceMemory.{boot_over}
-use Rattle.history_rules.specs.Nodes.{Role, Resource, answer, happens, left_at}
-use Rattle.node_steps.specs.Durable.{own_faults}
+use Rattle.history_rules.specs.CoordinatorMemory.{sessions_left}
+use Rattle.history_rules.specs.ResourceMemory.{boot_over, memory, opening_tables}
+use Rattle.history_rules.specs.Nodes.{Role, Coordinator, Resource, Manager, MayStand, answer, happens, left_at}
+use Rattle.node_steps.specs.Durable.{Reading, StandsForRecords, of_coordinator, of_resource, own_faults}
 use Rattle.node_steps.specs.Ends.{EntryFits, EntryOver}
 pub use Rattle.node_steps.specs.Nodes.{NodeState, place_of, has_disks, own_entry}
 
@@ -136,6 +137,26 @@ Restarts old new pick calls now done =
     (fault : Bool) × (keeps : Bool) × (still done ≡ happens role owns now fault keeps (Restarted pick calls))
     × new.stands_for role (own_entry (Restarted pick calls) now (still done) ∷ owns) × (fault ≡ true → DisksFail old.disks new.disks)
     × LiesWith old new role owns (own_entry (Restarted pick calls) now (still done))
+
+-- There are two images of the old disks which this pick may bring back, and these stand for the records of the node with what is
+-- kept, and for no others that may stand.
+pub record BringsKept {R S : Type 0} (reading : Reading R S) (left : Left R) (disks : Pair) (pick : ℕ) (done : Act) : Type 0 where
+  pub a : List ℕ
+  pub b : List ℕ
+  pub first : disks.first.may_leave a × disks.first.comes_back pick a
+  pub second : disks.second.may_leave b × disks.second.comes_back pick b
+  pub stand : StandsForRecords reading (kept_records done left) a b
+  pub alone : (rs : List R) → MayStand left rs → StandsForRecords reading rs a b → rs ≡ kept_records done left
+
+-- the same by the role of the node; a manager has no disks
+abbrev pub RoleBrings : Role → List Own → Pair → (pick : ℕ) → Act → Type 0
+RoleBrings (Coordinator times past) owns disks pick done = BringsKept of_coordinator (sessions_left past owns) disks pick done
+RoleBrings (Resource setup past) owns disks pick done = BringsKept (of_resource (opening_tables setup)) (memory setup past owns).left disks pick done
+RoleBrings (Manager settings) owns disks pick done = Unit {0}
+
+-- what a restart keeps is what its pick brought back
+abbrev pub Brings : NodeState → (pick : ℕ) → Act → Type 0
+Brings old pick done = (role : Role) (owns : List Own) → old.stands_for role owns → RoleBrings role owns old.disks pick done
 
 -- the node is down after a restart
 abbrev pub stays_down : Result Act OpenError → Bool

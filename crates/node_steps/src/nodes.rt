@@ -15,7 +15,7 @@ pub trait Node {
     ghost use Rattle.node_steps.specs.Durable.{SamePicks, HavePick};
     ghost use Rattle.node_steps.specs.Framing.{ComesFramable, SendsFramable};
     ghost use Rattle.node_steps.specs.Nodes.{NodeState, IsLawful};
-    ghost use Rattle.node_steps.specs.Promises.{AreTold, DisksFail, StaysItself, Does, TakesStep, AfterError, steps_of, goes_down, Restarts, FailsRestart, stays_down};
+    ghost use Rattle.node_steps.specs.Promises.{AreTold, DisksFail, StaysItself, Does, TakesStep, AfterError, steps_of, goes_down, Restarts, FailsRestart, Brings, stays_down};
 
     /// What it stands for and lies by, where it stands, which inputs it serves, how many steps are left, whether it is down, and
     /// its disks.
@@ -71,8 +71,8 @@ pub trait Node {
 
     /// Comes back after a crash, in place: both disks restart with this pick and are read, then so many writes and syncs
     /// pass, where `calls` is given, and a resource writes its boot. A boot that a disk fails is answered by the act that
-    /// takes the node down again. After an error it is still down, as before, and may be restarted again. What is said of the
-    /// own entries is said where the disks tell their bytes.
+    /// takes the node down again. What was in flight is kept where the pick brought it back. After an error it is still down,
+    /// as before, and may be restarted again. What is said of the own entries is said where the disks tell their bytes.
     fn restart(
         &mut self,
         alloc: Global,
@@ -87,6 +87,8 @@ pub trait Node {
             IfOk result (Restarts (state self.old) (state self.new) pick calls now) }
         ensures after { AreTold (state self.old).disks →
             IfErr result (FailsRestart (state self.old) (state self.new) pick calls now) }
+        ensures brings { AreTold (state self.old).disks →
+            IfOk result (Brings (state self.old) pick) }
         ensures picked { (state self.old).stops ≡ true → OnOk result (HavePick pick (state self.new).disks) }
         ensures failed { result ≡ Err OpenError.Failed →
             DisksFail (state self.old).disks (state self.new).disks }

@@ -4,3 +4,6 @@ pub mod NodeNames
 pub mod Compared
 pub mod Found
 pub mod Whole
+pub mod OneReading
+pub mod OneScenario
+pub mod OneJudgement

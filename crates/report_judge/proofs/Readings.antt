@@ -1,16 +1,14 @@
 -- Lines are read one after the other.
 use Rattle.std.proofs.Common.{◌≡◌, ◌≢◌, ◌<◌, ◌≤◌, ◌+◌, ◌==◌, inl, inr, ℕ, Bool, true, false, List, [], ◌∷◌, ◌++◌, length, Result, Ok, Err, codes, refl, ap, sym, subst, ◌∙◌, append_assoc, append-nil, arith}
-use Rattle.std.specs.Prelude.{IsUtf8}
 use Rattle.std.proofs.lemmas.Bool.Decides.{nat_tests}
 use Rattle.seata_types.specs.Orders.{same_text}
 use Rattle.seata_types.specs.declared.limits.TheConstants.{HISTORY_BYTES}
 use Rattle.history_text.specs.declared.entries.Entry.{Entry}
 use Rattle.history_text.specs.declared.entries.Names.{Names}
 use Rattle.entry_reader.proofs.Tests.{equal_texts, same_self}
-use Rattle.entry_reader.specs.Reading.{IsNoLine}
-use Rattle.entry_reader.specs.Writable.{AreNodeNames}
+use Rattle.entry_reader.specs.Reading.{entry_of}
 use Rattle.report_judge.specs.Lines.{behind_line, first_line, lines}
-use Rattle.report_judge.specs.Reading.{IsEntryLine, IsUnreadable, ReadFrom, Reads, with_entry}
+use Rattle.report_judge.specs.Reading.{IsReadable, ReadFrom, Reads, with_entry}
 use Rattle.report_judge.specs.Steps.{Gives, RefusesLine}
 use Rattle.report_judge.specs.declared.errors.LinesError.{LinesError}
 use Rattle.report_judge.specs.declared.errors.LinesError.TheVariants as error
@@ -20,12 +18,6 @@ use Rattle.report_judge.proofs.Cuts.{behind_shorter, few_lines, behind_short, li
 
 pub other_text : (a b : List ℕ) → same_text a b ≡ false → a ≢ b
 other_text a b differs same = let no_one : true ≡ false = sym (same_self b) ∙ ap (λ t. same_text t b) (sym same) ∙ differs in cc
-
-pub not_text : (names : Names) (line : List ℕ) → (IsUtf8 line → ⊥) → IsUnreadable names line
-not_text names line bad = λ e types is. bad is.text
-
-pub no_entry : (names : Names) (line : List ℕ) → AreNodeNames names → IsNoLine names line → IsUnreadable names line
-no_entry names line are none = λ e types is. none are e types is.is_line.fits is.is_line.text
 
 -- ---- the lines so far
 
@@ -69,14 +61,14 @@ module _ (names : Names) (text : List ℕ) where
     pub at_sessions : (left : List ℕ) → 0 < length left → HasRead names text es n left → first_line left ≡ codes "sessions" → ReadFrom names 3 (lines text) (Ok es)
     at_sessions left some h is = subst (λ l. ReadFrom names 3 (lines text) (Ok l)) (append-nil es) (by_line left some h (Ok []) (inl (is, refl)))
 
-    pub at_unreadable : (left : List ℕ) → 0 < length left → HasRead names text es n left → first_line left ≢ codes "sessions" → IsUnreadable names (first_line left)
+    pub at_unreadable : (left : List ℕ) → 0 < length left → HasRead names text es n left → first_line left ≢ codes "sessions" → (IsReadable names (first_line left) → ⊥)
         → ReadFrom names 3 (lines text) (Err n)
     at_unreadable left some h other bad = by_line left some h (Err n) (inr (inl (other, bad, refl)))
 
-    pub at_entry : (left : List ℕ) → 0 < length left → HasRead names text es n left → (e : Entry) → first_line left ≢ codes "sessions"
-        → IsEntryLine names (first_line left) e → HasRead names text (es ++ e ∷ []) (n + 1) (behind_line left)
-    at_entry left some h e other is = record {
-      reads = λ r more. subst (ReadFrom names 3 (lines text)) (one_more es e r) (by_line left some h (with_entry e r) (inr (inr (other, e, is, (r, more, refl)))));
+    pub at_entry : (left : List ℕ) → 0 < length left → HasRead names text es n left → first_line left ≢ codes "sessions"
+        → IsReadable names (first_line left) → HasRead names text (es ++ entry_of names (first_line left) ∷ []) (n + 1) (behind_line left)
+    at_entry left some h other is = let e = entry_of names (first_line left) in record {
+      reads = λ r more. subst (ReadFrom names 3 (lines text)) (one_more es e r) (by_line left some h (with_entry e r) (inr (inr (other, is, (r, more, refl)))));
       numbered = let less = behind_shorter left some in let before = h.numbered in omega (arith, less, before);
     }
 
@@ -86,15 +78,15 @@ few_by : (names : Names) (n : ℕ) (ls : List (List ℕ)) (es : List Entry) → 
 few_by names n [] es is = absurd (let no_one : Ok es ≡ Err n = is in cc)
 few_by names n (l ∷ ls) es (inl heading) = let none : es ≡ [] = cc in let zero_long : length es ≡ 0 = ap (λ l. length l) none in omega (arith, zero_long)
 few_by names n (l ∷ ls) es (inr (inl bad)) = absurd (let no_one : Ok es ≡ Err n = bad.2 in cc)
-few_by names n (l ∷ ls) es (inr (inr more)) = behind more.3.0 more.3.2 (λ fs is. few_by names (n + 1) ls fs is) more.3.1
+few_by names n (l ∷ ls) es (inr (inr more)) = behind more.2.0 more.2.2 (λ fs is. few_by names (n + 1) ls fs is) more.2.1
   where
-    behind : (rest : Result (List Entry) ℕ) → Ok es ≡ with_entry more.1 rest → ((fs : List Entry) → ReadFrom names (n + 1) ls (Ok fs) → length fs ≤ length ls)
+    behind : (rest : Result (List Entry) ℕ) → Ok es ≡ with_entry (entry_of names l) rest → ((fs : List Entry) → ReadFrom names (n + 1) ls (Ok fs) → length fs ≤ length ls)
         → ReadFrom names (n + 1) ls rest → length es ≤ length (l ∷ ls)
     behind (Err m) same below is = absurd cc
     behind (Ok fs) same below is =
         let few = below fs is in
-        let whole : es ≡ more.1 ∷ fs = cc in
-        let long : length es ≡ length (more.1 ∷ fs) = ap (λ l. length l) whole in
+        let whole : es ≡ entry_of names l ∷ fs = cc in
+        let long : length es ≡ length (entry_of names l ∷ fs) = ap (λ l. length l) whole in
         omega (arith, few, long)
 
 -- the entries of a text are no more than its bytes
@@ -125,6 +117,6 @@ line_is_not left line word b is same e = λ equal. other_text line word (sym is 
 
 -- a line that isn't readable, or want of memory, at which nothing is asked
 pub refused_line : (asked : Result (List Entry) ℕ → Type 0) (names : Names) (line : List ℕ) (n : ℕ) (e : LinesError) → RefusesLine names line n e
-    → (IsUnreadable names line → asked (Err n)) → Gives asked (Err e)
+    → ((IsReadable names line → ⊥) → asked (Err n)) → Gives asked (Err e)
 refused_line asked names line n (error.Line told) bad is = subst (λ k. asked (Err k)) (sym bad.1) (is bad.0)
 refused_line asked names line n error.NoMemory bad is = tt

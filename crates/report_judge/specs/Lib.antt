@@ -3,3 +3,4 @@ pub mod Reading
 pub mod Judging
 pub mod Steps
 pub mod Safe
+pub mod Exact

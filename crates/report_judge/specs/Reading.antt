@@ -2,20 +2,15 @@
 use Rattle.std.specs.Prelude.{◌≡◌, ◌≢◌, ◌⊎◌, ℕ, ◌+◌, List, [], ◌∷◌, Result, Ok, Err, IsUtf8, codes}
 use Rattle.history_text.specs.declared.entries.Entry.{Entry}
 use Rattle.history_text.specs.declared.entries.Names.{Names}
-use Rattle.entry_reader.specs.Reading.{IsLineOf}
-use Rattle.entry_reader.specs.Types.{IsOfTypes}
+use Rattle.entry_reader.specs.Reading.{IsLineOf, entry_of}
 use Rattle.report_judge.specs.Lines.{first_line, behind_line, lines}
 
 -- ---- one line
 
--- the line is the printed line of this entry
-pub record IsEntryLine (names : Names) (line : List ℕ) (e : Entry) : Type 0 where
+-- the line is the printed line of the entry that it looks like
+pub record IsReadable (names : Names) (line : List ℕ) : Type 0 where
   pub text : IsUtf8 line
-  pub is_line : IsLineOf names e line
-
--- it is that of no entry of the program
-abbrev pub IsUnreadable : Names → List ℕ → Type 0
-IsUnreadable names line = (e : Entry) → IsOfTypes e → IsEntryLine names line e → ⊥
+  pub printed : IsLineOf names (entry_of names line) line
 
 -- ---- all lines
 
@@ -30,8 +25,8 @@ abbrev pub ReadFrom : Names → ℕ → List (List ℕ) → Result (List Entry) 
 ReadFrom names n [] r = r ≡ Err n
 ReadFrom names n (l ∷ ls) r =
     ((l ≡ codes "sessions") × (r ≡ Ok []))
-    ⊎ (((l ≢ codes "sessions") × IsUnreadable names l × (r ≡ Err n))
-    ⊎ ((l ≢ codes "sessions") × (e : Entry) × IsEntryLine names l e × ((rest : Result (List Entry) ℕ) × ReadFrom names (n + 1) ls rest × (r ≡ with_entry e rest))))
+    ⊎ (((l ≢ codes "sessions") × (IsReadable names l → ⊥) × (r ≡ Err n))
+    ⊎ ((l ≢ codes "sessions") × IsReadable names l × ((rest : Result (List Entry) ℕ) × ReadFrom names (n + 1) ls rest × (r ≡ with_entry (entry_of names l) rest))))
 
 -- The text behind a scenario's line, so from line 2 on: this is `entries`, and the lines behind it are read so.
 abbrev pub Reads : Names → List ℕ → Result (List Entry) ℕ → Type 0

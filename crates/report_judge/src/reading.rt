@@ -1,11 +1,10 @@
 //! Reads the lines of a report up to its sessions.
-ghost use Rattle.std.specs.Prelude.{◌≡◌, ◌++◌, ◌∷◌, ◌≤◌, [], length, IfOk, IfErr, OnOk, MatchOption};
+ghost use Rattle.std.specs.Prelude.{◌≡◌, ◌++◌, ◌∷◌, ◌≤◌, [], length, IfOk, IfErr, OnOk};
 ghost use Rattle.seata_types.specs.Orders.{same_text};
 ghost use Rattle.seata_types.specs.declared.limits.TheConstants.{HISTORY_BYTES};
-ghost use Rattle.entry_reader.specs.Writable.{AreNodeNames};
 ghost use Rattle.report_judge.specs.Lines.{lines};
-ghost use Rattle.report_judge.specs.Reading.{IsEntryLine, IsUnreadable, ReadFrom, Reads};
-ghost use Rattle.report_judge.specs.Steps.{Adds, Gives, RefusesLine};
+ghost use Rattle.report_judge.specs.Reading.{ReadFrom, Reads};
+ghost use Rattle.report_judge.specs.Steps.{Adds, Gives, IsEntryIn, RefusesLine};
 
 use crate::cutting::cut;
 use crate::errors::LinesError;
@@ -23,8 +22,7 @@ fn is_word(line: &[u8], word: &str) -> bool
 
 /// The entry of a line; none where it isn't readable.
 fn entry_of(alloc: Global, names: &Names, line: &[u8]) -> Result<Option<Entry>, NoMemory>
-    requires { AreNodeNames names.now }
-    ensures { IfOk result (λ found. MatchOption found (IsUnreadable names.now line.now) (IsEntryLine names.now line.now)) }
+    ensures { IfOk result (IsEntryIn names.now line.now) }
 {
     let Ok(text) = str::from_utf8(line) else {
         return Ok(None);
@@ -54,7 +52,6 @@ fn add(
     line: &[u8],
     number: usize,
 ) -> Result<(), LinesError>
-    requires { AreNodeNames names.now }
     ensures added { OnOk result (Adds names.now line.now entries.old.items entries.new.items) }
     ensures refused { IfErr result (RefusesLine names.now line.now number) }
 {
@@ -70,8 +67,7 @@ fn add(
 
 /// The entries of lines up to the heading of the sessions, where the first line has the number 3.
 fn read_lines(alloc: Global, names: &Names, text: &[u8]) -> Result<List<Entry>, LinesError>
-    requires names { AreNodeNames names.now }
-    requires short { length text.now ≤ HISTORY_BYTES }
+    requires { length text.now ≤ HISTORY_BYTES }
     ensures { Gives (ReadFrom names.now 3 (lines text.now)) result }
 {
     let mut entries = Vec::new(alloc);
@@ -92,8 +88,7 @@ fn read_lines(alloc: Global, names: &Names, text: &[u8]) -> Result<List<Entry>, 
 /// The entries of the text behind a scenario's line, or the number of the line that isn't readable, where that scenario's has the
 /// number 1.
 pub fn read_entries(alloc: Global, names: &Names, text: &[u8]) -> Result<List<Entry>, LinesError>
-    requires names { AreNodeNames names.now }
-    requires short { length text.now ≤ HISTORY_BYTES }
+    requires { length text.now ≤ HISTORY_BYTES }
     ensures { Gives (Reads names.now text.now) result }
 {
     let (heading, rest) = cut(text);

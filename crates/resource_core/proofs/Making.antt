@@ -1,5 +1,5 @@
 -- Answers by the rules whose record is made and whose change is followed: they are what a resource promises.
-use Rattle.std.proofs.Common.{◌≡◌, ◌∙◌, ◌+◌, ◌-◌, ◌<◌, ◌≤◌, ◌^◌, ◌∷◌, ℕ, false, Option, Some, None, Result, Ok, Err, inl, refl, sym, ap, subst, arith}
+use Rattle.std.proofs.Common.{◌≡◌, ◌∙◌, ◌+◌, ◌-◌, ◌<◌, ◌≤◌, ◌^◌, ◌∷◌, ℕ, false, Option, Some, None, is_some, option_map, Result, Ok, Err, inl, refl, sym, ap, subst, arith}
 use Rattle.std.specs.Prelude.{IfSome}
 use Rattle.disk_model.specs.Disk.{DiskState}
 use Rattle.seata_types.specs.declared.acts.Act.TheVariants as act
@@ -8,10 +8,12 @@ use Rattle.seata_types.specs.declared.errors.NodeError.TheVariants as error
 use Rattle.seata_types.specs.declared.errors.StoreError.{StoreError}
 use Rattle.seata_types.specs.declared.errors.StoreError.TheVariants as store_error
 use Rattle.seata_types.specs.declared.messages.Input.{Input}
+use Rattle.seata_types.specs.declared.messages.Input.TheVariants as input
 use Rattle.seata_types.specs.declared.messages.Step.{Step}
 use Rattle.durable_records.specs.declared.resources.ResourceRecord.{ResourceRecord}
-use Rattle.local_txn.specs.Answers.{Tickets}
-use Rattle.history_rules.specs.Own.{asked_act}
+use Rattle.local_txn.specs.OpenTickets.{Open, last_of}
+use Rattle.local_txn.specs.Answers.{Tickets, ticket_of}
+use Rattle.history_rules.specs.Own.{asked_act, still}
 use Rattle.history_rules.specs.ResourceMemory.{Memory, resource_asked}
 use Rattle.node_steps.specs.Promises.{own_step}
 use Rattle.resource_memory.specs.Known.{Known}
@@ -20,7 +22,7 @@ use Rattle.resource_store.specs.Answers.{Does, Leaves}
 use Rattle.resource_store.specs.Keeping.{known, setting_of, is_down, IsTaken, KeepsRecords}
 use Rattle.resource_store.specs.Meaning.{Setting}
 use Rattle.resource_store.proofs.StoreLaws.{changes_nothing}
-use Rattle.resource_rules.specs.Answers.{IsDurable, IsOfRules, IsTakenBy, OpensNext, Places, Shows, left_with, opened_by}
+use Rattle.resource_rules.specs.Answers.{answer, IsDurable, IsOfRules, IsTakenBy, OpensNext, Places, Shows, left_with, opened_by}
 use Rattle.resource_rules.specs.Answers as rules
 use Rattle.resource_rules.specs.Laws.{IsOpening, MayFollow, tickets_after}
 use Rattle.resource_rules.specs.declared.answers.Answer.{Answer}
@@ -28,6 +30,7 @@ use Rattle.resource_rules.specs.declared.answers.Change.{Change}
 use Rattle.resource_rules.specs.declared.answers.Change.TheVariants as change
 use Rattle.resource_rules.specs.declared.setups.Setup.{Setup as TheSetup}
 use Rattle.resource_rules.proofs.TakenIn.{takes_in}
+use Rattle.resource_rules.proofs.TurnAnswers.{nothing as idle}
 use Rattle.resource_core.specs.Holding.{Holds, setup_of}
 use Rattle.resource_core.specs.Ready.{AreTicketsWithin, IsReady}
 use Rattle.resource_core.specs.Stepping.{Answers, Tells, asked_record, made_as, node_error}
@@ -183,3 +186,15 @@ module _ {D : Type 0} (state : D → DiskState) where
           frames = λ now served. tt;
           same = refl;
         }
+
+-- ---- a turn with no ticket open
+
+pub none_open : (last : Option Open) → is_some (option_map ticket_of last) ≡ false → last ≡ None
+none_open None e = refl
+none_open (Some o) e = absurd cc
+
+pub rests : {D : Type 0} (state : D → DiskState) (old : Branches D) → IsReady old → last_of old.txns.opens ≡ None → (s : Step) → s ≡ still act.Nothing → Answers state old old input.Turn (Ok s)
+rests state old ready none s is =
+    let a : Answer = answer None s in
+    answered state input.Turn a old old.store ready (idle old.setup (known old.store) old.txns none a (ap (answer None) is)) old.txns refl refl
+    (record { down = ready.up; setting = refl; changes = inl refl })

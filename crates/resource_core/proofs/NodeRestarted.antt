@@ -27,15 +27,17 @@ use Rattle.local_txn.specs.Answers.{no_tickets}
 use Rattle.durable_records.specs.declared.resources.ResourceRecord.{ResourceRecord}
 use Rattle.durable_records.specs.declared.resources.ResourceRecord.TheVariants as log
 use Rattle.durable_records.specs.UndoRecords.{boots}
-use Rattle.history_rules.specs.Own.{Left, Own, Restarted, added, asked_act, kept_part, leaves, still}
+use Rattle.history_rules.specs.Own.{Left, Own, Restarted, added, asked_act, kept_part, kept_records, leaves, still}
 use Rattle.history_rules.specs.Devices.{calls_left, fails, fault_entries, flight_after, in_flight, is_short, kept_act, may_stand, restarted, spent, is_down as down_by}
 use Rattle.history_rules.specs.ResourceMemory.{Memory, Setup, booted, boot_over, memory, memory_after, opening_tables}
 use Rattle.history_rules.specs.Nodes.{Role, Coordinator, Manager, happens}
 use Rattle.history_rules.specs.Nodes.{Resource as ResourceRole}
-use Rattle.node_steps.specs.Durable.{HavePick, keepable, own_faults}
+use Rattle.node_steps.specs.Durable.{HavePick, StandsForRecords as Stand, keepable, of_resource, own_faults}
 use Rattle.node_steps.specs.Ends.{IsOver, extent, reopened, resource_recording, resource_saving, with_added}
 use Rattle.node_steps.specs.Nodes.{NodeState}
-use Rattle.node_steps.specs.Promises.{AreTold, BootOverflows, DisksFail, HasNoBootPlace, IsRestartError, LiesWith, Restarts, StandsAsBefore, own_entry}
+use Rattle.node_steps.specs.Promises.{AreTold, BootOverflows, Brings, BringsKept, DisksFail, HasNoBootPlace, IsRestartError, LiesWith, Restarts, StandsAsBefore, own_entry}
+use Rattle.node_steps.proofs.Kept.{brings_kept}
+use Rattle.resource_log.specs.declared.states.ResourceSnapshot.{ResourceSnapshot}
 use Rattle.resource_log.specs.Records.{fields_bytes, record_bytes}
 use Rattle.resource_memory.specs.Changes.{after}
 use Rattle.resource_memory.specs.Known.{Known}
@@ -47,6 +49,7 @@ use Rattle.resource_store.proofs.OpeningLaws.{boot_sound, came_back}
 use Rattle.record_places.specs.Within.{IsTableWithin}
 use Rattle.resource_core.specs.declared.nodes.Resource.{Resource}
 use Rattle.resource_core.specs.Lying.{AtEither, Lies}
+use Rattle.resource_core.specs.NodeLaws.{stands_for_records}
 use Rattle.resource_core.specs.NodeMoving.{ArmsPair, ArmsWith, Boots, kept_of, with_store}
 use Rattle.resource_core.specs.NodeStanding.{IsFallen, IsSound, StandsAs, StandsForEither, StandsOver, node_state}
 use Rattle.resource_core.specs.NodeStepping.{RestartsBy}
@@ -266,6 +269,7 @@ module _ {D : Type 0} (state : D → DiskState) (law : (d : Stoppable D) → IsL
   not_back e up recovers cause = record {
     restarts = λ told. tt;
     after = λ told role owns s. (after_error state r s1 down setting go_on (up_grown false pick (disks_of state r) (pair_of state s1) up) role owns s, by told role owns s);
+    brings = λ told. tt;
     not_due = stays;
     settles = λ told. tt;
     picked = tt;
@@ -357,18 +361,22 @@ module _ {D : Type 0} (state : D → DiskState) (law : (d : Stoppable D) → IsL
       kept_flight : (q : ResourceRecord) → KeepsNow (q ∷ rs) → kept_of r2 ≡ in_flight owns
       kept_flight q k = ap (λ (b : Bool). if b then r.flight else None) (counts (q ∷ rs) k ∙ less_one (length rs)) ∙ fallen.flight
 
+      -- the records with the one in flight, where it may be kept
+      with_kept : (q : ResourceRecord) → keepable true owns m.left ≡ Some q → came (in_flight owns) ≡ q ∷ rs
+      with_kept q is =
+          let may = keepable_by (may_stand (calls_left true owns)) m.left.flight q is in
+          ap came (flight_act setup past owns q may.1).1 ∙ ap (λ (o : Option ResourceRecord). added o rs) may.1
+
       without : KeepsNow rs → Came
       without k = record { keeps = false; is = kept_none k; stands = subst (λ (d : Option Durable). KeepsNow (came d)) (sym (kept_none k)) k }
 
       with_flight : (q : ResourceRecord) → keepable true owns m.left ≡ Some q → KeepsNow (q ∷ rs) → Came
       with_flight q is k =
           let may = keepable_by (may_stand (calls_left true owns)) m.left.flight q is in
-          let done = flight_act setup past owns q may.1 in
-          let part : came (in_flight owns) ≡ q ∷ rs = ap came done.1 ∙ ap (λ (o : Option ResourceRecord). added o rs) may.1 in
           record {
             keeps = true;
             is = kept_flight q k ∙ sym (ap (λ (b : Bool). if b then in_flight owns else None) may.0);
-            stands = subst (λ (d : Option Durable). KeepsNow (came d)) (sym (kept_flight q k)) (subst KeepsNow (sym part) k);
+            stands = subst (λ (d : Option Durable). KeepsNow (came d)) (sym (kept_flight q k)) (subst KeepsNow (sym (with_kept q is)) k);
           }
 
       back2 : AreTold (disks_of state r) → BringsBack (state_of state) pick (store_of r) s2
@@ -380,6 +388,26 @@ module _ {D : Type 0} (state : D → DiskState) (law : (d : Stoppable D) → IsL
           by : KeepsNow rs ⊎ ((q : ResourceRecord) × (keepable true owns m.left ≡ Some q) × KeepsNow (q ∷ rs)) → Came
           by (inl k) = without k
           by (inr (q, is, k)) = with_flight q is k
+
+      -- the images that came back stand for what is kept
+      abbrev StandsNow : (a b : List ℕ) → List ResourceRecord → Type 0
+      StandsNow a b ks = Stand (of_resource (opening_tables setup)) ks a b
+
+      stand_kept : (b : BringsBack (state_of state) pick (store_of r) s2) → StandsNow b.a b.b (came (kept_of r2))
+      stand_kept b = by (s.disks.images b.a b.b b.first.0 b.second.0)
+        where
+          told : (ks : List ResourceRecord) → StandsForRecords (setting_of (store_of r)) ks b.a b.b → StandsNow b.a b.b ks
+          told ks e = subst (λ (w : Setup). Stand (of_resource (opening_tables w)) ks b.a b.b) (sym s.is) (stands_for_records (setting_of (store_of r)) ks b.a b.b e)
+
+          by : StandsForEither (setting_of (store_of r)) m.left (keepable true owns m.left) b.a b.b → StandsNow b.a b.b (came (kept_of r2))
+          by (inl e) = subst (λ (d : Option Durable). StandsNow b.a b.b (came d)) (sym (kept_none (b.keeps rs e))) (told rs e)
+          by (inr (q, is, e)) =
+              subst (λ (d : Option Durable). StandsNow b.a b.b (came d)) (sym (kept_flight q (b.keeps (q ∷ rs) e))) (subst (StandsNow b.a b.b) (sym (with_kept q is)) (told (q ∷ rs) e))
+
+      brings_back : (done : Act) → kept_records done m.left ≡ came (kept_of r2) → AreTold (disks_of state r) → BringsKept (of_resource (opening_tables setup)) m.left (disks_of state r) pick done
+      brings_back done is told =
+          let b = back2 told in
+          brings_kept (of_resource (opening_tables setup)) (λ (k : ResourceSnapshot). k.acts) (λ ks. refl) m.left (disks_of state r) pick done b.a b.b b.first b.second (subst (StandsNow b.a b.b) (sym is) (stand_kept b))
 
       happens_back : (fault keeps : Bool) (kept : Option Durable) (b : Bool) → kept ≡ kept_act keeps owns (calls_left true owns) → fails fault calls ≡ b
           → happens (ResourceRole setup past) owns now fault keeps (Restarted pick calls) ≡ restarted true b kept
@@ -426,6 +454,12 @@ module _ {D : Type 0} (state : D → DiskState) (law : (d : Stoppable D) → IsL
         boot_there told c P said =
             subst (λ (q : ResourceRecord). P (needed (again (kept_of r2)) (length (record_bytes q))) size) (boot_is c)
             (at_there (state_of state) size P s2 (again (kept_of r2)) (length (record_bytes (boot_record (known s2)))) (reopens told) sized2 said)
+
+    -- what it keeps is what the pick brought back, whatever comes of its boot
+    brings_all : (done : Act) → ((left : Left ResourceRecord) → kept_records done left ≡ added (kept_part (kept_of r2) left.flight) left.records) → AreTold (disks_of state r) → Brings (node_state state r) pick done
+    brings_all done is told (ResourceRole setup past) owns s = brings_back setup past owns s done (is (memory setup past owns).left) told
+    brings_all done is told (Coordinator times past) owns s = absurd s
+    brings_all done is told (Manager settings) owns s = absurd s
 
     -- ---- it is up again
 
@@ -521,6 +555,7 @@ module _ {D : Type 0} (state : D → DiskState) (law : (d : Stoppable D) → IsL
         is_up = record {
           restarts = restarts_up;
           after = λ told. tt;
+          brings = brings_all (act.Restarted (kept_of r2)) (λ left. refl);
           not_due = tt;
           settles = λ told. record { back = s2; setting = setting2; brings = armed.back pick (store_of r) (back told); boots = made };
           picked = have_pick (pair_of state s3) moved3.first_pick moved3.second_pick;
@@ -627,6 +662,7 @@ module _ {D : Type 0} (state : D → DiskState) (law : (d : Stoppable D) → IsL
         is_falling = record {
           restarts = restarts_down;
           after = λ told. tt;
+          brings = brings_all (act.Down (kept_of r2) (Some durable.Boot)) (λ left. refl);
           not_due = tt;
           settles = λ told. record { back = s2; setting = setting2; brings = armed.back pick (store_of r) (back told); boots = lost };
           picked = have_pick (pair_of state s3) moved_lost.first_pick moved_lost.second_pick;
@@ -646,6 +682,7 @@ module _ {D : Type 0} (state : D → DiskState) (law : (d : Stoppable D) → IsL
     not_booted e failing causes = record {
       restarts = λ told. tt;
       after = λ told role owns s. (after_error state r s2 down setting2 go_on2 grown2 role owns s, causes told role owns s);
+      brings = λ told. tt;
       not_due = λ short x y one two. stays short x y (armed.pair.first_leaves x one) (armed.pair.second_leaves y two);
       settles = λ told. tt;
       picked = tt;

@@ -20,7 +20,7 @@ use Rattle.history_rules.specs.Own.{Own, Stopped, Crashed, still}
 use Rattle.history_rules.specs.ResourceMemory.{Setup, memory}
 use Rattle.node_steps.specs.Durable.{SamePicks, HavePick}
 use Rattle.node_steps.specs.Framing.{ComesFramable, SendsFramable}
-use Rattle.node_steps.specs.Promises.{AreTold, DisksFail, StaysItself, Does, TakesStep, AfterError, steps_of, goes_down, Restarts, FailsRestart, stays_down}
+use Rattle.node_steps.specs.Promises.{AreTold, DisksFail, StaysItself, Does, TakesStep, AfterError, steps_of, goes_down, Restarts, FailsRestart, Brings, stays_down}
 use Rattle.memory_store.specs.Keeping.{StaysWhereShort}
 use Rattle.resource_log.specs.Records.{record_bytes}
 use Rattle.resource_store.specs.declared.store.Store.{Store}
@@ -97,6 +97,7 @@ pub record ComesBack {D : Type 0} (state : D → DiskState) (pick : ℕ) (boot :
 pub record RestartsBy {D : Type 0} (state : D → DiskState) (old new : Resource D) (pick : ℕ) (calls : Option ℕ) (now : ℕ) (result : Result Act OpenError) : Type 0 where
   pub restarts : AreTold (disks_of state old) → IfOk result (Restarts (node_state state old) (node_state state new) pick calls now)
   pub after : AreTold (disks_of state old) → IfErr result (FailsRestart (node_state state old) (node_state state new) pick calls now)
+  pub brings : AreTold (disks_of state old) → IfOk result (Brings (node_state state old) pick)
   -- one that fails changes no byte where the records are short
   pub not_due : OnErr result (StaysWhereShort (state_of state) (twin (store_of old)) (twin (store_of new)))
   -- its disks came back as this pick may bring them, with a snapshot in place of the records where one was due; then came its boot

@@ -4,9 +4,10 @@ ghost use Rattle.resource_core.specs.Stepping.{node_error};
 
 use disk_model::Disk;
 use local_txn::LocalTxns;
+use node_steps::still;
 use resource_rules::{Answer, Setup, durable_of, follow};
 use resource_store::Store;
-use seata_types::{Durable, Input, NoMemory, NodeError, Step, StoreError};
+use seata_types::{Act, Durable, Input, NoMemory, NodeError, Step, StoreError};
 use std::alloc::Global;
 
 /// What a resource works with: what it is beside its tables, its store, and the local transactions that it has open.
@@ -27,6 +28,20 @@ impl<D: Disk> Branches<D> {
 
     /// Answers an input by the rules.
     pub fn answer(&mut self, alloc: Global, given: &Input) -> Result<Step, NodeError>
+        requires ready { IsReady self.old }
+        requires served { Serves given.now }
+        ensures { Answers D.state self.old self.new given.now result }
+    {
+        // A turn with no ticket open, which is what most turns are, is answered at once. To move a whole answer, with room for a
+        // record and a ticket, takes longer than to find that one.
+        match given {
+            Input::Turn if self.txns.next_to_send().is_none() => Ok(still(Act::Nothing)),
+            _ => self.by_rules(alloc, given),
+        }
+    }
+
+    // Answers any input by the rules.
+    fn by_rules(&mut self, alloc: Global, given: &Input) -> Result<Step, NodeError>
         requires ready { IsReady self.old }
         requires served { Serves given.now }
         ensures { Answers D.state self.old self.new given.now result }

@@ -15,6 +15,7 @@ pub mod Numbered
 mod OpenedCoordinator
 mod OpenedResource
 mod Passes
+pub mod ReadSound
 mod ReadStill
 mod ReadStores
 mod ReadNode

@@ -1,5 +1,5 @@
 -- A resource whose disks were taken and read, or weren't; and what it is once its boot was written.
-use Rattle.std.proofs.Common.{◌≡◌, ◌⊎◌, ℕ, List, [], Err, refl, ap, subst, ◌∙◌}
+use Rattle.std.proofs.Common.{◌≡◌, ◌⊎◌, inl, inr, ℕ, List, [], Some, None, Err, refl, ap, sym, subst, ◌∙◌}
 use Rattle.disk_model.specs.Disk.{DiskState, Rose}
 use Rattle.disk_model.specs.Shelf.{SameUnder, ShelfState}
 use Rattle.disk_model.specs.declared.stoppable.Stoppable.{Stoppable}
@@ -10,10 +10,14 @@ use Rattle.memory_store.specs.Holdings.{memory_on}
 use Rattle.memory_store.specs.Keeping.{IsDamage, IsNotFull}
 use Rattle.scenario_form.specs.declared.scenarios.ResourceDef.{ResourceDef}
 use Rattle.scenario_form.specs.declared.scenarios.Scenario.{Scenario}
+use Rattle.durable_records.specs.declared.resources.ResourceRecord.{ResourceRecord}
+use Rattle.history_rules.specs.Own.{Left}
+use Rattle.history_rules.specs.ResourceMemory.{memory}
 use Rattle.history_rules.specs.ResourceMemory.{Setup as RuleSetup}
 use Rattle.history_text.specs.Worlds as worlds
 use Rattle.resource_store.specs.Keeping.{IsNoDamage}
 use Rattle.resource_store.specs.Meaning.{meaning_of}
+use Rattle.resource_store.specs.Standing.{StandsForRecords}
 use Rattle.resource_core.specs.declared.branches.Branches.{Branches}
 use Rattle.resource_core.specs.declared.nodes.Resource.{Resource}
 use Rattle.resource_core.specs.declared.opening.Loaded.{Loaded}
@@ -21,6 +25,8 @@ use Rattle.resource_core.specs.declared.setup.Setup.{Setup}
 use Rattle.resource_core.specs.NodeLaws.{lawful}
 use Rattle.resource_core.specs.NodeOpening.{FailsStart, IsSetupWithin, loaded_disks, setting_at, setup_at}
 use Rattle.resource_core.specs.NodeOpening.{IsNotLoaded as Refuses}
+use Rattle.resource_core.specs.NodeStanding.{StandsForEither}
+use Rattle.resource_core.specs.Shown.{setup_in}
 use Rattle.node_seat.specs.Faults.{open_fault}
 use Rattle.scenario_nodes.specs.Loading.{WritesBoot}
 use Rattle.scenario_nodes.specs.Nodes.{HaveSize, Held, Holds, IsLoadedResource, IsNewResource, resource_disks, resource_role, resource_server, store_setting}
@@ -111,11 +117,21 @@ module _ {D : Type 0} (state : D → DiskState) (shelf : ShelfState D) (s : Scen
           → IsUnopened (resource_server s held (n, def)) s.disk (pair_of state (failed.1, failed.2)) (open_fault (place.Res n) failed.0)
       start_unopened held = unopened state shelf s n def r.disks r.taken r.setup r.is r.loaded.within failed (fails r.disks.0 r.disks.1 n r.setup r.loaded) held
 
+  -- nothing is in flight
+  booted : (node : Resource D) (setup : RuleSetup) → setup ≡ setup_in node → (left : Left ResourceRecord) (a b : List ℕ) → StandsForEither (store_setting (setup_in node)) left None a b → StandsForRecords (store_setting setup) left.records a b
+  booted node setup is left a b (inl stands) = subst (λ (t : RuleSetup). StandsForRecords (store_setting t) left.records a b) (sym is) stands
+  booted node setup is left a b (inr (r, kept, stands)) = absurd (let no : None ≡ Some r = kept in cc)
+
   -- what the disks of a resource that made no entry show
   pub new_shows : (held : Held) (node : Resource D) → IsNewResource state shelf s n def node → ShowNoEntry state s shelf (resource_server s held (n, def)) (resource_disks node)
   new_shows held node new = (
     record { first = new.sized.first; second = new.sized.second },
-    λ all holds. let d = (lawful state node).device (resource_role s held n def) [] (new.stands held holds (new.told all)) in record { images = d.images; counted = d.counted },
+    λ all holds.
+        let stands = new.stands held holds (new.told all) in
+        let d = (lawful state node).device (resource_role s held n def) [] stands in (
+          record { images = d.images; counted = d.counted },
+          λ a b one two. inr (booted node (worlds.setup_of s n def) stands.is (memory (worlds.setup_of s n def) (held.past.resource n) []).left a b (stands.disks.images a b one two)),
+        ),
   )
 
 -- ---- of a shelf that other disks were taken of before

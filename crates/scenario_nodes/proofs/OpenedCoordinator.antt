@@ -14,7 +14,6 @@ use Rattle.session_store.specs.Meaning.{meaning_of}
 use Rattle.node_steps.specs.Promises.{AreTold}
 use Rattle.history_text.specs.Worlds.{times_of}
 use Rattle.coordinator_core.specs.declared.nodes.Coordinator.{Coordinator}
-use Rattle.coordinator_core.specs.NodeLaws.{stands_for_records}
 use Rattle.coordinator_core.specs.Opening.{HandsBack, IsOpened}
 use Rattle.coordinator_core.specs.Serving.{HasNumbers}
 use Rattle.coordinator_core.specs.Standing.{LiesAs, StandsAs, disks_of}
@@ -67,7 +66,7 @@ module _ {D : Type 0} (state : D → DiskState) (shelf : ShelfState D) (s : Scen
         let past = held.past.sessions in
         let stand = stand_as state shelf s (coordinator_server s held) disks taken a b is_a is_b holds in
         record {
-          device = λ x y here there. stands_for_records managed served past x y (h.images a b x y is_a is_b here there past stand.0);
+          device = λ x y here there. (managed, served, h.images a b x y is_a is_b here there past stand.0);
           cause = blamed held failed.0 (h.recovers past a b is_a is_b stand.0) h.cause;
         }
 

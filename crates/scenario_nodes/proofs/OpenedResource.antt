@@ -15,9 +15,8 @@ use Rattle.durable_records.specs.declared.resources.ResourceRecord.{ResourceReco
 use Rattle.scenario_form.specs.declared.scenarios.ResourceDef.{ResourceDef}
 use Rattle.scenario_form.specs.declared.scenarios.Scenario.{Scenario}
 use Rattle.history_rules.specs.Nodes.{Resource as ResourceRole}
-use Rattle.history_rules.specs.ResourceMemory.{boot_over, opening_tables}
+use Rattle.history_rules.specs.ResourceMemory.{boot_over}
 use Rattle.history_rules.specs.ResourceMemory.{Setup as RuleSetup}
-use Rattle.node_steps.specs.Durable.{StandsForRecords, of_resource}
 use Rattle.node_steps.specs.Ends.{resource_saving}
 use Rattle.node_steps.specs.Promises.{AreTold}
 use Rattle.history_text.specs.Worlds as worlds
@@ -28,7 +27,6 @@ use Rattle.resource_store.specs.Openings.{IsBootDamage, IsUndamaged, boot_length
 use Rattle.resource_store.specs.Standing as store
 use Rattle.resource_core.specs.declared.nodes.Resource.{Resource}
 use Rattle.resource_core.specs.declared.setup.Setup.{Setup}
-use Rattle.resource_core.specs.NodeLaws.{stands_for_records}
 use Rattle.resource_core.specs.NodeOpening.{HandsBack, IsOpened, IsSetupWithin, setting_at, setup_at}
 use Rattle.resource_core.specs.NodeStanding.{LiesAs, StandsOver}
 use Rattle.resource_core.specs.Shown as shown
@@ -56,9 +54,9 @@ module _ {D : Type 0} (state : D → DiskState) (shelf : ShelfState D) (s : Scen
   pub stand : (held : Held) (a b : List ℕ) → StandAs s (resource_role s held n def) (held.starts (place.Res n)) a b → StandsAt setting (held.past.resource n) (held.starts (place.Res n)) a b
   stand held a b e = subst (λ (t : RuleSetup). Opens (store_setting t) → StandsAt (store_setting t) (held.past.resource n) (held.starts (place.Res n)) a b) (sym is) e within.opens
 
-  -- and in those of histories
-  pub told : (rs : List ResourceRecord) (a b : List ℕ) → store.StandsForRecords setting rs a b → StandsForRecords (of_resource (opening_tables (worlds.setup_of s n def))) rs a b
-  told rs a b e = subst (λ (t : RuleSetup). StandsForRecords (of_resource (opening_tables t)) rs a b) is (stands_for_records setting rs a b e)
+  -- and in those of the scenario
+  pub told : (rs : List ResourceRecord) (a b : List ℕ) → store.StandsForRecords setting rs a b → store.StandsForRecords (store_setting (worlds.setup_of s n def)) rs a b
+  told rs a b e = subst (λ (t : RuleSetup). store.StandsForRecords (store_setting t) rs a b) is e
 
   -- ---- it wasn't opened
 
@@ -100,7 +98,7 @@ module _ {D : Type 0} (state : D → DiskState) (shelf : ShelfState D) (s : Scen
         (damage held a b failed.0 (h.damaged a b is_a is_b)))
 
     either : (rs : List ResourceRecord) (a b : List ℕ) → WithOrWithout setting (boot_over rs) rs a b
-        → StandsForRecords (of_resource (opening_tables (worlds.setup_of s n def))) rs a b ⊎ StandsForRecords (of_resource (opening_tables (worlds.setup_of s n def))) (boot_over rs ∷ rs) a b
+        → store.StandsForRecords (store_setting (worlds.setup_of s n def)) rs a b ⊎ store.StandsForRecords (store_setting (worlds.setup_of s n def)) (boot_over rs ∷ rs) a b
     either rs a b (inl e) = inl (told rs a b e)
     either rs a b (inr e) = inr (told (boot_over rs ∷ rs) a b e)
 

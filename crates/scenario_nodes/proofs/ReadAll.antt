@@ -14,7 +14,7 @@ use Rattle.node_steps.specs.Nodes.{place_of}
 use Rattle.node_seat.specs.declared.faults.RunFault.{RunFault}
 use Rattle.scenario_nodes.specs.Nodes.{Held, Holds, Server, coordinator_server, name_of, resource_server, resource_servers, server_names, servers_of}
 use Rattle.scenario_nodes.specs.Opening.{IsBack, IsBackTaken, IsNotAsked, IsNotHad, IsNotLoaded, IsUntouched, ShowNoRecord, ShowsUnread, StopsLoading}
-use Rattle.scenario_nodes.specs.Reading.{GivesStill, HoldStill, IsReadBack, ReadsCoordinator, ReadsNodes, ReadsResource, SaysResource, SaysResources}
+use Rattle.scenario_nodes.specs.Reading.{GivesStill, HoldStill, IsReadBack, IsReadFault, IsSound, ReadsCoordinator, ReadsNodes, ReadsResource, SaysResource, SaysResources}
 use Rattle.scenario_nodes.specs.Shelves.{AllTell, IsDiskName, ReturnsAll, coordinator_name, second_name}
 use Rattle.scenario_nodes.specs.Together.{AreApart, IsOfOne, numbered}
 use Rattle.scenario_nodes.proofs.AllBack.{back_between, fault_wider, first_stops, of_after, of_at, record_before, unread_before}
@@ -22,6 +22,7 @@ use Rattle.scenario_nodes.proofs.AllBack.{of_before as of_first}
 use Rattle.scenario_nodes.proofs.Apart.{servers_apart}
 use Rattle.scenario_nodes.proofs.Cut.{names_before, names_up_to, numbered_around, numbered_up_to, of_before, of_it}
 use Rattle.scenario_nodes.proofs.Numbered.{names_append, names_numbered, names_of}
+use Rattle.scenario_nodes.proofs.ReadSound.{cause_wider, place_among, sound_before}
 use Rattle.scenario_nodes.proofs.ReadStill.{still_here, still_then}
 use Rattle.scenario_nodes.proofs.Returned.{all_after, all_same, are_next_since, given_since, holds_since, keeps_then, keeps_wider, same_back, same_then}
 use Rattle.scenario_nodes.proofs.Together.{all_append, all_behind, all_front, apart_behind, apart_between, apart_front, each_append, of_behind, of_front, takes_none}
@@ -164,6 +165,7 @@ first_servers s held k = map (resource_server s held) (numbered 1 (take k s.reso
 -- so many of the first ones were read
 pub record AreReading {D : Type 0} (state : D → DiskState) (s : Scenario) (old now : ShelfState D) (k : ℕ) (memories : List Known) : Type 0 where
   pub says : AllTell state → (held : Held) → AllByRecursion (Holds state old s) (first_servers s held k) → SaysResources s (numbered 1 (take k s.resources)) held memories
+  pub sound : AllTell state → (held : Held) → AllByRecursion (IsSound state old s) (first_servers s held k)
   pub back : (held : Held) → AllByRecursion (IsReadBack state s old now) (first_servers s held k)
   pub still : GivesStill state s.disk old now
   pub keeps : KeepsOthers (IsOfOne (names_before s.resources k)) old now
@@ -171,7 +173,7 @@ pub record AreReading {D : Type 0} (state : D → DiskState) (s : Scenario) (old
 
 pub reading_none : {D : Type 0} (state : D → DiskState) (s : Scenario) (a : ShelfState D) (memories : List Known) → memories ≡ [] → AreReading state s a a 0 memories
 reading_none state s a memories none =
-    subst (AreReading state s a a 0) (sym none) (record { says = λ all held holds. tt; back = λ held. tt; still = still_here state s.disk a; keeps = (takes_none a).keeps; returned = all_same a })
+    subst (AreReading state s a a 0) (sym none) (record { says = λ all held holds. tt; sound = λ all held. tt; back = λ held. tt; still = still_here state s.disk a; keeps = (takes_none a).keeps; returned = all_same a })
 
 module _ {D : Type 0} (state : D → DiskState) (s : Scenario) (old now : ShelfState D) (k : ℕ) (memories : List Known) (a : AreReading state s old now k memories) where
   module _ (def : ResourceDef) (here : slice_get s.resources k ≡ Some def) (apart : AreApart (map resource_name s.resources)) where
@@ -222,6 +224,9 @@ module _ {D : Type 0} (state : D → DiskState) (s : Scenario) (old now : ShelfS
               let its = holds_now state s (first_servers s held k) (resource_server s held one ∷ []) old now new (apart_one held) (its_keeps held) (keeps held) (resource_server s held one ∷ []) (λ n o. o) last in
               subst (λ (ds : List (ℕ × ResourceDef)). SaysResources s ds held (memories ++ memory ∷ [])) (sym (numbered_up_to s.resources k def here))
               (each_append (λ (d : ℕ × ResourceDef) (m : Known). SaysResource s d held m) (numbered 1 (take k s.resources)) (one ∷ []) memories (memory ∷ []) (a.says all held front) (r.says all held its.0, tt));
+          sound = λ all held.
+              subst (AllByRecursion (IsSound state old s)) (sym (up_to held))
+              (all_append (IsSound state old s) (first_servers s held k) (resource_server s held one ∷ []) (a.sound all held) (sound_before state s old now a.still all (resource_server s held one) (r.sound all held), tt));
           back = λ held.
               subst (AllByRecursion (IsReadBack state s old new)) (sym (up_to held))
               (reading_both state s (first_servers s held k) (resource_server s held one ∷ []) old now new (apart_one held) (its_keeps held) (keeps held) (a.back held) (r.back held, tt));
@@ -241,11 +246,20 @@ module _ {D : Type 0} (state : D → DiskState) (s : Scenario) (old now : ShelfS
           (reading_stops state s front (v ∷ rest) old now new (apart_around held) (its_keeps held) (keeps_wider (IsDiskName def.name) (IsOfOne (def.name ∷ map name_of rest)) now new (λ n its. inl its) r.keeps) missed (a.back held)
           (first_stops state s now new v rest missed (apart_behind (map name_of front) (def.name ∷ names_of s held behind) (apart_around held)) r.keeps (r.refused held)))
 
+      caused : (held : Held) → IsReadFault (resource_servers s held) missed
+      caused held =
+          let front = first_servers s held k in
+          let v = resource_server s held one in
+          let rest = map (resource_server s held) behind in
+          subst (λ (vs : List Server). IsReadFault vs missed) (sym (around held)) (cause_wider (v ∷ []) (front ++ v ∷ rest) (place_among front v rest) missed (r.cause held))
+
       pub reading_failed : {K : Type 0} (Says : Held → K → Type 0) → ReadsNodes state s (map resource_name s.resources) (resource_servers s) Says old new (Err missed)
       reading_failed Says = record {
         says = tt;
+        sound = tt;
         back = tt;
         refused = stops;
+        cause = caused;
         still = still_then state s.disk old now new a.still r.still;
         keeps = keeps_then (IsOfOne (names_before s.resources k)) (IsDiskName def.name) (IsOfOne (map resource_name s.resources)) old now new (of_before s.resources k def here) (of_it s.resources k def here) a.keeps r.keeps;
         returned = all_after old now new a.keeps.tells a.returned r.returned;
@@ -260,6 +274,9 @@ module _ {D : Type 0} (state : D → DiskState) (s : Scenario) (old now : ShelfS
     all_says all held holds =
         subst (λ (ds : List ResourceDef). SaysResources s (numbered 1 ds) held memories) whole
         (a.says all held (subst (λ (ds : List ResourceDef). AllByRecursion (Holds state old s) (map (resource_server s held) (numbered 1 ds))) (sym whole) holds))
+
+    pub all_sound : AllTell state → (held : Held) → AllByRecursion (IsSound state old s) (resource_servers s held)
+    all_sound all held = subst (λ (ds : List ResourceDef). AllByRecursion (IsSound state old s) (map (resource_server s held) (numbered 1 ds))) whole (a.sound all held)
 
     pub all_read : (held : Held) → AllByRecursion (IsReadBack state s old now) (resource_servers s held)
     all_read held = subst (λ (ds : List ResourceDef). AllByRecursion (IsReadBack state s old now) (map (resource_server s held) (numbered 1 ds))) whole (a.back held)

@@ -1,5 +1,5 @@
 -- The two disks of a node, taken, read and given back.
-use Rattle.std.proofs.Common.{◌≡◌, ◌⊎◌, inl, inr, ℕ, All, slice_get, List, Some, Result, Ok, Err, refl, sym, subst, ◌∙◌}
+use Rattle.std.proofs.Common.{◌≡◌, ◌⊎◌, inl, inr, ℕ, All, slice_get, List, Some, Result, Ok, Err, refl, sym, subst, ◌∙◌, length}
 use Rattle.std.proofs.lemmas.Option.{same_Some}
 use Rattle.disk_model.specs.Disk.{DiskState, Rose, present}
 use Rattle.disk_model.specs.Shelf.{KeepsOthers, OnlyTellersHave, ShelfState}
@@ -14,24 +14,22 @@ use Rattle.scenario_form.specs.Runnable.{IsRunnable}
 use Rattle.scenario_form.specs.declared.scenarios.ResourceDef.{ResourceDef}
 use Rattle.scenario_form.specs.declared.scenarios.Scenario.{Scenario}
 use Rattle.history_rules.specs.Nodes.{Role, Coordinator, Resource, Manager}
-use Rattle.history_rules.specs.ResourceMemory.{opening_tables}
 use Rattle.journal_checkpoint.specs.Extents.{Extent}
-use Rattle.node_steps.specs.Durable.{StandsForRecords, of_coordinator, of_resource}
+use Rattle.resource_store.specs.Standing.{StandsForRecords}
 use Rattle.node_steps.specs.Promises.{place_of}
 use Rattle.resource_store.specs.Meaning.{Opens, setting}
-use Rattle.coordinator_core.specs.NodeLaws as coordinators
-use Rattle.resource_core.specs.NodeLaws as resources
 use Rattle.node_seat.specs.declared.faults.RunFault.{RunFault}
 use Rattle.node_seat.specs.Faults.{open_fault}
 use Rattle.scenario_nodes.specs.Calls.{HasTypes}
 use Rattle.scenario_nodes.specs.Nodes.{Held, Server, StandAs, store_setting}
-use Rattle.scenario_nodes.specs.Opening.{HaveCounted, HaveNoRecord, IsDamageOf, IsLoadFault, IsNotHad, ShowNoRecord, ShowsUnread}
-use Rattle.scenario_nodes.specs.Reading.{GivesStill, IsReadBack, ReadsNode, ReadsTwo, told_at}
+use Rattle.scenario_nodes.specs.Opening.{HaveCounted, HaveNoRecord, HoldSessions, IsDamageOf, IsLoadFault, IsNotHad, ShowNoRecord, ShowsUnread}
+use Rattle.scenario_nodes.specs.Reading.{AreSound, GivesStill, IsReadBack, ReadsNode, ReadsTwo, told_at}
 use Rattle.scenario_nodes.specs.Shelves.{AreGivenBack, AreNext, AreTaken, HasBoth, IsDiskName, ReturnsAll, ReturnsBut, pair_of, second_name}
 use Rattle.scenario_nodes.proofs.Holding.{bytes_of, failure_counted, next_first, next_second, rise_counted, stand_as}
 use Rattle.scenario_nodes.proofs.NotOpened.{unread_back}
 use Rattle.scenario_nodes.proofs.Passes.{placed}
 use Rattle.scenario_nodes.proofs.Tables.{resource_opens}
+use Rattle.scenario_nodes.proofs.ReadSound.{read_cause, shelf_cause}
 use Rattle.scenario_nodes.proofs.ReadStill.{node_still, not_had_still}
 use Rattle.scenario_nodes.proofs.Returned.{back_since, keeps_then, node_in}
 
@@ -50,13 +48,11 @@ module _ {D : Type 0} (state : D → DiskState) (shelf : ShelfState D) (s : Scen
     (first : OnlyReads (state disks.0) (state a)) (second : OnlyReads (state disks.1) (state b)) where
   none_written : (role : Role) (start : Extent) → OpensAs role → (x y : List ℕ) → present (state disks.0) ≡ Some x → present (state disks.1) ≡ Some y → StandAs s role start x y → HaveNoRecord role (pair_of state (a, b))
   none_written (Coordinator times past) start o x y is_x is_y stand = λ c d one two.
-      subst (λ p. StandsForRecords of_coordinator past p d) (same_Some x c (sym is_x ∙ taken.first.settled c (first.images.now c one)))
-      (subst (λ q. StandsForRecords of_coordinator past x q) (same_Some y d (sym is_y ∙ taken.second.settled d (second.images.now d two)))
-      (coordinators.stands_for_records _ _ past x y stand.0))
+      subst (λ p. HoldSessions past p d) (same_Some x c (sym is_x ∙ taken.first.settled c (first.images.now c one)))
+      (subst (λ q. HoldSessions past x q) (same_Some y d (sym is_y ∙ taken.second.settled d (second.images.now d two))) (length s.managers, length s.resources, stand.0))
   none_written (Resource setup past) start o x y is_x is_y stand = λ c d one two.
-      subst (λ p. StandsForRecords (of_resource (opening_tables setup)) past p d) (same_Some x c (sym is_x ∙ taken.first.settled c (first.images.now c one)))
-      (subst (λ q. StandsForRecords (of_resource (opening_tables setup)) past x q) (same_Some y d (sym is_y ∙ taken.second.settled d (second.images.now d two)))
-      (resources.stands_for_records (store_setting setup) past x y (stand o).0))
+      subst (λ p. StandsForRecords (store_setting setup) past p d) (same_Some x c (sym is_x ∙ taken.first.settled c (first.images.now c one)))
+      (subst (λ q. StandsForRecords (store_setting setup) past x q) (same_Some y d (sym is_y ∙ taken.second.settled d (second.images.now d two))) (stand o).0)
   none_written (Manager settings) start o x y is_x is_y stand = tt
 
   pub shows_none : ShowNoRecord state s shelf v (a, b)
@@ -115,8 +111,15 @@ module _ {D K : Type 0} (state : D → DiskState) (s : Scenario) (name : List �
             let (x, is_x) = bytes_of (state disks.0) (all disks.0) in
             let (y, is_y) = bytes_of (state disks.1) (all disks.1) in
             reads.says held x y is_x is_y (stand_as state old s (server held) disks (its held) x y is_x is_y holds);
+        sound = λ all held x y next.
+            let v = server held in
+            let (c, is_c) = bytes_of (state disks.0) (all disks.0) in
+            let (d, is_d) = bytes_of (state disks.1) (all disks.1) in
+            subst (λ p. AreSound s v.role p y) (next_first state old s v disks (its held) c d is_c is_d x y next)
+            (subst (λ q. AreSound s v.role c q) (next_second state old s v disks (its held) c d is_c is_d x y next) (reads.sound held c d is_c is_d));
         back = read_back;
         refused = tt;
+        cause = tt;
         still = still reads.first_reads reads.second_reads;
         keeps = keeps_all;
         returned = returned_all;
@@ -151,8 +154,10 @@ module _ {D K : Type 0} (state : D → DiskState) (s : Scenario) (name : List �
       node_unread : ReadsNode state s name server Says old after (Err (open_fault at e))
       node_unread = record {
         says = tt;
+        sound = tt;
         back = tt;
         refused = λ held. inr (unread_back state s old before after (server held) name (open_fault at e) (open_fault at e) a b (named held) both took keeps back refl (unread held));
+        cause = λ held. read_cause at (server held) (placed held) e reads.not_full;
         still = still reads.first_reads reads.second_reads;
         keeps = keeps_all;
         returned = returned_all;
@@ -168,8 +173,10 @@ pub node_not_had : {D K : Type 0} (state : D → DiskState) (s : Scenario) (name
     → IsNotHad state s.disk at old new name missed → KeepsOthers (IsDiskName name) old new → ReturnsAll old new → ReadsNode state s name server Says old new (Err missed)
 node_not_had state s name server named at placed Says old new had has missed refused keeps returned = record {
   says = tt;
+  sound = tt;
   back = tt;
   refused = λ held. inl (subst (λ (p : Place). IsNotHad state s.disk p old new (server held).name missed) (sym (placed held)) (subst (λ (n : List ℕ). IsNotHad state s.disk at old new n missed) (named held) refused));
+  cause = λ held. shelf_cause at (server held) (placed held) old new missed refused.cause;
   still = not_had_still state s.disk old new had has keeps.tells name keeps at missed refused;
   keeps = keeps;
   returned = returned;

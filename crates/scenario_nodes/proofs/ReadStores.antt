@@ -24,12 +24,14 @@ use Rattle.node_seat.specs.Faults.{open_fault}
 use Rattle.scenario_nodes.specs.Nodes.{Held, Server, coordinator_role, coordinator_server, resource_role, resource_server}
 use Rattle.scenario_nodes.specs.Opening.{IsDamageOf}
 use Rattle.scenario_nodes.specs.Reading.{ReadsTwo, SaysResource, SaysSessions}
+use Rattle.scenario_nodes.proofs.ReadSound.{never_damaged}
 
 -- ---- memory was refused before they were read
 
 pub not_read : {D K : Type 0} (state : D → DiskState) (s : Scenario) (server : Held → Server) (Says : Held → K → Type 0) (at : Place) (one two : D) → ReadsTwo {K = K} state s server Says at one two (Err why.NoMemory, one, two)
 not_read state s server Says at one two = record {
   says = tt;
+  sound = tt;
   damaged = λ held a b is_a is_b. tt;
   recovers = λ held a b is_a is_b stand. tt;
   not_full = tt;
@@ -61,6 +63,7 @@ module _ {D : Type 0} (state : D → DiskState) (s : Scenario) (one two : D) whe
       → ReadsTwo state s (coordinator_server s) SaysSessions place.Tc one two (Ok memory, a, b)
   sessions_read k memory a b is first second keeps reads = record {
     says = λ held x y is_x is_y stand. let kept = keeps.keeps held.past.sessions x y is_x is_y stand.0 in record { is = is ∙ kept.knows; allowed = kept.list.made.allowed };
+    sound = λ held x y is_x is_y. never_damaged state (sessions_meaning.meaning_of managed served) x y (sessions.store_of k) (reads.read x y is_x is_y);
     damaged = tt;
     recovers = tt;
     not_full = tt;
@@ -73,6 +76,7 @@ module _ {D : Type 0} (state : D → DiskState) (s : Scenario) (one two : D) whe
       → ReadsTwo state s (coordinator_server s) SaysSessions place.Tc one two (Err e, a, b)
   sessions_unread e a b keeps reads = record {
     says = tt;
+    sound = tt;
     damaged = λ held x y is_x is_y. sessions_damage held x y e (reads.damaged x y is_x is_y);
     recovers = λ held x y is_x is_y stand. keeps.recovers held.past.sessions x y is_x is_y stand.0;
     not_full = reads.not_full;
@@ -100,6 +104,7 @@ module _ {D : Type 0} (state : D → DiskState) (s : Scenario) (one two : D) whe
         → store.KeepsEach state its one two (Ok k) → ReadsDisks state (meaning_of its) store.store_of one two (Ok k) → ReadsTwo state s server (SaysResource s (n, def)) (place.Res n) one two (Ok memory, a, b)
     store_read k memory a b is first second keeps reads = record {
       says = λ held x y is_x is_y stand. let kept = keeps.keeps (held.past.resource n) x y is_x is_y (stand opens).0 in record { is = is ∙ kept.knows; made = kept.list.made };
+      sound = λ held x y is_x is_y. never_damaged state (meaning_of its) x y (store.store_of k) (reads.read x y is_x is_y);
       damaged = tt;
       recovers = tt;
       not_full = tt;
@@ -112,6 +117,7 @@ module _ {D : Type 0} (state : D → DiskState) (s : Scenario) (one two : D) whe
         → ReadsTwo state s server (SaysResource s (n, def)) (place.Res n) one two (Err e, a, b)
     store_unread e a b keeps reads = record {
       says = tt;
+      sound = tt;
       damaged = λ held x y is_x is_y. store_damage held x y e (reads.damaged x y is_x is_y);
       recovers = λ held x y is_x is_y stand. keeps.recovers (held.past.resource n) x y is_x is_y (stand opens).0;
       not_full = reads.not_full;

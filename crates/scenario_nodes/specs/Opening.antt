@@ -15,10 +15,13 @@ use Rattle.seata_types.specs.declared.errors.OpenError.TheVariants as open_error
 use Rattle.seata_types.specs.declared.ids.Place.{Place}
 use Rattle.scenario_form.specs.declared.scenarios.Scenario.{Scenario}
 use Rattle.history_rules.specs.Nodes.{Role, Coordinator, Resource, Manager}
-use Rattle.history_rules.specs.ResourceMemory.{boot_over, opening_tables}
+use Rattle.history_rules.specs.ResourceMemory.{boot_over}
+use Rattle.durable_records.specs.declared.coordinators.SessionRecord.{SessionRecord}
 use Rattle.session_store.specs.Meaning as sessions
+use Rattle.session_store.specs.Standing.{StandsForSessions}
+use Rattle.resource_store.specs.Standing.{StandsForRecords}
 use Rattle.resource_store.specs.Meaning as store
-use Rattle.node_steps.specs.Durable.{AreNodeDisks, StandsForRecords, of_coordinator, of_resource, own_faults}
+use Rattle.node_steps.specs.Durable.{AreNodeDisks, own_faults}
 use Rattle.node_steps.specs.Ends.{resource_saving}
 use Rattle.node_steps.specs.Promises.{BootHasNoPlace, place_of}
 use Rattle.node_seat.specs.declared.faults.RunFault.{RunFault}
@@ -32,18 +35,22 @@ IsShelfFault at old new (fault.Store p) = (p ≡ at) × Rose old.faults new.faul
 IsShelfFault at old new fault.NoMemory = Unit {0}
 IsShelfFault at old new _ = ⊥
 
+-- the bytes of two disks stand for these records of a coordinator, of some numbers of managers and resources, so that an opening takes them
+abbrev pub HoldSessions : List SessionRecord → (a b : List ℕ) → Type 0
+HoldSessions past a b = (managers : ℕ) × (resources : ℕ) × StandsForSessions managers resources past a b
+
 -- the two disks of a node that made no entry: each pair of images stands for the records of before, or for these and a resource's boot
 abbrev pub HaveNoEntry : Role → Pair → Type 0
-HaveNoEntry (Coordinator times past) disks = (a b : List ℕ) → disks.first.may_leave a → disks.second.may_leave b → StandsForRecords of_coordinator past a b
+HaveNoEntry (Coordinator times past) disks = (a b : List ℕ) → disks.first.may_leave a → disks.second.may_leave b → HoldSessions past a b
 HaveNoEntry (Resource setup past) disks =
     (a b : List ℕ) → disks.first.may_leave a → disks.second.may_leave b
-    → StandsForRecords (of_resource (opening_tables setup)) past a b ⊎ StandsForRecords (of_resource (opening_tables setup)) (boot_over past ∷ past) a b
+    → StandsForRecords (store_setting setup) past a b ⊎ StandsForRecords (store_setting setup) (boot_over past ∷ past) a b
 HaveNoEntry (Manager settings) disks = Unit {0}
 
 -- the two disks of a node that wrote no record: each pair of images stands for those of before
 abbrev pub HaveNoRecord : Role → Pair → Type 0
-HaveNoRecord (Coordinator times past) disks = (a b : List ℕ) → disks.first.may_leave a → disks.second.may_leave b → StandsForRecords of_coordinator past a b
-HaveNoRecord (Resource setup past) disks = (a b : List ℕ) → disks.first.may_leave a → disks.second.may_leave b → StandsForRecords (of_resource (opening_tables setup)) past a b
+HaveNoRecord (Coordinator times past) disks = (a b : List ℕ) → disks.first.may_leave a → disks.second.may_leave b → HoldSessions past a b
+HaveNoRecord (Resource setup past) disks = (a b : List ℕ) → disks.first.may_leave a → disks.second.may_leave b → StandsForRecords (store_setting setup) past a b
 HaveNoRecord (Manager settings) disks = Unit {0}
 
 -- the boot of an opening, where the journal stood there on two disks of this size, would end behind the last byte, with both numbers
@@ -127,7 +134,7 @@ ShowNoRecord state s old v disks = HaveSize s.disk (pair_of state disks) × (All
 
 -- or the records of a node that made no entry: a resource's boot on those of before
 abbrev pub ShowNoEntry : {D : Type 0} → (D → DiskState) → Scenario → (old : ShelfState D) → Server → D × D → Type 0
-ShowNoEntry state s old v disks = HaveSize s.disk (pair_of state disks) × (AllTell state → Holds state old s v → AreNodeDisks v.role [] (pair_of state disks))
+ShowNoEntry state s old v disks = HaveSize s.disk (pair_of state disks) × (AllTell state → Holds state old s v → AreNodeDisks v.role [] (pair_of state disks) × HaveNoEntry v.role (pair_of state disks))
 
 -- both disks of a node were taken and given back, and show something of it
 pub record IsBack {D : Type 0} (Show : Server → D × D → Type 0) (old new : ShelfState D) (v : Server) : Type 0 where

@@ -1,5 +1,5 @@
 -- What the disks of the nodes of a scenario hold, read before any node is opened, and given back.
-use Rattle.std.specs.Prelude.{◌≡◌, ◌⊎◌, ℕ, List, map, Some, Result, Ok, Err, IfOk, IfErr, OnOk, Vec}
+use Rattle.std.specs.Prelude.{◌≡◌, ◌⊎◌, ℕ, List, [], ◌∷◌, map, Some, Result, Ok, Err, IfOk, IfErr, OnOk, Vec}
 use Rattle.std.specs.declared.alloc.Global.{Global}
 use Rattle.std.specs.List.{AllByRecursion}
 use Rattle.disk_model.specs.Disk.{DiskState, IsSettled, Rose, present}
@@ -21,12 +21,15 @@ use Rattle.session_log.specs.declared.sessions.Snapshot.{Snapshot}
 use Rattle.resource_memory.specs.Known.{Known, known_of}
 use Rattle.resource_store.specs.Meaning.{Setting, opening_of}
 use Rattle.resource_store.specs.Standing.{AreMade}
+use Rattle.history_rules.specs.Nodes.{Role}
 use Rattle.history_text.specs.Worlds.{setup_of}
+use Rattle.node_steps.specs.Promises.{place_of}
 use Rattle.node_seat.specs.declared.faults.RunFault.{RunFault}
+use Rattle.node_seat.specs.declared.faults.RunFault.TheVariants as fault
 use Rattle.node_seat.specs.Faults.{open_fault}
 use Rattle.scenario_nodes.specs.declared.reading.Memories.{Memories}
 use Rattle.scenario_nodes.specs.Nodes.{Held, HoldAll, Holds, Server, StandAs, coordinator_server, resource_server, resource_servers, server_names, servers_of, store_setting}
-use Rattle.scenario_nodes.specs.Opening.{IsBack, IsDamageOf, IsNotLoaded, ShowNoRecord, StopsLoading}
+use Rattle.scenario_nodes.specs.Opening.{HaveDamage, IsBack, IsDamageOf, IsNotLoaded, ShowNoRecord, StopsLoading}
 use Rattle.scenario_nodes.specs.Shelves.{AllTell, AreNext, IsDiskName, ReturnsAll}
 use Rattle.scenario_nodes.specs.Together.{AreEach, IsOfOne, numbered}
 
@@ -57,12 +60,36 @@ pub record SaysAll (s : Scenario) (held : Held) (m : Memories) : Type 0 where
   pub sessions : SaysSessions held m.sessions
   pub resources : SaysResources s (numbered 1 s.resources) held m.resources.items
 
+-- ---- damage
+
+-- no damage stands in these bytes of the two disks of a node
+abbrev pub AreSound : Scenario → Role → (a b : List ℕ) → Type 0
+AreSound s role a b = (damage : OpenError) → HaveDamage s role a b damage → ⊥
+
+-- nor in the bytes of the two disks of a node that a shelf gives next
+abbrev pub IsSound : {D : Type 0} → (D → DiskState) → ShelfState D → Scenario → Server → Type 0
+IsSound state shelf s v = (a b : List ℕ) → AreNext state shelf s.disk v.name a b → AreSound s v.role a b
+
+-- the place is that of one of these nodes
+abbrev pub IsPlaceOf : List Server → Place → Type 0
+IsPlaceOf [] at = ⊥
+IsPlaceOf (v ∷ vs) at = (at ≡ place_of v.role) ⊎ IsPlaceOf vs at
+
+-- why the disks of these nodes couldn't be read, whatever they tell: those of one weren't had, failed or are damaged, or memory was refused
+abbrev pub IsReadFault : List Server → RunFault → Type 0
+IsReadFault servers (fault.Store at) = IsPlaceOf servers at
+IsReadFault servers (fault.Damaged at second offset) = IsPlaceOf servers at
+IsReadFault servers fault.NoMemory = Unit {0}
+IsReadFault servers _ = ⊥
+
 -- ---- two disks
 
 -- The two disks of a node at a place were read, and come back with no byte changed. What is said of the records that their bytes stand for
--- holds of what was read; bytes that stand for records are never damaged; and damage is where the bytes have it.
+-- holds of what was read, and no damage stands in what was; bytes that stand for records are never damaged; and damage is where the bytes
+-- have it.
 pub record ReadsTwo {D K : Type 0} (state : D → DiskState) (s : Scenario) (server : Held → Server) (Says : Held → K → Type 0) (at : Place) (one two : D) (result : Result K OpenError × D × D) : Type 0 where
   pub says : IfOk result.0 (λ memory. (held : Held) (a b : List ℕ) → present (state one) ≡ Some a → present (state two) ≡ Some b → StandAs s (server held).role (server held).start a b → Says held memory)
+  pub sound : OnOk result.0 ((held : Held) (a b : List ℕ) → present (state one) ≡ Some a → present (state two) ≡ Some b → AreSound s (server held).role a b)
   pub damaged : IfErr result.0 (λ e. (held : Held) (a b : List ℕ) → present (state one) ≡ Some a → present (state two) ≡ Some b → IsDamageOf s (server held).role a b (open_fault at e))
   pub recovers : IfErr result.0 (λ e. (held : Held) (a b : List ℕ) → present (state one) ≡ Some a → present (state two) ≡ Some b → StandAs s (server held).role (server held).start a b → IsNoDamage e)
   pub not_full : IfErr result.0 IsNotFull
@@ -88,11 +115,14 @@ pub record GivesStill {D : Type 0} (state : D → DiskState) (bytes : ℕ) (old 
   pub next : AllTell state → (name x : List ℕ) → TakenAs state (old.given_back name) bytes x → TakenAs state (new.given_back name) bytes x
   pub settled : (name : List ℕ) (d : D) → new.given_back name d → old.given_back name d ⊎ IsSettled (state d)
 
--- the disks of the node with a name were read so; or they weren't had, or couldn't be read, and were given back
+-- The disks of the node with a name were read so, and no damage stands in them where they tell; or they weren't had, or couldn't be read,
+-- and were given back.
 pub record ReadsNode {D K : Type 0} (state : D → DiskState) (s : Scenario) (name : List ℕ) (server : Held → Server) (Says : Held → K → Type 0) (old new : ShelfState D) (result : Result K RunFault) : Type 0 where
   pub says : IfOk result (λ memory. AllTell state → (held : Held) → Holds state old s (server held) → Says held memory)
+  pub sound : OnOk result (AllTell state → (held : Held) → IsSound state old s (server held))
   pub back : OnOk result ((held : Held) → IsReadBack state s old new (server held))
-  pub refused : IfErr result (λ fault. (held : Held) → IsNotLoaded state s old new (server held) fault)
+  pub refused : IfErr result (λ missed. (held : Held) → IsNotLoaded state s old new (server held) missed)
+  pub cause : IfErr result (λ missed. (held : Held) → IsReadFault (server held ∷ []) missed)
   pub still : GivesStill state s.disk old new
   pub keeps : KeepsOthers (IsDiskName name) old new
   pub returned : ReturnsAll old new
@@ -101,8 +131,10 @@ pub record ReadsNode {D K : Type 0} (state : D → DiskState) (s : Scenario) (na
 -- asked for.
 pub record ReadsNodes {D K : Type 0} (state : D → DiskState) (s : Scenario) (names : List (List ℕ)) (servers : Held → List Server) (Says : Held → K → Type 0) (old new : ShelfState D) (result : Result K RunFault) : Type 0 where
   pub says : IfOk result (λ memories. AllTell state → (held : Held) → AllByRecursion (Holds state old s) (servers held) → Says held memories)
+  pub sound : OnOk result (AllTell state → (held : Held) → AllByRecursion (IsSound state old s) (servers held))
   pub back : OnOk result ((held : Held) → AllByRecursion (IsReadBack state s old new) (servers held))
-  pub refused : IfErr result (λ fault. (held : Held) → StopsLoading state s (servers held) old new fault)
+  pub refused : IfErr result (λ missed. (held : Held) → StopsLoading state s (servers held) old new missed)
+  pub cause : IfErr result (λ missed. (held : Held) → IsReadFault (servers held) missed)
   pub still : GivesStill state s.disk old new
   pub keeps : KeepsOthers (IsOfOne names) old new
   pub returned : ReturnsAll old new

@@ -1,5 +1,5 @@
 -- The disk `net`, taken, read and given back.
-use Rattle.std.proofs.Common.{◌≡◌, ◌⊎◌, inl, inr, ◌∙◌, ℕ, Bool, true, false, IsTrue, List, Option, Some, None, Result, Ok, Err, IfErr, IfOk, refl, sym, ap, subst, arith}
+use Rattle.std.proofs.Common.{◌≡◌, ◌⊎◌, inl, inr, ◌∙◌, ℕ, Bool, true, false, IsTrue, List, Option, Some, Result, Ok, Err, IfErr, IfOk, refl, sym, ap, subst, arith}
 use Rattle.std.proofs.lemmas.Bool.{false≢true}
 use Rattle.disk_model.specs.Disk.{DiskState, HasCause, Rose, present}
 use Rattle.disk_model.specs.Shelf.{IsGivenBack, IsTaken, KeepsOthers, OnlyTellersHave, SamePlaces, SameUnder, ShelfState, taken_tells}
@@ -16,9 +16,8 @@ use Rattle.scenario_nodes.specs.Opening.{IsShelfFault}
 use Rattle.scenario_nodes.specs.Shelves.{AllTell, HasDisk, IsGivenIn}
 use Rattle.scenario_nodes.proofs.Holding.{bytes_of}
 use Rattle.scenario_nodes.proofs.Returned.{all_in, given_since, keeps_then, none_made, one_given, one_made, still}
-use Rattle.base_shelf.specs.Keeping.{HoldsBase, NetIs, net_name}
-use Rattle.base_disk.proofs.Standing.{same_records}
-use Rattle.store_shown.specs.Bases.{IsReadFault, IsTextFault, IsUnreadBack, ReadsBase, ReadsText, fault_of}
+use Rattle.base_shelf.specs.Keeping.{NetIs, net_name}
+use Rattle.store_shown.specs.Bases.{IsReadFault, IsTextFault, IsUnreadBack, NetHolds, ReadsBase, ReadsText, fault_of}
 use Rattle.store_shown.specs.Texts.{IsKeptIn}
 
 -- ---- the disk alone
@@ -37,7 +36,7 @@ module _ (disk after : DiskState) (reads : OnlyReads disk after) where
   pub text_told : (records : List (List ℕ)) (read : Result (Option (List ℕ)) RunFault) → ((c : List ℕ) → present disk ≡ Some c → StandsFor 0 records c) → IfOk read (IsKeptIn records) → IfErr read (λ missed. missed ≡ fault.NoMemory)
       → ReadsText disk after read
   text_told records (Ok found) stands kept refused = record {
-    reads = λ bytes others told stand. subst (λ rs. IsKeptIn rs found) (same_records records others bytes (stands bytes told) stand) kept;
+    reads = λ bytes told. record { records = records; stand = stands bytes told; is = kept };
     refused = tt;
     only_reads = reads;
   }
@@ -84,8 +83,8 @@ module _ {D : Type 0} (state : D → DiskState) (old mid new : ShelfState D) (be
           silently (inr (none, zero)) = inr ((λ d given. absurd (false≢true (sym silent ∙ has_law net_name d given))), zero)
 
   reads_as : (a : Result (Option (List ℕ)) RunFault) → ReadsText (state before) (state disk) a
-      → IfOk a (λ found. AllTell state → (records : List (List ℕ)) → HoldsBase state old records → IsKeptIn records found)
-  reads_as (Ok found) t = λ all records h. t.reads h.bytes records (had all h.bytes h.next) h.stand
+      → IfOk a (λ found. NetHolds state old (λ records. IsKeptIn records found))
+  reads_as (Ok found) t = λ all bytes next. t.reads bytes (had all bytes next)
   reads_as (Err missed) t = tt
 
   cause : (missed : RunFault) → IsTextFault (state before) (state disk) missed → IsReadFault state old (state disk) missed

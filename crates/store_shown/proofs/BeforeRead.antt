@@ -1,5 +1,5 @@
 -- What was read of the disks of all nodes is what a report begins with.
-use Rattle.std.proofs.Common.{◌≡◌, ◌∙◌, ◌+◌, ℕ, zero, suc, List, [], ◌∷◌, All, length, slice_get, Some, None, refl, sym, ap, subst, arith}
+use Rattle.std.proofs.Common.{◌≡◌, ◌∙◌, ◌+◌, ℕ, zero, suc, List, [], ◌∷◌, All, slice_get, Some, None, refl, sym, ap, subst, arith}
 use Rattle.std.proofs.lemmas.List.Elements.{All-head, All-tail}
 use Rattle.std.proofs.lemmas.Option.{same_Some}
 use Rattle.local_tables.specs.Rows.{Database}
@@ -11,14 +11,12 @@ use Rattle.resource_memory.proofs.RecordLaws.{allows}
 use Rattle.scenario_form.specs.declared.scenarios.ResourceDef.{ResourceDef}
 use Rattle.scenario_form.specs.declared.scenarios.Scenario.{Scenario}
 use Rattle.history_rules.specs.ResourceMemory.{Setup, opening_tables}
-use Rattle.history_text.specs.Worlds.{resources_of}
 use Rattle.scenario_nodes.specs.declared.reading.Memories.{Memories}
 use Rattle.scenario_nodes.specs.Nodes.{Held}
 use Rattle.scenario_nodes.specs.Reading.{SaysAll, SaysResource}
 use Rattle.scenario_nodes.specs.Together.{AreEach, numbered}
 use Rattle.scenario_nodes.proofs.Numbered.{length_numbered}
 use Rattle.scenario_nodes.proofs.Together.{each_length}
-use Rattle.report_text.specs.declared.before.Before.{Before}
 use Rattle.report_text.specs.Following.{Come, IsRead, IsReadAt}
 use Rattle.report_text.proofs.NumberedLaws.{length-resources, setup_at}
 

@@ -1,5 +1,5 @@
 -- Records that keep a text: whether the last one is an empty one, and all one after the other.
-use Rattle.std.proofs.Common.{◌≡◌, ◌∙◌, ◌+◌, ◌-◌, ℕ, zero, suc, Bool, true, false, true≢false, Some, None, slice_get, List, [], ◌∷◌, ◌++◌, length, drop, length-append, append_assoc, refl, sym, ap, subst, arith}
+use Rattle.std.proofs.Common.{◌≡◌, ◌∙◌, ◌+◌, ◌-◌, ℕ, zero, suc, true, false, true≢false, Some, None, slice_get, List, [], ◌∷◌, ◌++◌, length, drop, length-append, append_assoc, refl, sym, ap, arith}
 use Rattle.std.proofs.lemmas.Option.{same_Some}
 use Rattle.base_records.specs.Pieces.{IsWhole, joined}
 use Rattle.store_shown.specs.Texts.{is_end, is_whole}

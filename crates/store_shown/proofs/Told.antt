@@ -13,23 +13,24 @@ use Rattle.scenario_reader.specs.declared.errors.ScenarioError.{ScenarioError}
 use Rattle.scenario_reader.specs.declared.errors.ScenarioError.TheVariants as error
 use Rattle.scenario_reader.specs.Reading.{IsFault, IsScenario}
 use Rattle.base_records.specs.Pieces.{IsWhole, joined}
-use Rattle.base_shelf.specs.Keeping.{HoldsBase, NetIs, net_name}
-use Rattle.base_shelf.proofs.NetName.{nodes_away, nodes_hold}
+use Rattle.base_shelf.specs.Keeping.{NetIs, net_name}
+use Rattle.base_shelf.proofs.NetName.{nodes_away, nodes_hold, nodes_sound}
 use Rattle.history_text.specs.declared.entries.Names.{Names}
 use Rattle.history_text.specs.Report.{names_of}
 use Rattle.node_seat.specs.declared.faults.RunFault.{RunFault}
 use Rattle.node_seat.specs.declared.faults.RunFault.TheVariants as fault
 use Rattle.report_text.specs.declared.before.Before.{Before}
-use Rattle.scenario_nodes.specs.Nodes.{Held, HoldAll, Holds, Server, servers_of}
-use Rattle.scenario_nodes.specs.Reading.{GivesStill, HoldStill}
+use Rattle.scenario_nodes.specs.Nodes.{Held, Holds, Server, none_held, server_names, servers_of}
+use Rattle.scenario_nodes.specs.Reading.{GivesStill, HoldStill, IsReadFault, IsSound}
 use Rattle.scenario_nodes.specs.Shelves.{AllTell, ReturnsAll, second_name}
+use Rattle.scenario_nodes.specs.Together.{IsOfOne}
 use Rattle.scenario_nodes.proofs.Holding.{bytes_of}
-use Rattle.scenario_nodes.proofs.Returned.{all_after}
+use Rattle.scenario_nodes.proofs.Returned.{all_after, keeps_then}
 use Rattle.store_shown.specs.declared.found.Shown.{Shown}
 use Rattle.store_shown.specs.declared.found.Shown.TheVariants as shown
-use Rattle.store_shown.specs.Bases.{ReadsBase}
+use Rattle.store_shown.specs.Bases.{IsNetUnread, NetHolds, ReadsBase}
 use Rattle.store_shown.specs.Before.{ReadsBefore}
-use Rattle.store_shown.specs.Showing.{IsFound, IsFoundAt, IsState, KeepsBytes, Shows, ShowsNodes}
+use Rattle.store_shown.specs.Showing.{IsFound, IsFoundAt, IsOfReading, IsState, KeepsBytes, KeepsScenario, Shows, ShowsNodes, TouchesNodes}
 
 -- ---- the nodes
 
@@ -39,7 +40,7 @@ module _ {D : Type 0} (state : D → DiskState) (s : Scenario) (old new : ShelfS
   nodes_shown before result is r = record { found = by result is; still = r.still; keeps = r.keeps; returned = r.returned }
     where
       by : (a : Result Shown NoMemory) → IfOk a (IsState s before) → IfOk a (IsFoundAt state s old new)
-      by (Ok (shown.State text)) told = λ all held holds. told held.past (r.says all held holds)
+      by (Ok (shown.State text)) told = (λ all held holds. told held.past (r.says all held holds), r.sound)
       by (Ok shown.Empty) told = absurd told
       by (Ok (shown.NoScenario e)) told = absurd told
       by (Ok (shown.Unread missed names)) told = absurd told
@@ -51,11 +52,8 @@ module _ {D : Type 0} (state : D → DiskState) (s : Scenario) (old new : ShelfS
   nodes_unread missed names result named is r = record { found = by result is; still = r.still; keeps = r.keeps; returned = r.returned }
     where
       by : (a : Result Shown NoMemory) → IfOk a (λ found. (missed ≢ fault.NoMemory) × (found ≡ shown.Unread missed names)) → IfOk a (IsFoundAt state s old new)
-      by (Ok found) told = subst (IsFoundAt state s old new) (sym told.1) (told.0, named, r.refused)
+      by (Ok found) told = subst (IsFoundAt state s old new) (sym told.1) (told.0, named, r.refused, r.cause)
       by (Err refused) told = tt
-
-  pub nodes_forgotten : (missed : RunFault) (refused : NoMemory) → ReadsBefore state s old new (Err missed) → ShowsNodes state s old new (Err refused)
-  nodes_forgotten missed refused r = record { found = tt; still = r.still; keeps = r.keeps; returned = r.returned }
 
 -- ---- bytes
 
@@ -104,6 +102,24 @@ module _ {D : Type 0} (state : D → DiskState) where
     all_still s old new still all vs holds.1,
   )
 
+-- ---- faults
+
+-- a disk that wasn't read is neither full nor that of another text
+module _ {D : Type 0} (state : D → DiskState) (old new : ShelfState D) where
+  net_kind : (missed : RunFault) → missed ≢ fault.NoMemory → IsNetUnread state old new missed → IsOfReading missed
+  net_kind (fault.Store at) other cause = tt
+  net_kind (fault.Damaged at second offset) other cause = tt
+  net_kind fault.NoMemory other cause = other refl
+  net_kind (fault.Full at full) other cause = ⊎_elim (λ none. none) (λ back. back.cause) cause
+  net_kind fault.Other other cause = ⊎_elim (λ none. none) (λ back. back.cause) cause
+
+nodes_kind : (servers : List Server) (missed : RunFault) → missed ≢ fault.NoMemory → IsReadFault servers missed → IsOfReading missed
+nodes_kind servers (fault.Store at) other cause = tt
+nodes_kind servers (fault.Damaged at second offset) other cause = tt
+nodes_kind servers fault.NoMemory other cause = other refl
+nodes_kind servers (fault.Full at full) other cause = cause
+nodes_kind servers fault.Other other cause = cause
+
 -- ---- all of it
 
 module _ {D S : Type 0} (state : D → DiskState) (seen : S → ShelfState D) (law : (shelf : S) → OnlyTellersHave (seen shelf)) (old mid : S) where
@@ -113,6 +129,7 @@ module _ {D S : Type 0} (state : D → DiskState) (seen : S → ShelfState D) (l
     found = found;
     bytes = net_kept state (seen old) (seen mid) (law old) base.returned base.keeps base.still;
     net = base.still;
+    touches = inl base.keeps;
     tells = base.keeps.tells;
     returned = base.returned;
   }
@@ -123,27 +140,39 @@ module _ {D S : Type 0} (state : D → DiskState) (seen : S → ShelfState D) (l
   base_unread missed names result base is = net_shown (Err missed) result base (by result is)
     where
       by : (a : Result Shown NoMemory) → IfOk a (λ found. (missed ≢ fault.NoMemory) × (found ≡ shown.Unread missed names)) → IfOk a (IsFound state seen old mid)
-      by (Ok found) told = subst (IsFound state seen old mid) (sym told.1) (told.0, inl base.refused)
+      by (Ok found) told = subst (IsFound state seen old mid) (sym told.1) (net_kind state (seen old) (seen mid) missed told.0 base.refused, inl (base.refused, base.keeps))
       by (Err refused) told = tt
 
   -- it keeps no text
   pub base_empty : ReadsBase state (seen old) (seen mid) (Ok None) → Shows state seen old mid (Ok shown.Empty)
-  base_empty base = net_shown (Ok None) (Ok shown.Empty) base base.reads
+  base_empty base = net_shown (Ok None) (Ok shown.Empty) base (base.reads, base.keeps)
 
   module _ (text : List ℕ) (base : ReadsBase state (seen old) (seen mid) (Ok (Some text))) where
+    -- what holds of the text holds of that of the records
+    such : (Is : List ℕ → Type 0) → Is text → NetHolds state (seen old) (λ records. IsWhole records × Is (joined records))
+    such Is its all bytes next = let h = base.reads all bytes next in record { records = h.records; stand = h.stand; is = (h.is.0, subst Is h.is.1 its) }
+
     -- or one that is no scenario
     pub text_refused : (e : ScenarioError) (result : Result Shown NoMemory) → (e ≢ error.NoMemory → IsFault text e) → IfOk result (λ found. (e ≢ error.NoMemory) × (found ≡ shown.NoScenario e))
         → Shows state seen old mid result
     text_refused e result refused is = net_shown (Ok (Some text)) result base (by result is)
       where
         by : (a : Result Shown NoMemory) → IfOk a (λ found. (e ≢ error.NoMemory) × (found ≡ shown.NoScenario e)) → IfOk a (IsFound state seen old mid)
-        by (Ok found) told = subst (IsFound state seen old mid) (sym told.1) (λ all records h. let kept = base.reads all records h in (kept.0, subst (λ (t : List ℕ). IsFault t e) kept.1 (refused told.0)))
+        by (Ok found) told =
+            let its : NetHolds state (seen old) (λ records. IsWhole records × IsFault (joined records) e) = such (λ t. IsFault t e) (refused told.0) in subst (IsFound state seen old mid) (sym told.1) (its, base.keeps)
         by (Err _) told = tt
 
     -- or that of a scenario, whose nodes' disks were read
     module _ (new : S) (s : Scenario) (is : IsScenario text s) (runs : IsRunnable s) (result : Result Shown NoMemory) (nodes : ShowsNodes state s (seen mid) (seen new) result) where
-      kept_scenario : AllTell state → (records : List (List ℕ)) → HoldsBase state (seen old) records → IsWhole records × IsScenario (joined records) s
-      kept_scenario all records h = let kept = base.reads all records h in (kept.0, subst (λ (t : List ℕ). IsScenario t s) kept.1 is)
+      kept_scenario : KeepsScenario state (seen old) s
+      kept_scenario = such (λ t. IsScenario t s) is
+
+      touches : TouchesNodes state s (seen old) (seen new)
+      touches = record {
+        keeps = keeps_then (λ n. n ≡ net_name) (IsOfOne (server_names s)) (λ n. (n ≡ net_name) ⊎ IsOfOne (server_names s) n) (seen old) (seen mid) (seen new) (λ n its. inl its) (λ n its. inr its) base.keeps nodes.keeps;
+        next = λ all n other bytes before.
+            nodes.still.next all n bytes (next_since state ((seen old).given_back n) ((seen mid).given_back n) s.disk (base.keeps.others n other) bytes before);
+      }
 
       to_mid : HoldStill state s (seen old) (seen mid)
       to_mid = nodes_hold state s (seen old) (seen mid) runs base.keeps
@@ -151,9 +180,15 @@ module _ {D S : Type 0} (state : D → DiskState) (seen : S → ShelfState D) (l
       still : HoldStill state s (seen old) (seen new)
       still all held holds = all_still state s (seen mid) (seen new) nodes.still all (servers_of s held) (to_mid all held holds)
 
+      sound : (AllTell state → (held : Held) → AllByRecursion (IsSound state (seen mid) s) (servers_of s held)) → AllTell state → (held : Held) → AllByRecursion (IsSound state (seen old) s) (servers_of s held)
+      sound its all held = nodes_sound state s (seen old) (seen mid) runs base.keeps held (its all held)
+
       by : (a : Result Shown NoMemory) → IfOk a (IsFoundAt state s (seen mid) (seen new)) → IfOk a (IsFound state seen old new)
-      by (Ok (shown.State t)) told = record { scenario = s; kept = kept_scenario; is_text = λ all held holds. told all held (to_mid all held holds); still = still }
-      by (Ok (shown.Unread missed names)) told = (told.0, inr (record { scenario = s; kept = kept_scenario; named = told.1; between = mid; keeps = base.keeps; refused = told.2; still = still }))
+      by (Ok (shown.State t)) told = record { scenario = s; kept = kept_scenario; is_text = λ all held holds. told.0 all held (to_mid all held holds); sound = sound told.1; still = still; touches = touches }
+      by (Ok (shown.Unread missed names)) told = (
+        nodes_kind (servers_of s none_held) missed told.0 (told.3 none_held),
+        inr (record { scenario = s; kept = kept_scenario; named = told.1; between = mid; keeps = base.keeps; refused = told.2; cause = told.3; still = still; touches = touches }),
+      )
       by (Ok shown.Empty) told = absurd told
       by (Ok (shown.NoScenario e)) told = absurd told
       by (Err refused) told = tt
@@ -164,6 +199,7 @@ module _ {D S : Type 0} (state : D → DiskState) (seen : S → ShelfState D) (l
         bytes = kept_then state (seen old) (seen mid) (seen new) (net_kept state (seen old) (seen mid) (law old) base.returned base.keeps base.still)
             (nodes_kept state (seen mid) (seen new) (law mid) nodes.returned s.disk nodes.still);
         net = λ all bytes next. next_since state ((seen mid).given_back net_name) ((seen new).given_back net_name) SCENARIO_DISK (nodes.keeps.others net_name (λ its. nodes_away s runs net_name its refl)) bytes (base.still all bytes next);
+        touches = inr (record { scenario = s; kept = kept_scenario; nodes = touches });
         tells = nodes.keeps.tells ∙ base.keeps.tells;
         returned = all_after (seen old) (seen mid) (seen new) base.keeps.tells base.returned nodes.returned;
       }

@@ -1,5 +1,5 @@
 -- The text that the disk `net` of a shelf keeps, read.
-use Rattle.std.specs.Prelude.{◌≡◌, ◌⊎◌, ◌≤◌, ℕ, false, List, Option, Some, Result, Ok, Err, IfOk, IfErr}
+use Rattle.std.specs.Prelude.{◌≡◌, ◌⊎◌, ◌≤◌, ℕ, false, List, Option, Some, Result, IfOk, IfErr}
 use Rattle.disk_model.specs.Disk.{DiskState, HasCause, present}
 use Rattle.disk_model.specs.Shelf.{KeepsOthers, ShelfState}
 use Rattle.disk_journal.specs.Keeping.{IsDamageIn, OnlyReads, StandsFor}
@@ -8,7 +8,7 @@ use Rattle.disk_journal.specs.declared.errors.JournalError.TheVariants as why
 use Rattle.seata_types.specs.declared.ids.Place.TheVariants as place
 use Rattle.node_seat.specs.declared.faults.RunFault.{RunFault}
 use Rattle.node_seat.specs.declared.faults.RunFault.TheVariants as fault
-use Rattle.base_shelf.specs.Keeping.{HoldsBase, NetIs, net_name}
+use Rattle.base_shelf.specs.Keeping.{NetIs, net_name}
 use Rattle.scenario_nodes.specs.Opening.{IsShelfFault}
 use Rattle.scenario_nodes.specs.Shelves.{AllTell, IsGivenIn, ReturnsAll}
 use Rattle.store_shown.specs.Texts.{IsKeptIn}
@@ -33,11 +33,24 @@ pub record IsUnreadBack {D : Type 0} (state : D → DiskState) (old new : ShelfS
 abbrev pub IsNetUnread : {D : Type 0} → (D → DiskState) → (old new : ShelfState D) → RunFault → Type 0
 IsNetUnread state old new missed = IsShelfFault place.Net old new missed ⊎ IsUnreadBack state old new missed
 
+-- ---- the records that stand there
+
+-- these bytes are a journal, and this holds of its records
+pub record StandsSuch (Is : List (List ℕ) → Type 0) (bytes : List ℕ) : Type 0 where
+  pub records : List (List ℕ)
+  pub stand : StandsFor 0 records bytes
+  pub is : Is records
+
+-- So are the bytes of the disk that the shelf gives next, where disks tell theirs: they are never damaged.
+abbrev pub NetHolds : {D : Type 0} → (D → DiskState) → ShelfState D → (List (List ℕ) → Type 0) → Type 0
+NetHolds state shelf Is = AllTell state → (bytes : List ℕ) → NetIs state shelf bytes → StandsSuch Is bytes
+
 -- ---- on a shelf
 
--- The disk was read and given back with the bytes that it had: this is the text that its records keep, or why it wasn't read.
+-- The disk was read and given back with the bytes that it had: this is the text that its records keep, or why it wasn't read. Of damaged
+-- bytes none is.
 pub record ReadsBase {D : Type 0} (state : D → DiskState) (old new : ShelfState D) (result : Result (Option (List ℕ)) RunFault) : Type 0 where
-  pub reads : IfOk result (λ found. AllTell state → (records : List (List ℕ)) → HoldsBase state old records → IsKeptIn records found)
+  pub reads : IfOk result (λ found. NetHolds state old (λ records. IsKeptIn records found))
   pub refused : IfErr result (IsNetUnread state old new)
   pub still : AllTell state → (bytes : List ℕ) → NetIs state old bytes → NetIs state new bytes
   pub keeps : KeepsOthers (λ n. n ≡ net_name) old new
@@ -61,6 +74,6 @@ IsTextFault old new _ = ⊥
 
 -- a disk was read: this is the text that its records keep, or why it wasn't read
 pub record ReadsText (old new : DiskState) (result : Result (Option (List ℕ)) RunFault) : Type 0 where
-  pub reads : IfOk result (λ found. (bytes : List ℕ) (records : List (List ℕ)) → present old ≡ Some bytes → StandsFor 0 records bytes → IsKeptIn records found)
+  pub reads : IfOk result (λ found. (bytes : List ℕ) → present old ≡ Some bytes → StandsSuch (λ records. IsKeptIn records found) bytes)
   pub refused : IfErr result (IsTextFault old new)
   pub only_reads : OnlyReads old new

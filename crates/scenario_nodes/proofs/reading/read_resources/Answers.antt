@@ -4,7 +4,7 @@ use Rattle.scenario_nodes.specs.Reading.{ReadsResource, SaysResources}
 use Rattle.scenario_nodes.specs.Together.{numbered}
 use Rattle.scenario_nodes.proofs.Apart.{servers_apart}
 use Rattle.scenario_nodes.proofs.Closing.{second_at, seconds_count}
-use Rattle.scenario_nodes.proofs.ReadAll.{all_keep, all_read, all_says, reading_failed, reading_next, reading_none}
+use Rattle.scenario_nodes.proofs.ReadAll.{all_keep, all_read, all_says, all_sound, reading_failed, reading_next, reading_none}
 use Rattle.scenario_nodes.proofs.reading.read_resources.Goals as goal
 
 pub loop-k-init : goal.loop-k-init
@@ -104,8 +104,10 @@ returns g c =
     let end : c.loop-k.k ≡ length s.resources = omega (arith, size, past, last) in
     record {
       says = all_says state s old now c.loop-k.k c.loop-k.read.items a end;
+      sound = all_sound state s old now c.loop-k.k c.loop-k.read.items a end;
       back = all_read state s old now c.loop-k.k c.loop-k.read.items a end;
       refused = tt;
+      cause = tt;
       still = a.still;
       keeps = all_keep state s old now c.loop-k.k c.loop-k.read.items a end;
       returned = a.returned;

@@ -1,4 +1,4 @@
-use Rattle.std.proofs.Common.{Ok, Err, subst}
+use Rattle.std.proofs.Common.{subst}
 use Rattle.scenario_nodes.specs.Reading.{ReadsServers}
 use Rattle.store_shown.proofs.BeforeRead.{is_read}
 use Rattle.store_shown.proofs.before.read_before.Goals as goal
@@ -8,8 +8,10 @@ returns-in-Ok g c =
     let s = c.args.scenario.now in
     let r = subst (ReadsServers g.H.D.Disk.state s (g.H.Shelf.state c.args.shelf.now) (g.H.Shelf.state c.read_servers.new.shelf)) c.in-Ok.is c.read_servers.ensures in record {
       says = λ all held holds. is_read s held c.in-Ok.memories (r.says all held holds);
+      sound = r.sound;
       back = r.back;
       refused = tt;
+      cause = tt;
       still = r.still;
       keeps = r.keeps;
       returned = r.returned;
@@ -19,4 +21,4 @@ pub returns-in-Err : goal.returns-in-Err
 returns-in-Err g c =
     let s = c.args.scenario.now in
     let r = subst (ReadsServers g.H.D.Disk.state s (g.H.Shelf.state c.args.shelf.now) (g.H.Shelf.state c.read_servers.new.shelf)) c.in-Err.is c.read_servers.ensures in
-    record { says = tt; back = tt; refused = r.refused; still = r.still; keeps = r.keeps; returned = r.returned }
+    record { says = tt; sound = tt; back = tt; refused = r.refused; cause = r.cause; still = r.still; keeps = r.keeps; returned = r.returned }

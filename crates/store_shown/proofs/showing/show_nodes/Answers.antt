@@ -1,6 +1,6 @@
 use Rattle.std.proofs.Common.{subst}
 use Rattle.store_shown.specs.Before.{ReadsBefore}
-use Rattle.store_shown.proofs.Told.{nodes_forgotten, nodes_shown, nodes_unread}
+use Rattle.store_shown.proofs.Told.{nodes_shown}
 use Rattle.store_shown.proofs.showing.show_nodes.Goals as goal
 
 pub returns-in-Ok : goal.returns-in-Ok

@@ -1,6 +1,0 @@
-use Rattle.std.proofs.Common.{sym, ◌∙◌}
-use Rattle.manager_core.proofs.Facts.{polls}
-use Rattle.manager_core.proofs.talks.Talk.poll.Goals as goal
-
-pub returns : goal.returns
-returns c = polls c.args.self.now c.say.new.self c.say.result c.args.xid c.requires.closed (sym c.polls.ensures ∙ c.if-not-polls.false) c.say.ensures
