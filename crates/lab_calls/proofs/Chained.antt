@@ -1,11 +1,13 @@
 -- What a replay or a run leaves on a shelf, the next call of its scenario may begin with.
-use Rattle.std.proofs.Common.{◌≡◌, ◌⊎◌, inl, inr, ◌∙◌, ◌++◌, ℕ, IsTrue, List, [], Result, Ok, Err, refl, ap, sym, subst, append-nil}
+use Rattle.std.proofs.Common.{◌≡◌, ◌⊎◌, inl, inr, ◌∙◌, ◌++◌, ◌<◌, ℕ, zero, suc, IsTrue, List, [], replicate, Result, Ok, Err, refl, ap, sym, subst, append-nil, arith}
 use Rattle.disk_model.specs.Disk.{DiskState}
 use Rattle.disk_model.specs.Shelf.{ShelfState}
 use Rattle.disk_model.proofs.Taken.{next_since}
+use Rattle.disk_journal.specs.Keeping.{StandsFor}
+use Rattle.disk_journal.specs.Reading.{found, reading, reading_from}
 use Rattle.seata_types.specs.declared.limits.TheConstants.{BODY_BYTES, SCENARIO_DISK}
 use Rattle.base_records.specs.Pieces.{IsFront, records_of}
-use Rattle.base_shelf.specs.Keeping.{net_name}
+use Rattle.base_shelf.specs.Keeping.{HoldsBase, net_name}
 use Rattle.base_shelf.proofs.NetName.{nodes_hold}
 use Rattle.scenario_form.specs.declared.scenarios.Scenario.{Scenario}
 use Rattle.scenario_form.specs.Runnable.{IsRunnable}
@@ -20,7 +22,7 @@ use Rattle.replay_runner.specs.Leaving as replayed
 use Rattle.thread_runner.specs.Running as ran
 use Rattle.chain_law.specs.Chained.{CallsGoOn, ChainsStay, IsAfter, StaysAfter}
 use Rattle.lab_calls.specs.declared.played.Played.{Played}
-use Rattle.lab_calls.specs.Chained.{CallsStayKept, KeptCallsGoOn}
+use Rattle.lab_calls.specs.Chained.{CallsStayKept, KeptCallsGoOn, NewBeginKept, NewNetHoldsNone, NoneAreFirst}
 use Rattle.lab_calls.specs.Over.{EndsOver}
 
 -- ---- first records of a text
@@ -83,3 +85,26 @@ module _ {D S : Type 0} (state : D → DiskState) (seen : S → ShelfState D) (g
     schedule = λ shelf s chain held before stops schedule.
         record { after = go.schedule shelf s chain held before.after stops schedule; records = before.records; net = before.net; front = before.front };
   }
+
+-- ---- the first call
+
+-- zero bytes stand for no records: the first gate is closed
+zeros_stand : (n : ℕ) → 0 < n → StandsFor 0 [] (replicate n 0)
+unfolding reading reading_from found
+zeros_stand zero some = absurd (omega (arith, some))
+zeros_stand (suc n) some = refl
+
+pub none_are_first : NoneAreFirst
+none_are_first text = record { missing = records_of BODY_BYTES text; whole = refl }
+
+module _ {D S : Type 0} (state : D → DiskState) (seen : S → ShelfState D) where
+  pub new_net_holds_none : NewNetHoldsNone state seen
+  new_net_holds_none shelf unused = record {
+    bytes = replicate SCENARIO_DISK 0;
+    next = inr (unused, refl);
+    stand = zeros_stand SCENARIO_DISK (omega arith);
+  }
+
+  pub new_begin_kept : CallsGoOn state seen → NewBeginKept state seen
+  new_begin_kept go shelf s runs nodes net =
+      record { after = go.first shelf s runs nodes; records = []; net = new_net_holds_none shelf net; front = none_are_first s.base }

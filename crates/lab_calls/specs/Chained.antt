@@ -1,18 +1,18 @@
 -- That calls of a scenario one after the other leave disks that the next one may begin with.
-use Rattle.std.specs.Prelude.{ℕ, IsTrue, List, Result}
+use Rattle.std.specs.Prelude.{ℕ, IsTrue, List, [], Result}
 use Rattle.disk_model.specs.Disk.{DiskState}
 use Rattle.disk_model.specs.Shelf.{ShelfState}
 use Rattle.seata_types.specs.declared.ids.Place.{Place}
 use Rattle.seata_types.specs.declared.limits.TheConstants.{BODY_BYTES}
 use Rattle.base_records.specs.Pieces.{IsFront}
-use Rattle.base_shelf.specs.Keeping.{HoldsBase}
+use Rattle.base_shelf.specs.Keeping.{HoldsBase, net_name}
 use Rattle.scenario_form.specs.declared.scenarios.Scenario.{Scenario}
 use Rattle.scenario_form.specs.declared.scenarios.ScheduleItem.{ScheduleItem}
 use Rattle.scenario_form.specs.Runnable.{IsRunnable}
 use Rattle.history_rules.specs.Histories.{Moment}
 use Rattle.history_rules.specs.Nodes.{Past}
 use Rattle.node_seat.specs.declared.faults.RunFault.{RunFault}
-use Rattle.scenario_nodes.specs.Nodes.{Held}
+use Rattle.scenario_nodes.specs.Nodes.{AreUnused, Held, none_held, servers_of}
 use Rattle.scenario_nodes.specs.Shelves.{AllTell}
 use Rattle.replay_runner.specs.Leaving.{Showing}
 use Rattle.replay_runner.specs.Leaving as replayed
@@ -57,3 +57,25 @@ pub record KeptCallsGoOn {D S : Type 0} (state : D → DiskState) (seen : S → 
       → IsKeptAfter state (seen shelf) s chain held
       → (stops : List (Place × ℕ × ℕ)) (schedule : List ScheduleItem)
       → IsKeptAfter state (seen shelf) (with_schedule s stops schedule) chain held
+
+-- ---- the first call
+
+-- nothing was given back under the name of the disk `net`
+abbrev pub IsUnusedNet : {D : Type 0} → ShelfState D → Type 0
+IsUnusedNet {D} shelf = (disk : D) → ¬ shelf.given_back net_name disk
+
+-- a shelf that was never used for the nodes of a scenario, nor for `net`, is after the empty chain, and
+-- its disks hold no record
+abbrev pub NewBeginKept : {D S : Type 0} → (D → DiskState) → (S → ShelfState D) → Type 0
+NewBeginKept {S = S} state seen =
+    (shelf : S) (s : Scenario) → IsRunnable s → AreUnused (seen shelf) (servers_of s none_held)
+    → IsUnusedNet (seen shelf) → IsKeptAfter state (seen shelf) s [] none_held
+
+-- a disk `net` that was never used holds none
+abbrev pub NewNetHoldsNone : {D S : Type 0} → (D → DiskState) → (S → ShelfState D) → Type 0
+NewNetHoldsNone {S = S} state seen =
+    (shelf : S) → IsUnusedNet (seen shelf) → HoldsBase state (seen shelf) []
+
+-- no record is a front of each text
+abbrev pub NoneAreFirst : Type 0
+NoneAreFirst = (text : List ℕ) → IsFront BODY_BYTES [] text

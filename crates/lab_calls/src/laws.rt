@@ -1,5 +1,5 @@
 //! What holds of the lines of frames, and of calls in a row.
-ghost use Rattle.lab_calls.specs.Chained.{KeptCallsGoOn};
+ghost use Rattle.lab_calls.specs.Chained.{KeptCallsGoOn, NewBeginKept, NewNetHoldsNone, NoneAreFirst};
 ghost use Rattle.lab_calls.specs.FrameLines.{FrameAddsLine, NothingHasNoLine, BadFrameEnds, FrameOrFault};
 
 use disk_model::Shelf;
@@ -21,4 +21,13 @@ pub fn frames_have_their_lines()
 /// none is another scenario's.
 pub fn kept_calls_go_on<H: Shelf>()
     ensures { KeptCallsGoOn H.D.state H.state }
+{}
+
+/// Such calls begin on new disks: a shelf to which nothing was given back under the names of a scenario's nodes, nor under `net`, is
+/// after the empty chain, whatever the stops and the schedule. Its disks are blank: those of the nodes hold no record, and `net` holds
+/// none either, which is a front of each text.
+pub fn new_shelves_begin_kept<H: Shelf>()
+    ensures kept { NewBeginKept H.D.state H.state }
+    ensures net { NewNetHoldsNone H.D.state H.state }
+    ensures front { NoneAreFirst }
 {}

@@ -20,7 +20,7 @@ mod tops;
 mod transfer;
 mod words;
 
-pub use laws::frames_have_their_lines;
+pub use laws::{frames_have_their_lines, kept_calls_go_on, new_shelves_begin_kept};
 pub use memory::{MemSink, MemSource};
 pub use standard::{StdSink, StdSource};
 pub use statuses::MEMORY;
