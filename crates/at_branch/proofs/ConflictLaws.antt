@@ -1,73 +1,108 @@
--- What a conflict does, by the code's tests.
-use Rattle.std.proofs.Common.{◌≡◌, ◌∙◌, ℕ, ◌+◌, ◌^◌, ◌<◌, Bool, true, false, cond, map, Option, Some, None, refl, sym, ap, arith}
+-- What a conflict does is the rules'.
+use Rattle.std.proofs.Common.{◌≡◌, ◌∙◌, ℕ, ◌+◌, ◌^◌, ◌<◌, Bool, true, false, if◌then◌else◌, List, Option, Some, None, refl, sym, ap, arith}
 use Rattle.std.specs.Prelude.{nat_le}
 use Rattle.std.proofs.lemmas.Bool.Decides.{nat_tests}
+use Rattle.seata_types.specs.declared.acts.Act.TheVariants as act
 use Rattle.seata_types.specs.declared.errors.Why.{Why}
 use Rattle.seata_types.specs.declared.errors.Why.TheVariants as why
 use Rattle.seata_types.specs.declared.ids.Ticket.{Ticket}
 use Rattle.seata_types.specs.declared.ids.Xid.{Xid}
-use Rattle.local_txn.specs.OpenTickets.{Owner, OfCall, OfLocal, Open, without, counting}
-use Rattle.local_txn.specs.Answers.{Tickets, raised, with_opens}
-use Rattle.at_branch.specs.Conflicts.{Conflict, Counts, GivesUp, why_last, met_with, met, met_by, conflict, tickets_with, conflicts_by, conflicts_met}
+use Rattle.seata_types.specs.declared.messages.Registered.TheVariants as registered
+use Rattle.seata_types.specs.declared.rows.RowKey.{RowKey}
+use Rattle.local_txn.specs.OpenTickets.{Owner, OfCall, OfLocal, Open, open_at}
+use Rattle.local_txn.specs.Answers.{raised}
+use Rattle.history_rules.specs.Own.{still}
+use Rattle.history_rules.specs.ResourceMemory.{Memory, Setup, next_ticket}
+use Rattle.history_rules.specs.ResourceRules as rules
+use Rattle.history_rules.specs.ResourceRules.{resource_answer}
+use Rattle.resource_rules.specs.Grants.{why_last}
+use Rattle.resource_rules.specs.Owned.{call_by, of_call}
+use Rattle.at_branch.specs.Conflicts.{Conflict, ConflictsAs, Counts, GivesUp, Ignores, conflict_by, conflict_of, refusing}
+use Rattle.at_branch.specs.declared.answers.Conflicted.{Conflicted}
+use Rattle.at_branch.specs.declared.answers.Conflicted.TheVariants as conflicted
 
--- ---- the tests
+-- there is nothing, where there can't be something
+pub none_found : {A : Type 0} (o : Option A) → ((a : A) → o ≡ Some a → ⊥) → o ≡ None
+none_found None n = refl
+none_found (Some a) n = absurd (n a refl)
 
 -- the count of a ticket that waits on is exact
-raised_is : (tries : ℕ) (o : Open) → tries < 2 ^ 32 → o.conflicts + 1 < tries → raised o ≡ o.conflicts + 1
-raised_is tries o small lt = omega (arith, small, lt)
+exact_by : (tries n : ℕ) (b : Bool) → tries < 2 ^ 32 → nat_le tries (n + 1) ≡ b → (if b then Some why.Tries else None) ≡ None → n + 1 < 2 ^ 32
+exact_by tries n true small is e = absurd cc
+exact_by tries n false small is e = let left : n + 1 < tries = grind (arith, nat_tests) in omega (arith, small, left)
 
-waits_by : (tries n : ℕ) (b : Bool) → nat_le tries (n + 1) ≡ b → cond b (Some why.Tries) None ≡ None → n + 1 < tries
-waits_by tries n true is e = absurd cc
-waits_by tries n false is e = grind (arith, nat_tests)
+exact : (tries : ℕ) (holder : Xid) (rolling : Bool) (o : Open) → tries < 2 ^ 32 → why_last tries o.conflicts holder rolling ≡ None → raised o ≡ o.conflicts + 1
+exact tries holder true o small e = absurd cc
+exact tries holder false o small e = let fits = exact_by tries o.conflicts (nat_le tries (o.conflicts + 1)) small refl e in omega (arith, fits)
 
--- a ticket that waits on has tries left
-waits : (tries : ℕ) (holder : Xid) (rolling : Bool) (n : ℕ) → why_last tries holder rolling n ≡ None → n + 1 < tries
-waits tries holder true n e = absurd cc
-waits tries holder false n e = waits_by tries n (nat_le tries (n + 1)) refl e
+-- given up where there is a cause, else counted
+abbrev met_with : Open → Option Why → Conflict
+met_with o (Some cause) = GivesUp o cause
+met_with o None = Counts (o.conflicts + 1)
 
--- ---- the open ticket of a call
+module _ (s : Setup) (m : Memory) (holder : Xid) where
+  abbrev act_of_rules : Open → (manager x call : ℕ) → Bool → Conflict
+  act_of_rules o manager x call rolling = conflict_by (Some o) (rules.conflict_answer s m.left.records m.opens (next_ticket m) o manager x call holder rolling).act
 
--- the open ticket that met them, and what one more does
-pub record Meets (tries : ℕ) (holder : Xid) (rolling : Bool) (found : Option Open) (n : ℕ) (cause : Option Why) : Type 0 where
-  pub it : Open
-  pub is : found ≡ Some it
-  pub count : it.conflicts ≡ n
-  pub met_is : conflict tries holder rolling found ≡ met_with it cause
+  met_is : (o : Open) (manager x call : ℕ) (rolling : Bool) → met_with o (why_last s.tries o.conflicts holder rolling) ≡ act_of_rules o manager x call rolling
+  met_is o manager x call true = refl
+  met_is o manager x call false = by (nat_le s.tries (o.conflicts + 1))
+    where
+      by : (last : Bool) → met_with o (if last then Some why.Tries else None)
+          ≡ conflict_by (Some o) (if last then rules.drops s m.left.records m.opens (next_ticket m) o manager x call why.Tries else still (act.Conflicted o.ticket (o.conflicts + 1))).act
+      by true = refl
+      by false = refl
 
--- a ticket that met conflicts is of a call
-of_call_by : (tries : ℕ) (holder : Xid) (rolling : Bool) (o : Open) (owner : Owner) (n : ℕ) → conflicts_by owner o.conflicts ≡ Some n →
-    (met_by tries holder rolling o owner ≡ met tries holder rolling o) × (o.conflicts ≡ n)
-of_call_by tries holder rolling o (OfCall m x c w) n e = (refl, cc)
-of_call_by tries holder rolling o (OfLocal k) n e = absurd cc
+  -- of the open ticket of a call, and where there is none
+  abbrev by_rules : Option Open → RowKey → Bool → Conflict
+  by_rules found key rolling = conflict_by found (rules.on_registered s m.left.records m.opens (next_ticket m) found (registered.Conflict key holder rolling)).act
 
-pub meets : (tries : ℕ) (holder : Xid) (rolling : Bool) (found : Option Open) (n : ℕ) (cause : Option Why) → conflicts_met found ≡ Some n → why_last tries holder rolling n ≡ cause → Meets tries holder rolling found n cause
-meets tries holder rolling None n cause e f = absurd cc
-meets tries holder rolling (Some o) n cause e f =
-    let both = of_call_by tries holder rolling o o.owner n e in
-    record { it = o; is = refl; count = both.1; met_is = both.0 ∙ ap (λ (k : ℕ). met_with o (why_last tries holder rolling k)) both.1 ∙ ap (met_with o) f }
+  owned_met : (o : Open) (w : Owner) → call_by o w ≡ Some o → (key : RowKey) (rolling : Bool) → met_with o (why_last s.tries o.conflicts holder rolling)
+      ≡ conflict_by (Some o) (rules.ticket_answer s m.left.records m.opens (next_ticket m) o w (registered.Conflict key holder rolling)).act
+  owned_met o (OfCall manager x call w) is key rolling = met_is o manager x call rolling
+  owned_met o (OfLocal k) is key rolling = absurd cc
 
--- ---- each answer, and the open tickets after it
+  owned_ignored : (o : Open) (w : Owner) → call_by o w ≡ None → (key : RowKey) (rolling : Bool) → Ignores
+      ≡ conflict_by (Some o) (rules.ticket_answer s m.left.records m.opens (next_ticket m) o w (registered.Conflict key holder rolling)).act
+  owned_ignored o (OfCall manager x call w) is key rolling = absurd cc
+  owned_ignored o (OfLocal k) is key rolling = refl
 
-module _ (tries : ℕ) (holder : Xid) (rolling : Bool) (found : Option Open) (t : Ticket) (old : Tickets) where
-  module _ (n : ℕ) (met_n : conflicts_met found ≡ Some n) where
-    pub gave_up : (cause : Why) (answer : Conflict) → why_last tries holder rolling n ≡ Some cause → ((o : Open) → found ≡ Some o → answer ≡ GivesUp o cause) → answer ≡ conflict tries holder rolling found
-    gave_up cause answer last is = let m = meets tries holder rolling found n (Some cause) met_n last in is m.it m.is ∙ sym m.met_is
+  ignored : (found : Option Open) → of_call found ≡ None → (key : RowKey) (rolling : Bool) → Ignores ≡ by_rules found key rolling
+  ignored None is key rolling = refl
+  ignored (Some o) is key rolling = owned_ignored o o.owner is key rolling
 
-    pub gave_up_tickets : (cause : Why) (new : Tickets) → why_last tries holder rolling n ≡ Some cause → new ≡ with_opens old (without old.opens t) → new ≡ tickets_with t (conflict tries holder rolling found) old
-    gave_up_tickets cause new last is =
-        let m = meets tries holder rolling found n (Some cause) met_n last in
-        is ∙ ap (λ (k : Conflict). tickets_with t k old) (sym m.met_is)
+  at_ticket : (opens : List Open) (t : Ticket) (found : Option Open) (xid : Xid) (key : RowKey) (rolling : Bool) → m.opens ≡ opens → open_at opens t ≡ found
+      → by_rules found key rolling ≡ conflict_by (open_at opens t) (resource_answer s m (refusing t xid key holder rolling)).act
+  at_ticket opens t found xid key rolling same is =
+      sym (ap (λ (f : Option Open). by_rules f key rolling) is)
+      ∙ ap (λ (os : List Open). conflict_by (open_at opens t) (rules.on_registered s m.left.records m.opens (next_ticket m) (open_at os t) (registered.Conflict key holder rolling)).act) (sym same)
 
-    module _ (small : tries < 2 ^ 32) (more : why_last tries holder rolling n ≡ None) where
-      exact : (o : Open) → o.conflicts ≡ n → raised o ≡ o.conflicts + 1
-      exact o count = let left = waits tries holder rolling n more in raised_is tries o small (omega (arith, left, count))
+-- ---- each answer
 
-      pub counted : (answer : Conflict) → ((o : Open) → found ≡ Some o → answer ≡ Counts (raised o)) → answer ≡ conflict tries holder rolling found
-      counted answer is =
-          let m = meets tries holder rolling found n None met_n more in
-          is m.it m.is ∙ ap (λ (k : ℕ). Counts k) (exact m.it m.count) ∙ sym m.met_is
+module _ (tries : ℕ) (holder : Xid) (rolling : Bool) (opens : List Open) (t : Ticket) where
+  pub not_open : of_call (open_at opens t) ≡ None → ConflictsAs tries holder rolling opens t conflicted.NotOpen
+  not_open none = λ s m xid key of same.
+      ignored s m holder (open_at opens t) none key rolling ∙ at_ticket s m holder opens t (open_at opens t) xid key rolling same refl
 
-      pub counted_tickets : (new : Tickets) → ((o : Open) → found ≡ Some o → new ≡ with_opens old (map (counting t (raised o)) old.opens)) → new ≡ tickets_with t (conflict tries holder rolling found) old
-      counted_tickets new is =
-          let m = meets tries holder rolling found n None met_n more in
-          is m.it m.is ∙ ap (λ (k : ℕ). with_opens old (map (counting t k) old.opens)) (exact m.it m.count) ∙ ap (λ (k : Conflict). tickets_with t k old) (sym m.met_is)
+  module _ (o : Open) (here : open_at opens t ≡ Some o) (called : call_by o o.owner ≡ Some o) where
+    met : (result : Conflicted) (cause : Option Why) → why_last tries o.conflicts holder rolling ≡ cause → conflict_of result ≡ met_with o cause → ConflictsAs tries holder rolling opens t result
+    met result cause is tells = λ s m xid key of same.
+        tells ∙ ap (met_with o) (sym is) ∙ ap (λ (n : ℕ). met_with o (why_last n o.conflicts holder rolling)) (sym of)
+        ∙ owned_met s m holder o o.owner called key rolling ∙ at_ticket s m holder opens t (Some o) xid key rolling same here
+
+    pub gave_up : (result : Conflicted) (cause : Why) → why_last tries o.conflicts holder rolling ≡ Some cause → conflict_of result ≡ GivesUp o cause → ConflictsAs tries holder rolling opens t result
+    gave_up result cause is tells = met result (Some cause) is tells
+
+    pub waits : (result : Conflicted) → tries < 2 ^ 32 → why_last tries o.conflicts holder rolling ≡ None → conflict_of result ≡ Counts (raised o) → ConflictsAs tries holder rolling opens t result
+    waits result small is tells = met result None is (tells ∙ ap Counts (exact tries holder rolling o small is))
+
+-- the open ticket of a call
+pub called_at : (o : Open) (found : Option Open) → Some o ≡ of_call found → (found ≡ Some o) × (call_by o o.owner ≡ Some o)
+called_at o None e = absurd cc
+called_at o (Some p) e = by o p p.owner refl e
+  where
+    by : (q r : Open) (w : Owner) → r.owner ≡ w → Some q ≡ call_by r w → (Some r ≡ Some q) × (call_by q q.owner ≡ Some q)
+    by q r (OfCall manager x call w) is e =
+        let same : r ≡ q = cc in
+        (ap Some same, ap (λ (v : Owner). call_by q v) (ap (λ (z : Open). z.owner) (sym same) ∙ is))
+    by q r (OfLocal k) is e = absurd cc

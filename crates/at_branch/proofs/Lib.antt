@@ -1,3 +1,2 @@
-pub mod EntryLaws
+pub mod GrantLaws
 pub mod ConflictLaws
-pub mod StepLaws

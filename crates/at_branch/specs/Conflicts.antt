@@ -1,11 +1,20 @@
--- What a conflict over the global lock does to an open ticket of a call.
-use Rattle.std.specs.Prelude.{ℕ, ◌+◌, nat_le, Bool, true, false, if◌then◌else◌, map, Option, Some, None}
+-- What a conflict over the global lock does to an open ticket of a call, by the act that a resource answers by its rules.
+use Rattle.std.specs.Prelude.{◌≡◌, ℕ, Bool, List, map, Option, Some}
+use Rattle.seata_types.specs.declared.acts.Act.{Act}
+use Rattle.seata_types.specs.declared.acts.Act.TheVariants as act
 use Rattle.seata_types.specs.declared.errors.Why.{Why}
-use Rattle.seata_types.specs.declared.errors.Why.TheVariants as why
+use Rattle.seata_types.specs.declared.ids.Place.TheVariants as place
 use Rattle.seata_types.specs.declared.ids.Ticket.{Ticket}
 use Rattle.seata_types.specs.declared.ids.Xid.{Xid}
-use Rattle.local_txn.specs.OpenTickets.{Owner, OfCall, OfLocal, Open, without, counting}
+use Rattle.seata_types.specs.declared.messages.Input.{Input}
+use Rattle.seata_types.specs.declared.messages.Input.TheVariants as input
+use Rattle.seata_types.specs.declared.messages.Message.TheVariants as message
+use Rattle.seata_types.specs.declared.messages.Registered.TheVariants as registered
+use Rattle.seata_types.specs.declared.rows.RowKey.{RowKey}
+use Rattle.local_txn.specs.OpenTickets.{Open, without, counting, open_at}
 use Rattle.local_txn.specs.Answers.{Tickets, open_of, with_opens}
+use Rattle.history_rules.specs.ResourceMemory.{Setup, Memory}
+use Rattle.history_rules.specs.ResourceRules.{resource_answer}
 use Rattle.at_branch.specs.declared.answers.Conflicted.{Conflicted}
 use Rattle.at_branch.specs.declared.answers.Conflicted.TheVariants as conflicted
 
@@ -15,35 +24,15 @@ pub data Conflict : Type 0 where
   Counts : ℕ → Conflict
   GivesUp : Open → Why → Conflict
 
--- why a ticket that met so many gives up at one more: the holder rolls back, or it was the last try
-abbrev pub why_last : (tries : ℕ) → Xid → (rolling : Bool) → (conflicts : ℕ) → Option Why
-why_last tries holder true n = Some (why.Rolling holder)
-why_last tries holder false n = if nat_le tries (n + 1) then Some why.Tries else None
+-- the coordinator refuses a ticket the row of this key
+abbrev pub refusing : Ticket → (xid : Xid) → RowKey → (holder : Xid) → (rolling : Bool) → Input
+refusing t xid key holder rolling = input.Message place.Tc (message.RegisterAnswer t xid (registered.Conflict key holder rolling))
 
--- it gives up where there is a cause, and else it counts one conflict more
-abbrev pub met_with : Open → Option Why → Conflict
-met_with o (Some cause) = GivesUp o cause
-met_with o None = Counts (o.conflicts + 1)
-
--- one more conflict of a ticket
-abbrev pub met : (tries : ℕ) → Xid → (rolling : Bool) → Open → Conflict
-met tries holder rolling o = met_with o (why_last tries holder rolling o.conflicts)
-
--- a guarded local transaction meets none
-abbrev pub met_by : (tries : ℕ) → Xid → (rolling : Bool) → Open → Owner → Conflict
-met_by tries holder rolling o (OfCall m x c w) = met tries holder rolling o
-met_by tries holder rolling o (OfLocal k) = Ignores
-
--- one for a ticket that isn't open is ignored
-abbrev pub conflict : (tries : ℕ) → Xid → (rolling : Bool) → Option Open → Conflict
-conflict tries holder rolling None = Ignores
-conflict tries holder rolling (Some o) = met_by tries holder rolling o o.owner
-
--- the open tickets after it
-abbrev pub tickets_with : Ticket → Conflict → Tickets → Tickets
-tickets_with t Ignores old = old
-tickets_with t (Counts n) old = with_opens old (map (counting t n) old.opens)
-tickets_with t (GivesUp o cause) old = with_opens old (without old.opens t)
+-- a conflict: counted, given up where the ticket is dropped, else ignored
+abbrev pub conflict_by : Option Open → Act → Conflict
+conflict_by (Some o) (act.Conflicted t n) = Counts n
+conflict_by (Some o) (act.Dropped xid call t cause) = GivesUp o cause
+conflict_by _ _ = Ignores
 
 -- the code's answer in these words
 abbrev pub conflict_of : Conflicted → Conflict
@@ -51,13 +40,14 @@ conflict_of (conflicted.Waits n) = Counts n
 conflict_of (conflicted.GaveUp txn cause) = GivesUp (open_of txn) cause
 conflict_of conflicted.NotOpen = Ignores
 
--- ---- for the proofs alone
+-- a conflict of a ticket, for any row, is answered as by a resource with so many tries that has these open
+abbrev pub ConflictsAs : (tries : ℕ) → (holder : Xid) → (rolling : Bool) → List Open → Ticket → Conflicted → Type 0
+ConflictsAs tries holder rolling opens t result =
+    (s : Setup) (m : Memory) (xid : Xid) (key : RowKey) → s.tries ≡ tries → m.opens ≡ opens
+    → conflict_of result ≡ conflict_by (open_at opens t) (resource_answer s m (refusing t xid key holder rolling)).act
 
--- how many conflicts a ticket of a call met
-abbrev pub conflicts_by : Owner → ℕ → Option ℕ
-conflicts_by (OfCall m x c w) n = Some n
-conflicts_by (OfLocal k) n = None
-
-abbrev pub conflicts_met : Option Open → Option ℕ
-conflicts_met None = None
-conflicts_met (Some o) = conflicts_by o.owner o.conflicts
+-- the open tickets after it
+abbrev pub tickets_with : Ticket → Conflict → Tickets → Tickets
+tickets_with t Ignores old = old
+tickets_with t (Counts n) old = with_opens old (map (counting t n) old.opens)
+tickets_with t (GivesUp o cause) old = with_opens old (without old.opens t)

@@ -1,29 +1,64 @@
--- What a grant of the global lock does to an AT branch, by the records and the open tickets.
-use Rattle.std.specs.Prelude.{◌≡◌, Bool, true, false, List, Option, Some, None, Result, Ok, Err}
+-- What a call opens, and what a grant of the global lock does to it: what this asks of a resource, and what the act that it answers by
+-- its rules tells.
+use Rattle.std.specs.Prelude.{◌≡◌, ℕ, Bool, true, false, List, [], ◌∷◌, Option, Some, None, Result, Ok, Err}
+use Rattle.disk_model.specs.Disk.{DiskState}
+use Rattle.seata_types.specs.declared.acts.Act.{Act}
+use Rattle.seata_types.specs.declared.acts.Act.TheVariants as act
 use Rattle.seata_types.specs.declared.errors.StoreError.{StoreError}
 use Rattle.seata_types.specs.declared.ids.Leg.{Leg}
+use Rattle.seata_types.specs.declared.ids.Place.TheVariants as place
 use Rattle.seata_types.specs.declared.ids.Ticket.{Ticket}
+use Rattle.seata_types.specs.declared.ids.Xid.{Xid}
+use Rattle.seata_types.specs.declared.messages.Input.{Input}
+use Rattle.seata_types.specs.declared.messages.Input.TheVariants as input
+use Rattle.seata_types.specs.declared.messages.Message.TheVariants as message
+use Rattle.seata_types.specs.declared.messages.Registered.TheVariants as registered
+use Rattle.seata_types.specs.declared.statements.Stmt.{Stmt}
 use Rattle.seata_types.specs.declared.statements.Work.TheVariants as work
+use Rattle.local_tables.specs.Calls.{effect}
 use Rattle.local_tables.specs.Rows.{Database}
-use Rattle.durable_records.specs.declared.resources.ResourceRecord.{ResourceRecord}
-use Rattle.durable_records.specs.UndoRecords.{Undo, undo_of, is_marked}
-use Rattle.local_txn.specs.OpenTickets.{Owner, OfCall, OfLocal, Open, without}
-use Rattle.local_txn.specs.Answers.{Tickets, with_opens}
+use Rattle.local_txn.specs.OpenTickets.{Owner, OfCall, OfLocal, Open, open_at, without}
+use Rattle.local_txn.specs.Answers.{Executes, Tickets, owner_by, with_opens}
+use Rattle.local_txn.specs.declared.transactions.ExecError.{ExecError}
 use Rattle.history_rules.specs.ResourceMemory.{committed_of}
-use Rattle.resource_store.specs.Answers.{Answer, only, making, TakesRows}
+use Rattle.resource_store.specs.declared.store.Store.{Store}
+use Rattle.resource_store.specs.Answers.{TakesRows}
+use Rattle.rule_calls.specs.Calls.{GivesAs, bare}
 use Rattle.at_branch.specs.declared.answers.Granted.{Granted}
 use Rattle.at_branch.specs.declared.answers.Granted.TheVariants as grant
 
--- an AT grant: ignored where the branch is committed, refused where it is marked, else committed
-abbrev pub at_granted : Leg → Open → Option Undo → (marked : Bool) → Answer Granted
-at_granted leg o (Some u) marked = only grant.NotOpen
-at_granted leg o None true = only grant.Marker
-at_granted leg o None false = making (committed_of leg.xid leg.branch o) grant.Committed
+-- a call's statements open its ticket on these tables, or tell why not
+abbrev pub OpensCall : Database → (manager xid call : ℕ) → List Stmt → Result Ticket ExecError → Tickets → Tickets → Type 0
+OpensCall db m x c stmts result old new = Executes old (owner_by x m c (work.At stmts)) (effect db stmts) result new
 
--- a grant for a ticket that isn't open is ignored
-abbrev pub granted : Leg → Option Open → Database → List ResourceRecord → Answer Granted
-granted leg None db rs = only grant.NotOpen
-granted leg (Some o) db rs = at_granted leg o (undo_of rs leg.xid.0 leg.branch.0) (is_marked rs leg.xid.0 leg.branch.0)
+-- ---- a grant
+
+-- the coordinator grants a ticket this branch
+abbrev pub granting : Ticket → Leg → Input
+granting t leg = input.Message place.Tc (message.RegisterAnswer t leg.xid (registered.Granted leg.branch))
+
+-- a ticket as that of a call of this transaction, which the rules take the branch to be of
+abbrev pub owner_in : Xid → Owner → Owner
+owner_in x (OfCall m y c w) = OfCall m x.0 c w
+owner_in x (OfLocal k) = OfLocal k
+
+abbrev pub ticket_in : Xid → Open → Open
+ticket_in x o = record o { owner = owner_in x o.owner }
+
+-- where it is open, and no other one is
+abbrev pub opens_in : Xid → Option Open → List Open
+opens_in x None = []
+opens_in x (Some o) = ticket_in x o ∷ []
+
+-- a grant: committed where its act is durable, kept from it by the marker where the ticket is dropped, else ignored
+abbrev pub granted_by : Act → Granted
+granted_by (act.Durable done) = grant.Committed
+granted_by (act.Dropped xid call t cause) = grant.Marker
+granted_by _ = grant.NotOpen
+
+-- of a branch to one of these open tickets
+abbrev pub Grants : {D : Type 0} → (D → DiskState) → List Open → Ticket → Leg → Result Granted StoreError → Store D → Store D → Type 0
+Grants state opens t leg result old new = GivesAs state granted_by bare (granting t leg) (opens_in leg.xid (open_at opens t)) result old new
 
 -- the ticket is open no longer where it committed, or a marker kept it from that
 abbrev pub tickets_after : Ticket → Result Granted StoreError → Tickets → Tickets

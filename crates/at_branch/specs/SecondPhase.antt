@@ -1,14 +1,20 @@
 -- The second phase of an AT branch: what its commit and its rollback ask of a resource, and what the act that it answers by its rules
 -- tells.
+use Rattle.std.specs.Prelude.{List, [], Result}
+use Rattle.disk_model.specs.Disk.{DiskState}
 use Rattle.seata_types.specs.declared.acts.Act.{Act}
 use Rattle.seata_types.specs.declared.acts.Act.TheVariants as act
 use Rattle.seata_types.specs.declared.acts.Durable.TheVariants as durable
+use Rattle.seata_types.specs.declared.errors.StoreError.{StoreError}
 use Rattle.seata_types.specs.declared.ids.Leg.{Leg}
 use Rattle.seata_types.specs.declared.ids.Place.TheVariants as place
 use Rattle.seata_types.specs.declared.messages.Input.{Input}
 use Rattle.seata_types.specs.declared.messages.Input.TheVariants as input
 use Rattle.seata_types.specs.declared.messages.Message.TheVariants as message
 use Rattle.seata_types.specs.declared.statuses.BranchKind.TheVariants as kind
+use Rattle.local_txn.specs.OpenTickets.{Open}
+use Rattle.resource_store.specs.declared.store.Store.{Store}
+use Rattle.rule_calls.specs.Calls.{GivesAs, bare}
 use Rattle.at_branch.specs.declared.answers.Committed.{Committed}
 use Rattle.at_branch.specs.declared.answers.Committed.TheVariants as commits
 use Rattle.at_branch.specs.declared.answers.Rolled.{Rolled}
@@ -33,3 +39,12 @@ rolled_by (act.Durable _) = rolled.Marked
 rolled_by (act.Blocked xid branch key by) = rolled.Busy key by
 rolled_by (act.Dirty xid branch key after present) = rolled.Dirty key after present
 rolled_by _ = rolled.Again
+
+-- ---- what is given, by the records that are kept
+
+abbrev pub Commits : {D : Type 0} → (D → DiskState) → Leg → Result Committed StoreError → Store D → Store D → Type 0
+Commits state leg result old new = GivesAs state committed_by bare (committing leg) [] result old new
+
+-- while these tickets are open
+abbrev pub RollsBack : {D : Type 0} → (D → DiskState) → Leg → List Open → Result Rolled StoreError → Store D → Store D → Type 0
+RollsBack state leg opens result old new = GivesAs state rolled_by bare (rolling leg) opens result old new

@@ -1,23 +1,22 @@
 //! The first phase of AT branches.
 ghost use Rattle.std.specs.Prelude.{◌≡◌, ◌<◌, ◌≤◌, ◌^◌, ◌-◌, false, map, length, Some, Ok, IfSome};
 ghost use Rattle.seata_types.specs.declared.limits.TheConstants.{FIELD_ITEMS};
-ghost use Rattle.seata_types.specs.declared.statements.Work.TheVariants as work;
-ghost use Rattle.local_tables.specs.Calls.{effect};
 ghost use Rattle.local_txn.specs.OpenTickets.{Open, open_at, without, counting};
-ghost use Rattle.local_txn.specs.Answers.{open_of, owner_by, raised, with_opens, Executes};
+ghost use Rattle.local_txn.specs.Answers.{open_of, raised, with_opens};
+ghost use Rattle.resource_rules.specs.Grants as looked;
 ghost use Rattle.resource_store.specs.Keeping.{known, is_down};
-ghost use Rattle.resource_store.specs.Answers.{Gives, GivesBy, Leaves};
-ghost use Rattle.at_branch.specs.Grants.{granted, tickets_after, MayCommit};
-ghost use Rattle.at_branch.specs.UndoEntries.{standing_of, grant_at};
-ghost use Rattle.at_branch.specs.Conflicts.{Counts, GivesUp, why_last, conflict, conflicts_met, conflict_of, tickets_with};
+ghost use Rattle.resource_store.specs.Answers.{Gives, Leaves};
+ghost use Rattle.rule_calls.specs.Calls.{told_of};
+ghost use Rattle.at_branch.specs.Grants.{granted_by, tickets_after, Grants, MayCommit, OpensCall};
+ghost use Rattle.at_branch.specs.Conflicts.{Counts, GivesUp, ConflictsAs, conflict_of, tickets_with};
 
 use crate::answers::{Conflicted, Granted};
-use crate::standing::Standing;
-use crate::undo_entries::standing;
 use disk_model::Disk;
 use local_txn::{ExecError, LocalTxns, OpenTxn};
+use resource_rules::{call_at, granted, why_last};
 use resource_store::Store;
-use seata_types::{Leg, List, Shared, Stmt, StoreError, Ticket, Why, Xid};
+use rule_calls::carry_out;
+use seata_types::{Act, Leg, List, NoMemory, Shared, Stmt, StoreError, Ticket, Why, Xid};
 use std::alloc::Global;
 
 /// Opens the local transaction of an AT call, on the tables that the store knows: the ticket, or the first statement without a
@@ -33,7 +32,7 @@ pub fn phase_one<D: Disk>(
 ) -> Result<Ticket, ExecError>
     requires statements { length stmts.now ≤ FIELD_ITEMS }
     requires tickets { txns.old.opened < 2 ^ 32 - 1 }
-    ensures { Executes txns.old (owner_by xid.0 manager call (work.At stmts.now)) (effect (known store.now).tables stmts.now) result txns.new }
+    ensures { OpensCall (known store.now).tables manager xid.0 call stmts.now result txns.old txns.new }
 {
     txns.execute(alloc, xid, call, manager, stmts, store.tables())
 }
@@ -49,7 +48,7 @@ pub fn on_grant<D: Disk>(
 ) -> Result<Granted, StoreError>
     requires up { is_down store.old ≡ false }
     requires may { IfSome (open_at txns.old.opens ticket) (MayCommit (known store.old).tables leg) }
-    ensures answer { GivesBy D.state (granted leg (open_at txns.old.opens ticket)) result store.old store.new }
+    ensures answer { Grants D.state txns.old.opens ticket leg result store.old store.new }
     ensures leaves { Leaves D.state result store.old store.new }
     ensures tickets { txns.new ≡ tickets_after ticket result txns.old }
 {
@@ -65,7 +64,7 @@ pub fn on_grant<D: Disk>(
     }
 }
 
-// Commits a local transaction, where its branch has neither an undo record nor a marker.
+// Commits the local transaction of an open ticket, where its branch has neither an undo record nor a marker.
 fn grant<D: Disk>(
     alloc: Global,
     store: &mut Store<D>,
@@ -74,16 +73,26 @@ fn grant<D: Disk>(
 ) -> Result<Granted, StoreError>
     requires up { is_down store.old ≡ false }
     requires may { MayCommit (known store.old).tables leg (open_of txn.now) }
-    ensures gives { Gives D.state (grant_at leg (open_of txn.now) (standing_of (known store.old) leg)) result store.old store.new }
+    ensures gives { Gives D.state (told_of granted_by (looked.granted (known store.old) txn.now leg txn.now.work)) result store.old store.new }
     ensures leaves { Leaves D.state result store.old store.new }
 {
-    match standing(store, leg) {
-        Standing::Record => Ok(Granted::NotOpen),
-        Standing::Marker => Ok(Granted::Marker),
-        Standing::Nothing => match store.commit_at(alloc, leg, txn) {
-            Ok(()) => Ok(Granted::Committed),
+    match granted(alloc, store.memory(), txn, leg) {
+        Ok(answer) => match carry_out(alloc, store, answer) {
+            Ok(act) => Ok(granted_by(&act)),
             Err(error) => Err(error),
         },
+        Err(NoMemory) => Err(StoreError::NoMemory),
+    }
+}
+
+// What the act of a grant tells.
+fn granted_by(act: &Act) -> Granted
+    ensures { result ≡ granted_by act.now }
+{
+    match act {
+        Act::Durable(_) => Granted::Committed,
+        Act::Dropped { .. } => Granted::Marker,
+        _ => Granted::NotOpen,
     }
 }
 
@@ -108,29 +117,16 @@ pub fn on_conflict(
     rolling: bool,
     tries: u32,
 ) -> Conflicted
-    ensures answer { conflict_of result ≡ conflict tries holder rolling (open_at txns.old.opens ticket) }
-    ensures tickets { txns.new ≡ tickets_with ticket (conflict tries holder rolling (open_at txns.old.opens ticket)) txns.old }
+    ensures answer { ConflictsAs tries holder rolling txns.old.opens ticket result }
+    ensures tickets { txns.new ≡ tickets_with ticket (conflict_of result) txns.old }
 {
-    let Some(conflicts) = conflicts_met(txns, ticket) else {
+    let Some(txn) = call_at(txns, ticket) else {
         return Conflicted::NotOpen;
     };
-    match why_last(holder, rolling, conflicts, tries) {
+    match why_last(tries, txn.conflicts, holder, rolling) {
         Some(why) => give_up(txns, ticket, why),
         None => count(txns, ticket),
     }
-}
-
-// Why a ticket that met so many conflicts gives up at one more.
-fn why_last(holder: Xid, rolling: bool, conflicts: u32, tries: u32) -> Option<Why>
-    ensures { result ≡ why_last tries holder rolling conflicts }
-{
-    if rolling {
-        return Some(Why::Rolling { holder });
-    }
-    if conflicts.saturating_add(1) >= tries {
-        return Some(Why::Tries);
-    }
-    None
 }
 
 // Counts a conflict of an open ticket.
@@ -142,17 +138,6 @@ fn count(txns: &mut LocalTxns, ticket: Ticket) -> Conflicted
         Some(count) => Conflicted::Waits(count),
         None => Conflicted::NotOpen,
     }
-}
-
-// How many conflicts an open ticket of a call met.
-fn conflicts_met(txns: &LocalTxns, ticket: Ticket) -> Option<u32>
-    ensures { result ≡ conflicts_met (open_at txns.now.opens ticket) }
-{
-    let txn = txns.find(ticket)?;
-    if txn.xid.0 == 0 {
-        return None;
-    }
-    Some(txn.conflicts)
 }
 
 // The call of an open ticket fails.

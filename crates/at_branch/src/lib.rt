@@ -5,10 +5,7 @@
 
 pub mod answers;
 mod first_phase;
-pub mod laws;
 mod second_phase;
-mod standing;
-mod undo_entries;
 
 pub use answers::{Committed, Conflicted, Granted, Rolled};
 pub use first_phase::{on_conflict, on_grant, phase_one};

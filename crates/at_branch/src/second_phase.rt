@@ -1,9 +1,8 @@
 //! The second phase of AT branches.
-ghost use Rattle.std.specs.Prelude.{◌≡◌, false, []};
+ghost use Rattle.std.specs.Prelude.{◌≡◌, false};
 ghost use Rattle.resource_store.specs.Answers.{Leaves};
 ghost use Rattle.resource_store.specs.Keeping.{is_down};
-ghost use Rattle.rule_calls.specs.Calls.{GivesAs, bare};
-ghost use Rattle.at_branch.specs.SecondPhase.{committed_by, committing, rolled_by, rolling};
+ghost use Rattle.at_branch.specs.SecondPhase.{committed_by, rolled_by, Commits, RollsBack};
 
 use crate::answers::{Committed, Rolled};
 use disk_model::Disk;
@@ -21,7 +20,7 @@ pub fn commit<D: Disk>(
     leg: Leg,
 ) -> Result<Committed, StoreError>
     requires { is_down store.old ≡ false }
-    ensures answer { GivesAs D.state committed_by bare (committing leg) [] result store.old store.new }
+    ensures answer { Commits D.state leg result store.old store.new }
     ensures leaves { Leaves D.state result store.old store.new }
 {
     let answer = at_commit(store.memory(), leg);
@@ -41,7 +40,7 @@ pub fn rollback<D: Disk>(
     leg: Leg,
 ) -> Result<Rolled, StoreError>
     requires { is_down store.old ≡ false }
-    ensures answer { GivesAs D.state rolled_by bare (rolling leg) txns.now.opens result store.old store.new }
+    ensures answer { RollsBack D.state leg txns.now.opens result store.old store.new }
     ensures leaves { Leaves D.state result store.old store.new }
 {
     match at_rollback(alloc, store.memory(), txns, leg) {

@@ -46,12 +46,12 @@ fn behind(records: &[List<u8>], text: &[u8]) -> Option<Mark>
 }
 
 /// Adds one record.
-fn add<D: Disk>(journal: &mut Journal<D>, record: &[u8]) -> Result<(), BaseError>
+fn add<D: Disk>(journal: &mut Journal<D>, body: &[u8]) -> Result<(), BaseError>
     requires up { is_down journal.old ≡ false }
-    requires small { length record.now ≤ BODY_BYTES }
-    ensures { Adds D.state record.now journal.old journal.new result }
+    requires small { length body.now ≤ BODY_BYTES }
+    ensures { Adds D.state body.now journal.old journal.new result }
 {
-    match journal.append(record) {
+    match journal.append(body) {
         Ok(()) => Ok(()),
         Err(AppendError::Full(full)) => Err(BaseError::Full(full)),
         Err(AppendError::Failed) => Err(BaseError::Failed),

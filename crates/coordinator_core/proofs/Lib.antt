@@ -1,10 +1,10 @@
 pub mod Errors
 pub mod Taken
+pub mod Counted
 pub mod Made
 pub mod Within
 pub mod Registered
 pub mod Turning
-pub mod Holds
 pub mod Disks
 pub mod Laid
 pub mod Stays

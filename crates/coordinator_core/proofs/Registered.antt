@@ -40,15 +40,16 @@ module _ (xid : Xid) (resource call : ℕ) (ticket : Ticket) (kind : BranchKind)
       let body = (framable_fits (message.Register xid resource call ticket kind hold hold) 0 (twice f) (omega arith)).body in
       omega (arith, body, length-append (keys_bytes hold) (keys_bytes hold))
 
-  pub record_short : (branch : BranchId) → IsFramable asks → length (record_bytes (log.Granted xid branch resource call ticket kind hold)) ≤ BODY_BYTES
+  -- whatever transaction its record names
+  pub record_short : (of : Xid) (branch : BranchId) → IsFramable asks → length (record_bytes (log.Granted of branch resource call ticket kind hold)) ≤ BODY_BYTES
   unfolding records.fields_bytes ticket_bytes
-  record_short branch f = let rows = rows_short f in omega (arith, rows)
+  record_short of branch f = let rows = rows_short f in omega (arith, rows)
 
   pub keys_fit : IsFramable asks → FitsKeys hold
   keys_fit f = f.layout.4
 
-  pub record_within : (managers resources : ℕ) (branch : BranchId) → ServesMessage managers resources asks → is_within managers resources (log.Granted xid branch resource call ticket kind hold) ≡ true
-  record_within managers resources branch s =
+  pub record_within : (managers resources : ℕ) (of : Xid) (branch : BranchId) → ServesMessage managers resources asks → is_within managers resources (log.Granted of branch resource call ticket kind hold) ≡ true
+  record_within managers resources of branch s =
       let call_counts : is_counted CALLS call ≡ true = counts CALLS call s.framable.limits.1 in
       let rows_few : nat_le (length hold) CALL_ROWS ≡ true = few (length hold) s.framable.limits.2.count in
       and_both (is_counted resources resource) _ s.numbers.0 (and_both (is_counted CALLS call) _ call_counts (and_both (list_all (has_resource resources) hold) _ s.numbers.1 rows_few))

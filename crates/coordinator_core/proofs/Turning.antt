@@ -1,26 +1,21 @@
 -- A turn of the table by the rules' own, where a branch is asked with numbers of its scenario.
 use Rattle.std.proofs.Common.{◌≡◌, ◌∙◌, ℕ, Bool, false, sym, ap, subst}
-use Rattle.std.specs.Prelude.{List, Some, Ok}
+use Rattle.std.specs.Prelude.{Ok}
 use Rattle.disk_model.specs.Disk.{DiskState}
 use Rattle.seata_types.specs.declared.acts.Act.TheVariants as act
-use Rattle.seata_types.specs.declared.ids.Place.{Place}
-use Rattle.seata_types.specs.declared.ids.Xid.{Xid}
 use Rattle.seata_types.specs.declared.messages.Input.{Input}
 use Rattle.seata_types.specs.declared.messages.Input.TheVariants as input
 use Rattle.seata_types.specs.declared.messages.Step.{Step}
-use Rattle.seata_types.specs.declared.rows.RowKey.{RowKey}
 use Rattle.history_rules.specs.Own.{still}
-use Rattle.session_log.specs.declared.sessions.RegisterPlace.{RegisterPlace}
 use Rattle.session_log.specs.declared.sessions.Snapshot.{Snapshot}
 use Rattle.session_store.specs.Keeping.{managers_of, resources_of}
 use Rattle.coordinator_rules.specs.Answers as rules
 use Rattle.coordinator_rules.specs.Answers.{asks_nodes}
 use Rattle.coordinator_rules.specs.Knowledge.{knows, waits}
-use Rattle.coordinator_rules.specs.Registering.{GoesByRows, IsAnsweredFirst, registers}
 use Rattle.coordinator_rules.specs.declared.answers.Answer.{Answer}
 use Rattle.coordinator_core.specs.declared.table.Table.{Table}
 use Rattle.coordinator_core.specs.Answers.{Answers, IsWithin}
-use Rattle.coordinator_core.specs.Knowledge.{knowledge, memory, times_of}
+use Rattle.coordinator_core.specs.Knowledge.{knowledge, memory}
 use Rattle.coordinator_core.proofs.Taken.{never_taken}
 use Rattle.coordinator_core.proofs.Within.{asks_within}
 
@@ -28,15 +23,6 @@ module _ {D : Type 0} (t : Table D) where
   -- what is said of what is known is said of the table's
   pub input_ruled : (given : Input) (s : Snapshot) (now : ℕ) (a : Answer) → s ≡ memory t → ((retry : ℕ) → rules.Answers (knows (waits retry t.forget) s t.moments) given now a) → rules.Answers (knowledge t) given now a
   input_ruled given s now a same is = subst (λ (m : Snapshot). rules.Answers (knows (waits t.retry t.forget) m t.moments) given now a) same (is t.retry)
-
-  -- of a registration before its rows are looked at
-  pub first_ruled : (s : Snapshot) (now : ℕ) (from : Place) (xid : Xid) (p : RegisterPlace) (hold check : List RowKey) (a : Answer) → s ≡ memory t → IsAnsweredFirst s xid p now (Some a)
-      → rules.Answers (knowledge t) (input.Message from (registers xid p hold check)) now a
-  first_ruled s now from xid p hold check a same is =
-      subst (λ (m : Snapshot). rules.Answers (knows (times_of t) m t.moments) (input.Message from (registers xid p hold check)) now a) same (is hold check (times_of t) t.moments from)
-
-  pub goes_by_rows : (s : Snapshot) (now : ℕ) (xid : Xid) (p : RegisterPlace) → s ≡ memory t → GoesByRows s xid p now → GoesByRows (memory t) xid p now
-  goes_by_rows s now xid p same g = subst (λ (m : Snapshot). GoesByRows m xid p now) same g
 
   pub asks_here : (a : Answer) (managers resources : ℕ) → managers ≡ managers_of t.sessions → resources ≡ resources_of t.sessions → {b : Bool} → asks_nodes managers resources a.step.sent ≡ b
       → asks_nodes (managers_of t.sessions) (resources_of t.sessions) a.step.sent ≡ b

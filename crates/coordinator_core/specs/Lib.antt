@@ -3,7 +3,6 @@ pub mod Knowledge
 pub mod Tracks
 pub mod Costs
 pub mod Counting
-pub mod Refusing
 pub mod Serving
 pub mod Answers
 pub mod Taking

@@ -1,4 +1,4 @@
--- Records, and a node's errors at them.
+-- A node's errors, and inputs that are no turn.
 use Rattle.std.specs.Prelude.{Bool, true, false}
 use Rattle.seata_types.specs.declared.acts.Act.{Act}
 use Rattle.seata_types.specs.declared.acts.Act.TheVariants as act
@@ -9,15 +9,6 @@ use Rattle.seata_types.specs.declared.errors.StoreError.{StoreError}
 use Rattle.seata_types.specs.declared.errors.StoreError.TheVariants as store_error
 use Rattle.seata_types.specs.declared.messages.Input.{Input}
 use Rattle.seata_types.specs.declared.messages.Input.TheVariants as input
-use Rattle.seata_types.specs.declared.messages.Message.{Message}
-use Rattle.seata_types.specs.declared.messages.Message.TheVariants as message
-use Rattle.durable_records.specs.declared.coordinators.SessionRecord.{SessionRecord}
-use Rattle.durable_records.specs.declared.coordinators.SessionRecord.TheVariants as log
-
--- a record that registers no branch
-abbrev pub IsPlain : SessionRecord → Type 0
-IsPlain (log.Granted xid branch resource call ticket kind hold) = ⊥
-IsPlain _ = Unit {0}
 
 -- the disks failed
 abbrev pub is_failure : StoreError → Bool
@@ -35,15 +26,6 @@ node_error store_error.NoMemory done = error.NoMemory
 abbrev pub error_at : StoreError → Act → NodeError
 error_at cause (act.Durable done) = node_error cause done
 error_at cause _ = error.NoMemory
-
--- an input that registers no branch
-abbrev pub IsPlainMessage : Message → Type 0
-IsPlainMessage (message.Register xid resource call ticket kind hold check) = ⊥
-IsPlainMessage _ = Unit {0}
-
-abbrev pub IsPlainInput : Input → Type 0
-IsPlainInput (input.Message from heard) = IsPlainMessage heard
-IsPlainInput _ = Unit {0}
 
 -- an input that is no turn
 abbrev pub IsNoTurn : Input → Type 0

@@ -6,7 +6,6 @@
 mod asking;
 mod counting;
 pub mod nodes;
-mod registering;
 mod table;
 mod taking;
 

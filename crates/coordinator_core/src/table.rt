@@ -1,9 +1,13 @@
 //! The coordinator's table, and what it answers.
-ghost use Rattle.std.specs.Prelude.{◌≡◌, ◌<◌, true, false};
+ghost use Rattle.std.specs.Prelude.{◌≡◌, ◌≤◌, ◌<◌, ◌^◌, true, false, length};
+ghost use Rattle.seata_types.specs.declared.limits.TheConstants.{BODY_BYTES};
+ghost use Rattle.byte_fields.specs.Layout.{FitsKeys, FitsTicket};
+ghost use Rattle.byte_fields.specs.Parts.{FitsBranch, FitsXid};
 ghost use Rattle.durable_records.specs.SessionOrder.{is_within};
-ghost use Rattle.session_memory.specs.Changes.{may_come};
-ghost use Rattle.session_store.specs.Keeping.{managers_of, resources_of, known, is_down, Makes as MakesRecord};
-ghost use Rattle.coordinator_core.specs.Plain.{IsPlain, is_failure};
+ghost use Rattle.session_log.specs.Records.{record_bytes};
+ghost use Rattle.session_memory.specs.Changes.{may_come, taken_rows};
+ghost use Rattle.session_store.specs.Keeping.{managers_of, resources_of, known, is_down, Makes as MakesRecord, TakesSteps};
+ghost use Rattle.coordinator_core.specs.Plain.{is_failure};
 
 use crate::asking::asks_nodes;
 use coordinator_rules::Moments;
@@ -11,8 +15,8 @@ use disk_model::Disk;
 use durable_records::SessionRecord;
 use lock_table::Steps;
 use node_steps::still;
-use seata_types::{Act, BranchId, Input, Leg, Message, NoMemory, NodeError, Step, StoreError, Xid};
-use session_log::{RegisterPlace, SessionEntry};
+use seata_types::{Act, BranchId, Input, Leg, NoMemory, NodeError, Step, StoreError, Ticket, Xid};
+use session_log::SessionEntry;
 use session_memory::Memory;
 use session_store::Sessions;
 use std::alloc::Global;
@@ -29,17 +33,16 @@ pub struct Table<D> {
 }
 
 impl<D: Disk> Table<D> {
-    ghost use Rattle.std.specs.Prelude.{◌≡◌, ◌<◌, ◌≤◌, ◌+◌, ◌^◌, true, false};
+    ghost use Rattle.std.specs.Prelude.{◌≡◌, ◌≤◌, true, false, Some};
     ghost use Rattle.seata_types.specs.declared.limits.TheConstants.{LATEST_MOMENT};
     ghost use Rattle.seata_types.specs.declared.messages.Input.TheVariants as input;
-    ghost use Rattle.durable_records.specs.SessionOrder.{is_within};
-    ghost use Rattle.session_memory.specs.Changes.{may_come};
-    ghost use Rattle.session_store.specs.Keeping.{managers_of, resources_of, known, is_down};
+    ghost use Rattle.session_store.specs.Keeping.{managers_of, resources_of, is_down};
     ghost use Rattle.coordinator_rules.specs.Costs.{InputCosts, InputPasses};
-    ghost use Rattle.coordinator_core.specs.Plain.{IsNoTurn, IsPlain, IsPlainInput};
+    ghost use Rattle.coordinator_core.specs.Plain.{IsNoTurn};
     ghost use Rattle.coordinator_core.specs.Knowledge.{memory};
     ghost use Rattle.coordinator_core.specs.Answers.{Answers, IsWithin, AddsOn};
     ghost use Rattle.coordinator_core.specs.Serving.{ServesInput};
+    ghost use Rattle.coordinator_core.specs.Taking.{IsMadeOn, TakingCosts};
 
     /// What is known; takes no memory.
     pub(crate) fn memory(&self) -> &Memory
@@ -56,35 +59,41 @@ impl<D: Disk> Table<D> {
     }
 
     /// Makes a record that may come: one durable act. After want of memory, and where it doesn't fit, all is as before.
-    pub(crate) fn make(
+    pub(crate) fn make<L: Ledger>(
         &mut self,
         alloc: Global,
         item: SessionRecord,
         now: u64,
+        steps: &mut Steps<L>,
     ) -> Result<(), StoreError>
         requires up { is_down self.old.sessions ≡ false }
-        requires plain { IsPlain item }
-        requires within { is_within (managers_of self.old.sessions) (resources_of self.old.sessions) item ≡ true }
-        requires allowed { may_come (memory self.old) item ≡ true }
-        ensures { AddsOn D.state self.old self.new item now result }
+        requires made { IsMadeOn self.old item }
+        ensures added { AddsOn D.state self.old self.new item now result }
+        ensures cost { TakingCosts (Some item) self.old steps.old steps.new }
     {
-        let made = self.add(alloc, &item, now);
+        let made = self.add(alloc, &item, now, steps);
         drop(item);
         made
     }
 
     // Adds a record that may come. What needs memory comes first, and the disks last.
-    fn add(&mut self, alloc: Global, item: &SessionRecord, now: u64) -> Result<(), StoreError>
+    #[tactic(auto, using(crate::proofs::Counted::no_step))]
+    fn add<L: Ledger>(
+        &mut self,
+        alloc: Global,
+        item: &SessionRecord,
+        now: u64,
+        steps: &mut Steps<L>,
+    ) -> Result<(), StoreError>
         requires up { is_down self.old.sessions ≡ false }
-        requires plain { IsPlain item.now }
-        requires within { is_within (managers_of self.old.sessions) (resources_of self.old.sessions) item.now ≡ true }
-        requires allowed { may_come (memory self.old) item.now ≡ true }
-        ensures { AddsOn D.state self.old self.new item.now now result }
+        requires made { IsMadeOn self.old item.now }
+        ensures added { AddsOn D.state self.old self.new item.now now result }
+        ensures cost { TakingCosts (Some item.now) self.old steps.old steps.new }
     {
         if let Err(NoMemory) = self.moments.prepare(item, now) {
             return Err(StoreError::NoMemory);
         }
-        match put(alloc, &mut self.sessions, item) {
+        match put(alloc, &mut self.sessions, item, steps) {
             Ok(()) => {
                 self.moments.settle(item, now, self.retry);
                 Ok(())
@@ -109,39 +118,20 @@ impl<D: Disk> Table<D> {
     ) -> Result<Step, NodeError>
         requires up { is_down self.old.sessions ≡ false }
         requires moment { now ≤ LATEST_MOMENT }
-        requires served { ServesInput (managers_of self.old.sessions) (resources_of self.old.sessions) input.now }
-        ensures answers { Answers D.state (IsWithin self.old) self.old self.new input.now now result }
+        requires served { ServesInput (managers_of self.old.sessions)
+            (resources_of self.old.sessions) input.now }
+        ensures answers { Answers D.state (IsWithin self.old) self.old self.new input.now now
+            result }
         ensures cost { InputCosts input.now (memory self.old) steps.old steps.new }
         ensures passes { InputPasses input.now (memory self.old) passes.old passes.new }
     {
         match input {
-            Input::Turn => self.turn(alloc, now),
-            Input::Message { from, message } => match message {
-                Message::Register {
-                    xid,
-                    resource,
-                    call,
-                    ticket,
-                    kind,
-                    hold,
-                    check,
-                } => {
-                    let place = RegisterPlace {
-                        resource: *resource,
-                        call: *call,
-                        ticket: *ticket,
-                        kind: *kind,
-                    };
-                    let (hold, check) = (hold.as_slice(), check.as_slice());
-                    self.register(alloc, *from, *xid, place, hold, check, now, steps, passes)
-                }
-                _ => self.by_rules(alloc, input, now, steps, passes),
-            },
+            Input::Turn => self.turn(alloc, now, steps),
             _ => self.by_rules(alloc, input, now, steps, passes),
         }
     }
 
-    // Answers an input that is no turn and registers no branch.
+    // Answers an input that is no turn.
     fn by_rules<L: Ledger, P: Ledger>(
         &mut self,
         alloc: Global,
@@ -152,10 +142,11 @@ impl<D: Disk> Table<D> {
     ) -> Result<Step, NodeError>
         requires up { is_down self.old.sessions ≡ false }
         requires moment { now ≤ LATEST_MOMENT }
-        requires served { ServesInput (managers_of self.old.sessions) (resources_of self.old.sessions) input.now }
+        requires served { ServesInput (managers_of self.old.sessions)
+            (resources_of self.old.sessions) input.now }
         requires message { IsNoTurn input.now }
-        requires plain { IsPlainInput input.now }
-        ensures answers { Answers D.state (IsWithin self.old) self.old self.new input.now now result }
+        ensures answers { Answers D.state (IsWithin self.old) self.old self.new input.now now
+            result }
         ensures cost { InputCosts input.now (memory self.old) steps.old steps.new }
         ensures passes { InputPasses input.now (memory self.old) passes.old passes.new }
     {
@@ -171,13 +162,18 @@ impl<D: Disk> Table<D> {
             steps,
             passes,
         ) {
-            Ok(answer) => self.take(alloc, answer, now),
+            Ok(answer) => self.take(alloc, answer, now, steps),
             Err(NoMemory) => Err(NodeError::NoMemory),
         }
     }
 
     // Takes a turn. A branch is asked where it is one of the scenario.
-    fn turn(&mut self, alloc: Global, now: u64) -> Result<Step, NodeError>
+    fn turn<L: Ledger>(
+        &mut self,
+        alloc: Global,
+        now: u64,
+        steps: &mut Steps<L>,
+    ) -> Result<Step, NodeError>
         requires up { is_down self.old.sessions ≡ false }
         requires moment { now ≤ LATEST_MOMENT }
         ensures { Answers D.state (IsWithin self.old) self.old self.new input.Turn now result }
@@ -186,24 +182,29 @@ impl<D: Disk> Table<D> {
         let answer = coordinator_rules::turn(memory, &self.moments, self.forget, now);
         let machine = self.sessions.machine();
         if asks_nodes(machine.managers, machine.resources, &answer.step.sent) {
-            return self.take(alloc, answer, now);
+            return self.take(alloc, answer, now, steps);
         }
         drop(answer);
         Ok(still(Act::Nothing))
     }
 }
 
-// Puts a record on the disks. A branch is registered by a call of its own.
-fn put<D: Disk>(
+// Puts a record on the disks.
+#[tactic(auto, using(crate::proofs::Counted::no_step))]
+fn put<D: Disk, L: Ledger>(
     alloc: Global,
     sessions: &mut Sessions<D>,
     item: &SessionRecord,
+    steps: &mut Steps<L>,
 ) -> Result<(), StoreError>
     requires up { is_down sessions.old ≡ false }
-    requires plain { IsPlain item.now }
-    requires within { is_within (managers_of sessions.old) (resources_of sessions.old) item.now ≡ true }
+    requires keys { FitsKeys (taken_rows item.now) }
+    requires small { length (record_bytes item.now) ≤ BODY_BYTES }
+    requires within { is_within (managers_of sessions.old) (resources_of sessions.old)
+        item.now ≡ true }
     requires allowed { may_come (known sessions.old) item.now ≡ true }
-    ensures { MakesRecord D.state item.now result sessions.old sessions.new }
+    ensures made { MakesRecord D.state item.now result sessions.old sessions.new }
+    ensures cost { TakesSteps item.now sessions.old steps.old steps.new }
 {
     match item {
         SessionRecord::Begun {
@@ -226,9 +227,26 @@ fn put<D: Disk>(
         }
         SessionRecord::Finished { xid } => sessions.end(alloc, *xid),
         SessionRecord::Forgot { xid } => sessions.forget(alloc, *xid),
-        SessionRecord::Granted { .. } => unreachable!(),
+        SessionRecord::Granted {
+            xid,
+            branch,
+            resource,
+            call,
+            ticket,
+            ..
+        } => {
+            tell_numbers(*xid, *branch, *resource, *call, *ticket);
+            sessions.add_counted(alloc, item, steps)
+        }
     }
 }
+
+// Tells of a branch's numbers what their types say, for its record.
+fn tell_numbers(xid: Xid, branch: BranchId, resource: u16, call: u16, ticket: Ticket)
+    ensures leg { FitsXid xid × FitsBranch branch }
+    ensures place { (resource < 2 ^ 16) × (call < 2 ^ 16) }
+    ensures ticket { FitsTicket ticket }
+{}
 
 fn leg(xid: Xid, branch: BranchId) -> Leg
     ensures { result ≡ record { xid = xid; branch = branch } }

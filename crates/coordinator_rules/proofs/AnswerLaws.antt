@@ -17,7 +17,7 @@ use Rattle.history_rules.specs.Own.{Given, still}
 use Rattle.history_rules.specs.CoordinatorMemory.{session_record, due_by_durable, rests_after}
 use Rattle.session_memory.specs.Changes.{may_come}
 use Rattle.coordinator_rules.specs.declared.answers.Answer.{Answer}
-use Rattle.coordinator_rules.specs.Answers.{Answers, AnswersFor, IsRuled, IsRuledFor, IsSentBy, answer, later, own_step}
+use Rattle.coordinator_rules.specs.Answers.{Answers, IsRuled, IsSentBy, answer, later, own_step}
 use Rattle.coordinator_rules.specs.Knowledge.{Knowledge, times_in}
 use Rattle.coordinator_rules.specs.Naming.{ActNames}
 use Rattle.coordinator_rules.specs.Tracks.{Course, with_own, rule_answer, Follows, records}
@@ -37,65 +37,56 @@ still_sent (input.Outside number) done names = λ managers resources. record { f
 pub as_value : (given : Input) (a b : Answer) → a ≡ b → IsSentBy given a.step → IsSentBy given b.step
 as_value given a b same out = subst (λ (z : Answer). IsSentBy given z.step) same out
 
--- what is said of all these own entries is said of fewer
-pub of_fewer : (Of Fewer : Course → Type 0) → ((owns : Course) → Fewer owns → Of owns) → (k : Knowledge) (given : Input) (now : ℕ) (a : Answer)
-    → AnswersFor Of k given now a → AnswersFor Fewer k given now a
-of_fewer Of Fewer are k given now a all = record {
-  ruled = record { rules = λ owns s. all.ruled.rules owns (are owns s); asked = all.ruled.asked; recorded = all.ruled.recorded; again = all.ruled.again };
-  sent = all.sent;
-}
-
--- of own entries that what is known is of
-module _ (k : Knowledge) (given : Input) (now : ℕ) (Of : Course → Type 0) (are : (owns : Course) → Of owns → Follows k owns) where
+module _ (k : Knowledge) (given : Input) (now : ℕ) where
   -- the rules give this step
-  abbrev pub IsRuleFor : Step → Type 0
-  IsRuleFor step = (owns : Course) → Of owns → step ≡ rule_answer (times_in k) owns now given
+  abbrev pub IsRule : Step → Type 0
+  IsRule step = (owns : Course) → Follows k owns → step ≡ rule_answer (times_in k) owns now given
 
   -- nothing changes
-  told_ruled_for : (done : Act) (sent : Option Outgoing) → is_quiet done ≡ true → IsRuleFor (of_act done sent) → IsRuledFor Of k given now (answer None (of_act done sent))
-  told_ruled_for done sent quiet rule = record {
+  pub told_ruled : (done : Act) (sent : Option Outgoing) → is_quiet done ≡ true → IsRule (of_act done sent) → IsRuled k given now (answer None (of_act done sent))
+  told_ruled done sent quiet rule = record {
     rules = λ owns s. record {
       step = rule owns s;
-      left = λ after stays. subst (λ z. Follows z (with_own (own_step given now (of_act done sent)) owns)) (sym stays) (stands_quiet k owns now given done sent quiet (are owns s));
+      left = λ after stays. subst (λ z. Follows z (with_own (own_step given now (of_act done sent)) owns)) (sym stays) (stands_quiet k owns now given done sent quiet s);
     };
     asked = ap (option_and_then (session_record now (Given given))) (quiet_asks done quiet);
     recorded = quiet_unrecorded done quiet;
     again = quiet_again done quiet;
   }
 
-  pub told_for : (done : Act) (sent : Option Outgoing) → is_quiet done ≡ true → IsRuleFor (of_act done sent) → IsSentBy given (of_act done sent)
-      → (a : Answer) → a ≡ answer None (of_act done sent) → AnswersFor Of k given now a
-  told_for done sent quiet rule out a same = subst (AnswersFor Of k given now) (sym same) (record { ruled = told_ruled_for done sent quiet rule; sent = out })
+  pub told : (done : Act) (sent : Option Outgoing) → is_quiet done ≡ true → IsRule (of_act done sent) → IsSentBy given (of_act done sent)
+      → (a : Answer) → a ≡ answer None (of_act done sent) → Answers k given now a
+  told done sent quiet rule out a same = subst (Answers k given now) (sym same) (record { ruled = told_ruled done sent quiet rule; sent = out })
 
   -- a record is asked for
-  made_ruled_for : (r : SessionRecord) (d : Durable) (sent : Option Outgoing) → now < 2 ^ 64 → may_come k.memory r ≡ true → session_record now (Given given) d ≡ Some r
+  pub made_ruled : (r : SessionRecord) (d : Durable) (sent : Option Outgoing) → now < 2 ^ 64 → may_come k.memory r ≡ true → session_record now (Given given) d ≡ Some r
       → ((x before : ℕ) → due_by_durable k.retry now d x before ≡ due_by k.retry now r x before)
       → ((x before : ℕ) → rests_after now (act.Durable d) x before ≡ rested_by now r x before)
-      → IsRuleFor (of_act (act.Durable d) sent) → IsRuledFor Of k given now (answer (Some r) (of_act (act.Durable d) sent))
-  made_ruled_for r d sent in_time may asked dues rests rule = record {
+      → IsRule (of_act (act.Durable d) sent) → IsRuled k given now (answer (Some r) (of_act (act.Durable d) sent))
+  made_ruled r d sent in_time may asked dues rests rule = record {
     rules = λ owns s. record {
       step = rule owns s;
-      left = λ after makes. stands_made k after owns now r given d sent (are owns s) in_time makes asked dues rests;
+      left = λ after makes. stands_made k after owns now r given d sent s in_time makes asked dues rests;
     };
     asked = sym asked;
     recorded = record { durable = d; is = refl; asked = asked; may = may };
     again = refl;
   }
 
-  pub made_for : (r : SessionRecord) (d : Durable) (sent : Option Outgoing) → now < 2 ^ 64 → may_come k.memory r ≡ true → session_record now (Given given) d ≡ Some r
+  pub made : (r : SessionRecord) (d : Durable) (sent : Option Outgoing) → now < 2 ^ 64 → may_come k.memory r ≡ true → session_record now (Given given) d ≡ Some r
       → ((x before : ℕ) → due_by_durable k.retry now d x before ≡ due_by k.retry now r x before)
       → ((x before : ℕ) → rests_after now (act.Durable d) x before ≡ rested_by now r x before)
-      → IsRuleFor (of_act (act.Durable d) sent) → IsSentBy given (of_act (act.Durable d) sent)
-      → (a : Answer) → a ≡ answer (Some r) (of_act (act.Durable d) sent) → AnswersFor Of k given now a
-  made_for r d sent in_time may asked dues rests rule out a same =
-      subst (AnswersFor Of k given now) (sym same) (record { ruled = made_ruled_for r d sent in_time may asked dues rests rule; sent = out })
+      → IsRule (of_act (act.Durable d) sent) → IsSentBy given (of_act (act.Durable d) sent)
+      → (a : Answer) → a ≡ answer (Some r) (of_act (act.Durable d) sent) → Answers k given now a
+  made r d sent in_time may asked dues rests rule out a same =
+      subst (Answers k given now) (sym same) (record { ruled = made_ruled r d sent in_time may asked dues rests rule; sent = out })
 
   -- a branch is asked
-  pub asked_for : (xid : Xid) (b : BranchId) (sent : Option Outgoing) → now < 2 ^ 64 → ((owns : Course) → Of owns → goes (records owns) xid.0 ≡ true)
-      → IsRuleFor (of_act (act.Asked xid b) sent) → IsSentBy given (of_act (act.Asked xid b) sent) → (a : Answer) → a ≡ later xid (of_act (act.Asked xid b) sent) → AnswersFor Of k given now a
-  asked_for xid b sent in_time going rule out a same = subst (AnswersFor Of k given now) (sym same) (record {
+  pub asked_later : (xid : Xid) (b : BranchId) (sent : Option Outgoing) → now < 2 ^ 64 → ((owns : Course) → Follows k owns → goes (records owns) xid.0 ≡ true)
+      → IsRule (of_act (act.Asked xid b) sent) → IsSentBy given (of_act (act.Asked xid b) sent) → (a : Answer) → a ≡ later xid (of_act (act.Asked xid b) sent) → Answers k given now a
+  asked_later xid b sent in_time going rule out a same = subst (Answers k given now) (sym same) (record {
     ruled = record {
-      rules = λ owns s. record { step = rule owns s; left = λ after plans. stands_asked k after owns now given xid b sent (are owns s) in_time plans (going owns s) };
+      rules = λ owns s. record { step = rule owns s; left = λ after plans. stands_asked k after owns now given xid b sent s in_time plans (going owns s) };
       asked = refl;
       recorded = refl;
       again = refl;
@@ -104,47 +95,14 @@ module _ (k : Knowledge) (given : Input) (now : ℕ) (Of : Course → Type 0) (a
   })
 
   -- or is to be asked again
-  pub retried_for : (xid : Xid) (b : BranchId) (sent : Option Outgoing) → now < 2 ^ 64 → ((owns : Course) → Of owns → goes (records owns) xid.0 ≡ true)
-      → IsRuleFor (of_act (act.Retry xid b) sent) → IsSentBy given (of_act (act.Retry xid b) sent) → (a : Answer) → a ≡ later xid (of_act (act.Retry xid b) sent) → AnswersFor Of k given now a
-  retried_for xid b sent in_time going rule out a same = subst (AnswersFor Of k given now) (sym same) (record {
+  pub retried_later : (xid : Xid) (b : BranchId) (sent : Option Outgoing) → now < 2 ^ 64 → ((owns : Course) → Follows k owns → goes (records owns) xid.0 ≡ true)
+      → IsRule (of_act (act.Retry xid b) sent) → IsSentBy given (of_act (act.Retry xid b) sent) → (a : Answer) → a ≡ later xid (of_act (act.Retry xid b) sent) → Answers k given now a
+  retried_later xid b sent in_time going rule out a same = subst (Answers k given now) (sym same) (record {
     ruled = record {
-      rules = λ owns s. record { step = rule owns s; left = λ after plans. stands_retry k after owns now given xid b sent (are owns s) in_time plans (going owns s) };
+      rules = λ owns s. record { step = rule owns s; left = λ after plans. stands_retry k after owns now given xid b sent s in_time plans (going owns s) };
       asked = refl;
       recorded = refl;
       again = refl;
     };
     sent = out;
   })
-
--- of all of them
-module _ (k : Knowledge) (given : Input) (now : ℕ) where
-  these : (owns : Course) → Follows k owns → Follows k owns
-  these owns s = s
-
-  abbrev pub IsRule : Step → Type 0
-  IsRule step = (owns : Course) → Follows k owns → step ≡ rule_answer (times_in k) owns now given
-
-  pub told_ruled : (done : Act) (sent : Option Outgoing) → is_quiet done ≡ true → IsRule (of_act done sent) → IsRuled k given now (answer None (of_act done sent))
-  told_ruled = told_ruled_for k given now (Follows k) these
-
-  pub told : (done : Act) (sent : Option Outgoing) → is_quiet done ≡ true → IsRule (of_act done sent) → IsSentBy given (of_act done sent)
-      → (a : Answer) → a ≡ answer None (of_act done sent) → Answers k given now a
-  told = told_for k given now (Follows k) these
-
-  pub made_ruled : (r : SessionRecord) (d : Durable) (sent : Option Outgoing) → now < 2 ^ 64 → may_come k.memory r ≡ true → session_record now (Given given) d ≡ Some r
-      → ((x before : ℕ) → due_by_durable k.retry now d x before ≡ due_by k.retry now r x before)
-      → ((x before : ℕ) → rests_after now (act.Durable d) x before ≡ rested_by now r x before)
-      → IsRule (of_act (act.Durable d) sent) → IsRuled k given now (answer (Some r) (of_act (act.Durable d) sent))
-  made_ruled = made_ruled_for k given now (Follows k) these
-
-  pub made : (r : SessionRecord) (d : Durable) (sent : Option Outgoing) → now < 2 ^ 64 → may_come k.memory r ≡ true → session_record now (Given given) d ≡ Some r
-      → ((x before : ℕ) → due_by_durable k.retry now d x before ≡ due_by k.retry now r x before)
-      → ((x before : ℕ) → rests_after now (act.Durable d) x before ≡ rested_by now r x before)
-      → IsRule (of_act (act.Durable d) sent) → IsSentBy given (of_act (act.Durable d) sent)
-      → (a : Answer) → a ≡ answer (Some r) (of_act (act.Durable d) sent) → Answers k given now a
-  made = made_for k given now (Follows k) these
-
-  -- a branch is to be asked again
-  module _ (xid : Xid) (b : BranchId) (sent : Option Outgoing) (in_time : now < 2 ^ 64) (going : (owns : Course) → Follows k owns → goes (records owns) xid.0 ≡ true) where
-    pub retried_later : IsRule (of_act (act.Retry xid b) sent) → IsSentBy given (of_act (act.Retry xid b) sent) → (a : Answer) → a ≡ later xid (of_act (act.Retry xid b) sent) → Answers k given now a
-    retried_later = retried_for k given now (Follows k) these xid b sent in_time going

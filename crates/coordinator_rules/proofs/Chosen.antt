@@ -1,5 +1,5 @@
 -- The transaction that a turn takes, and the branch that is asked, by the memory and by the rules.
-use Rattle.std.proofs.Common.{◌≡◌, ◌==◌, ◌&&◌, ◌<◌, ◌≤◌, ◌+◌, ◌-◌, ◌^◌, not, ℕ, Bool, true, false, cond, if◌then◌else◌, List, [], ◌∷◌, ◌++◌, length, map, Option, Some, None, option_map, is_some, is_none, refl, sym, ap, ◌∙◌, arith}
+use Rattle.std.proofs.Common.{◌≡◌, ◌==◌, ◌&&◌, ◌<◌, ◌≤◌, ◌+◌, ◌-◌, not, ℕ, Bool, true, false, cond, if◌then◌else◌, List, [], ◌∷◌, ◌++◌, length, map, Option, Some, None, option_map, is_some, is_none, refl, sym, ap, ◌∙◌, arith}
 use Rattle.std.specs.Prelude.{find, filter, nat_lt, nat_le}
 use Rattle.std.proofs.lemmas.Bool.Decides.{nat_tests}
 use Rattle.seata_types.specs.declared.acts.Act.TheVariants as act
@@ -21,15 +21,14 @@ use Rattle.session_log.specs.SnapshotOf.{in_order, branch_now, session_now, entr
 use Rattle.session_log.specs.Soundness.{is_open_branch}
 use Rattle.session_memory.specs.Changes.{is_begin, is_finished}
 use Rattle.session_memory.specs.Holding.{keeps_rows}
-use Rattle.session_memory.specs.Lookups.{or_else, xid_of, session_in}
+use Rattle.session_memory.specs.Lookups.{if_open, last_open, next_open, or_else, session_in, xid_of}
 use Rattle.session_memory.specs.Order.{Each}
 use Rattle.session_memory.proofs.Small.{false_true, none_some, and_left, and_right, same_nat, nat_same, nat_differs}
 use Rattle.session_memory.proofs.Lists.{AreCounted, each_same, each_pair, up_to, find_mapped, find_both, map_both, and_false}
 use Rattle.durable_records.proofs.RecordFacts.{numbered, began_xid}
 use Rattle.session_memory.proofs.StepLaws.{began_found}
 use Rattle.coordinator_rules.specs.declared.questions.Question.{Question}
-use Rattle.coordinator_rules.specs.Changes.{kept_moment}
-use Rattle.coordinator_rules.specs.Choices.{is_late_entry, is_old_entry, is_by, if_open, last_open, next_open, question_to, question_of, question_in}
+use Rattle.coordinator_rules.specs.Choices.{is_late_entry, is_old_entry, is_by, question_to, question_of, question_in}
 use Rattle.coordinator_rules.specs.Steps.{asked_step}
 use Rattle.coordinator_rules.proofs.Firsts.{least_found, soonest_none, soonest_found}
 use Rattle.coordinator_rules.proofs.Laws.{AnswersAlike}
@@ -127,33 +126,33 @@ module _ (rs : List SessionRecord) (a : Allowed rs) (l : AnswersAlike rs) where
 
   -- ---- what is due
 
-  module _ (turns : Plans) (due_at : ℕ → ℕ) (now : ℕ) (in_time : now < 2 ^ 64 - 1) (planned : (x : ℕ) → moment_of turns x ≡ (if goes rs x then Some (kept_moment (due_at x)) else None)) where
+  module _ (turns : Plans) (due_at : ℕ → ℕ) (now : ℕ) (planned : (x : ℕ) → moment_of turns x ≡ (if goes rs x then Some (due_at x) else None)) where
     abbrev pub moment : ℕ → Option ℕ
     moment x = if goes rs x && nat_le (due_at x) now then Some (due_at x) else None
 
-    come_by : (g : Bool) (d k : ℕ) → (if g then Some (kept_moment d) else None) ≡ Some k → k ≤ now → (g ≡ true) × (d ≡ k)
-    come_by true d k e le = let same : kept_moment d ≡ k = cc in (refl, omega (arith, same, le, in_time))
-    come_by false d k e le = none_some e
+    come_by : (g : Bool) (d k : ℕ) → (if g then Some d else None) ≡ Some k → (g ≡ true) × (d ≡ k)
+    come_by true d k e = let same : d ≡ k = cc in (refl, same)
+    come_by false d k e = none_some e
 
     moment_by : (g : Bool) (d k : ℕ) → g ≡ true → d ≡ k → k ≤ now → (if g && nat_le d now then Some d else None) ≡ Some k
     moment_by true d k e same le = let come : nat_le d now ≡ true = grind (arith, nat_tests, same, le) in rw come (ap (λ m. Some m) same)
     moment_by false d k e same le = false_true e
 
-    back_by : (g b : Bool) (d k : ℕ) → nat_le d now ≡ b → (if g && b then Some d else None) ≡ Some k → (if g then Some (kept_moment d) else None) ≡ Some k
-    back_by true true d k is e = let same : d ≡ k = cc in let le : d ≤ now = grind (arith, nat_tests, is) in ap (λ m. Some m) (omega (arith, same, le, in_time))
-    back_by true false d k is e = none_some e
-    back_by false b d k is e = none_some e
+    back_by : (g b : Bool) (d k : ℕ) → (if g && b then Some d else None) ≡ Some k → (if g then Some d else None) ≡ Some k
+    back_by true true d k e = e
+    back_by true false d k e = none_some e
+    back_by false b d k e = none_some e
 
     planned_due : (y k : ℕ) → moment y ≡ Some k → moment_of turns y ≡ Some k
-    planned_due y k e = planned y ∙ back_by (goes rs y) (nat_le (due_at y) now) (due_at y) k refl e
+    planned_due y k e = planned y ∙ back_by (goes rs y) (nat_le (due_at y) now) (due_at y) k e
 
     -- the one that is told is in its second phase, and goes first
     pub due_going : (x : ℕ) → IsFirstDue turns now x → goes rs x ≡ true
-    due_going x f = (come_by (goes rs x) (due_at x) f.moment (sym (planned x) ∙ f.planned) f.come).0
+    due_going x f = (come_by (goes rs x) (due_at x) f.moment (sym (planned x) ∙ f.planned)).0
 
     pub due_first : (x : ℕ) (f : IsFirstDue turns now x) → soonest moment (length (sessions rs)) ≡ Some (x, f.moment)
     due_first x f =
-        let here = come_by (goes rs x) (due_at x) f.moment (sym (planned x) ∙ f.planned) f.come in
+        let here = come_by (goes rs x) (due_at x) f.moment (sym (planned x) ∙ f.planned) in
         let bounds = in_range x (sessions rs) (numbered rs a).began (and_left (is_some (session rs x)) (not (is_forgotten rs x)) (and_left (is_known rs x) (is_some (decided rs x) && is_on (progress rs x)) here.0)) in
         soonest_found moment x f.moment (moment_by (goes rs x) (due_at x) f.moment here.0 here.1 f.come)
         (λ y k e. f.least y k (planned_due y k e)) (length (sessions rs)) bounds.0 bounds.1

@@ -1,5 +1,5 @@
 -- The table stands for its own entries after a record, and after an entry without one.
-use Rattle.std.proofs.Common.{◌≡◌, ◌==◌, ◌<◌, ◌+◌, ◌^◌, ℕ, Bool, true, false, cond, if◌then◌else◌, List, ◌∷◌, Option, Some, None, is_some, refl, sym, ap, subst, ◌∙◌, arith}
+use Rattle.std.proofs.Common.{◌≡◌, ◌==◌, ◌<◌, ◌+◌, ◌^◌, ℕ, Bool, true, false, cond, if◌then◌else◌, List, ◌∷◌, Option, Some, None, is_some, refl, sym, ap, subst, ◌∙◌}
 use Rattle.seata_types.specs.declared.acts.Act.{Act}
 use Rattle.seata_types.specs.declared.acts.Act.TheVariants as act
 use Rattle.seata_types.specs.declared.acts.Durable.{Durable}
@@ -23,16 +23,13 @@ use Rattle.session_memory.proofs.StepLaws.{snapshot_after}
 use Rattle.coordinator_rules.specs.declared.moments.Moments.{Moments}
 use Rattle.coordinator_rules.specs.Knowledge.{Knowledge, SameTimes}
 use Rattle.coordinator_rules.specs.Answers.{again_after, is_unrecorded, own_step}
-use Rattle.coordinator_rules.specs.Changes.{kept_moment, prepared, withdrawn, settled, IsPlannedFor, Makes, PlansAgain}
+use Rattle.coordinator_rules.specs.Changes.{prepared, withdrawn, settled, IsPlannedFor, Makes, PlansAgain}
 use Rattle.coordinator_rules.specs.Tracks.{Course, with_own, due_on, rests_on, Tracks, Follows, AreInOrder, records}
 use Rattle.coordinator_rules.proofs.Laws.{may_alike, retry_going}
 use Rattle.coordinator_rules.proofs.PlanLaws.{moment_with, moment_without, in_order_with, in_order_without}
 use Rattle.coordinator_rules.proofs.Records.{going_by, finished_by, going_after, finished_after, going_not_finished, undecided_not_going}
 
 -- ---- moments
-
-pub kept_now : (now : ℕ) → now < 2 ^ 64 → kept_moment now ≡ now
-kept_now now lt = omega (arith, lt)
 
 -- when x is due, and since when it rests, after a record
 abbrev pub due_by : (retry now : ℕ) → SessionRecord → ℕ → ℕ → ℕ
@@ -47,20 +44,18 @@ rested_by now _ x before = before
 
 -- the moment of a transaction that is planned
 abbrev planned_at : Bool → ℕ → Option ℕ
-planned_at going moment = if going then Some (kept_moment moment) else None
+planned_at going moment = if going then Some moment else None
 
 abbrev rests_at : Bool → ℕ → Option ℕ
 rests_at finished since = if finished then Some since else None
 
-put_new : (b going : Bool) (at now before : ℕ) (o : Option ℕ) → kept_moment at ≡ now → o ≡ planned_at going before
-    → cond b (Some now) o ≡ planned_at (if b then true else going) (if b then at else before)
-put_new true going at now before o e h = ap (λ m. Some m) (sym e)
-put_new false going at now before o e h = h
+put_new : (b going : Bool) (at before : ℕ) (o : Option ℕ) → o ≡ planned_at going before → cond b (Some at) o ≡ planned_at (if b then true else going) (if b then at else before)
+put_new true going at before o h = refl
+put_new false going at before o h = h
 
-put_again : (b going : Bool) (at now before : ℕ) (o : Option ℕ) → (b ≡ true → going ≡ true) → kept_moment at ≡ now → o ≡ planned_at going before
-    → cond b (Some now) o ≡ planned_at going (if b then at else before)
-put_again true going at now before o is e h = rw (is refl) (ap (λ m. Some m) (sym e))
-put_again false going at now before o is e h = h
+put_again : (b going : Bool) (at before : ℕ) (o : Option ℕ) → (b ≡ true → going ≡ true) → o ≡ planned_at going before → cond b (Some at) o ≡ planned_at going (if b then at else before)
+put_again true going at before o is h = sym (ap (λ (g : Bool). planned_at g at) (is refl))
+put_again false going at before o is h = h
 
 taken_out : (b going : Bool) (before : ℕ) (o : Option ℕ) → o ≡ planned_at going before → cond b None o ≡ planned_at (if b then false else going) before
 taken_out true going before o h = refl
@@ -122,13 +117,13 @@ module _ (memory : Snapshot) (m : Moments) (rs : List SessionRecord) (due_at res
     turns_after (log.Begun xid manager begun timeout) may x = t.planned x
     turns_after (log.Granted xid branch resource call ticket kind hold) may x = t.planned x
     turns_after (log.Decided xid how) may x =
-        moment_with m.turns xid.0 now x ∙ put_new (xid.0 == x) (is_going rs x) now now (due_at x) (moment_of m.turns x) (kept_now now in_time) (t.planned x)
+        moment_with m.turns xid.0 now x ∙ put_new (xid.0 == x) (is_going rs x) now (due_at x) (moment_of m.turns x) (t.planned x)
     turns_after (log.Ended xid branch) may x =
-        moment_with m.turns xid.0 now x ∙ put_again (xid.0 == x) (is_going rs x) now now (due_at x) (moment_of m.turns x)
-        (goes_at xid x (and_left (is_going rs xid.0) (is_some (unended_branch rs xid.0 branch.0)) may)) (kept_now now in_time) (t.planned x)
+        moment_with m.turns xid.0 now x ∙ put_again (xid.0 == x) (is_going rs x) now (due_at x) (moment_of m.turns x)
+        (goes_at xid x (and_left (is_going rs xid.0) (is_some (unended_branch rs xid.0 branch.0)) may)) (t.planned x)
     turns_after (log.Retrying xid) may x =
-        moment_with m.turns xid.0 (kept_moment (now + retry)) x
-        ∙ put_again (xid.0 == x) (is_going rs x) (now + retry) (kept_moment (now + retry)) (due_at x) (moment_of m.turns x) (goes_at xid x (retry_going rs xid.0 may)) refl (t.planned x)
+        moment_with m.turns xid.0 (now + retry) x
+        ∙ put_again (xid.0 == x) (is_going rs x) (now + retry) (due_at x) (moment_of m.turns x) (goes_at xid x (retry_going rs xid.0 may)) (t.planned x)
     turns_after (log.Failed xid branch stmt) may x =
         moment_without m.turns xid.0 x t.turns_in_order ∙ taken_out (xid.0 == x) (is_going rs x) (due_at x) (moment_of m.turns x) (t.planned x)
     turns_after (log.Finished xid) may x =
@@ -150,7 +145,7 @@ module _ (memory : Snapshot) (m : Moments) (rs : List SessionRecord) (due_at res
     turns_ordered (log.Granted xid branch resource call ticket kind hold) = t.turns_in_order
     turns_ordered (log.Decided xid how) = in_order_with m.turns xid.0 now t.turns_in_order
     turns_ordered (log.Ended xid branch) = in_order_with m.turns xid.0 now t.turns_in_order
-    turns_ordered (log.Retrying xid) = in_order_with m.turns xid.0 (kept_moment (now + retry)) t.turns_in_order
+    turns_ordered (log.Retrying xid) = in_order_with m.turns xid.0 (now + retry) t.turns_in_order
     turns_ordered (log.Failed xid branch stmt) = in_order_without m.turns xid.0 t.turns_in_order
     turns_ordered (log.Finished xid) = in_order_without m.turns xid.0 t.turns_in_order
     turns_ordered (log.Forgot xid) = t.turns_in_order
@@ -241,15 +236,15 @@ module _ (memory : Snapshot) (m : Moments) (rs : List SessionRecord) (due_at res
 
   -- ---- a transaction that is planned again
 
-  pub tracks_again : (x at : ℕ) (m' : Moments) → is_going rs x ≡ true → m'.turns ≡ with_plan m.turns x (kept_moment at) → m'.rests ≡ m.rests
+  pub tracks_again : (x at : ℕ) (m' : Moments) → is_going rs x ≡ true → m'.turns ≡ with_plan m.turns x at → m'.rests ≡ m.rests
       → Tracks memory m' rs (λ q. if x == q then at else due_at q) rested
   tracks_again x at m' g turns rests = record {
     allowed = t.allowed;
     known = t.known;
-    turns_in_order = subst AreInOrder (sym turns) (in_order_with m.turns x (kept_moment at) t.turns_in_order);
+    turns_in_order = subst AreInOrder (sym turns) (in_order_with m.turns x at t.turns_in_order);
     rests_in_order = subst AreInOrder (sym rests) t.rests_in_order;
-    planned = λ q. ap (λ ps. moment_of ps q) turns ∙ moment_with m.turns x (kept_moment at) q
-        ∙ put_again (x == q) (is_going rs q) at (kept_moment at) (due_at q) (moment_of m.turns q) (λ e. moved (λ k. is_going rs k ≡ true) x q g e) refl (t.planned q);
+    planned = λ q. ap (λ ps. moment_of ps q) turns ∙ moment_with m.turns x at q
+        ∙ put_again (x == q) (is_going rs q) at (due_at q) (moment_of m.turns q) (λ e. moved (λ k. is_going rs k ≡ true) x q g e) (t.planned q);
     resting = λ q. ap (λ ps. moment_of ps q) rests ∙ t.resting q;
   }
 

@@ -1,5 +1,5 @@
 -- What is answered whatever is known, and one input by another one.
-use Rattle.std.proofs.Common.{◌≡◌, ◌∙◌, ℕ, List, Option, None, Result, Ok, Err, refl, sym, ap, subst}
+use Rattle.std.proofs.Common.{◌≡◌, ◌∙◌, ℕ, List, None, Result, Ok, Err, refl, sym, ap, subst}
 use Rattle.std.specs.Prelude.{IfOk}
 use Rattle.seata_types.specs.declared.acts.Act.TheVariants as act
 use Rattle.seata_types.specs.declared.copies.NoMemory.{NoMemory}
@@ -13,16 +13,15 @@ use Rattle.seata_types.specs.declared.messages.Message.TheVariants as message
 use Rattle.seata_types.specs.declared.rows.RowKey.{RowKey}
 use Rattle.history_rules.specs.CoordinatorMemory.{Times}
 use Rattle.history_rules.specs.Own.{still}
-use Rattle.retry_turns.specs.Plans.{Plans}
 use Rattle.session_log.specs.declared.sessions.RegisterPlace.{RegisterPlace}
 use Rattle.session_log.specs.declared.sessions.Snapshot.{Snapshot}
 use Rattle.coordinator_rules.specs.declared.answers.Answer.{Answer}
 use Rattle.coordinator_rules.specs.declared.moments.Moments.{Moments}
-use Rattle.coordinator_rules.specs.Answers.{Answers, AnswersBefore, FollowsBy, Hears, answer}
+use Rattle.coordinator_rules.specs.Answers.{Answers, Hears, answer}
 use Rattle.coordinator_rules.specs.Knowledge.{Knowledge, knows, times_in}
 use Rattle.coordinator_rules.specs.Registering.{registers}
-use Rattle.coordinator_rules.specs.Tracks.{Course, Follows, rule_answer}
-use Rattle.coordinator_rules.proofs.AnswerLaws.{of_fewer, told, still_sent}
+use Rattle.coordinator_rules.specs.Tracks.{Course, rule_answer}
+use Rattle.coordinator_rules.proofs.AnswerLaws.{told, still_sent}
 
 -- what is said of a value is said of its like
 pub of_like : {I : Type 0} (P : I → Type 0) (i j : I) → i ≡ j → P j → P i
@@ -36,13 +35,6 @@ ok_as (Err e) f p = tt
 -- what is said of any settings and moments
 abbrev Says : Snapshot → Input → ℕ → Answer → Type 0
 Says s given now a = (times : Times) (m : Moments) → Answers (knows times s m) given now a
-
--- and of what is known, whichever transaction is due
-pub heard_before : (due : Option Xid) (forget : ℕ) (s : Snapshot) (rests : Plans) (from : Place) (heard : Message) (now : ℕ) (a : Answer) → Says s (input.Message from heard) now a
-    → AnswersBefore due forget s rests (input.Message from heard) now a
-heard_before due forget s rests from heard now a all = λ k same resting forgets.
-    of_fewer (Follows k) (FollowsBy due k (input.Message from heard) now) (λ owns f. f.0) k (input.Message from heard) now a
-    (subst (λ (z : Snapshot). Answers (knows (times_in k) z k.moments) (input.Message from heard) now a) (sym same) (all (times_in k) k.moments))
 
 module _ (s : Snapshot) (from : Place) (heard : Message) (now : ℕ) where
   pub registers_heard : (xid : Xid) (p : RegisterPlace) (hold check rows others : List RowKey) → heard ≡ registers xid p hold check → rows ≡ hold → others ≡ check → (result : Result Answer NoMemory)

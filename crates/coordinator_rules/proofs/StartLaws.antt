@@ -21,7 +21,6 @@ use Rattle.coordinator_rules.specs.declared.moments.Moments.{Moments}
 use Rattle.coordinator_rules.specs.Starting.{started_as, started_by, started_on, no_moments, latest_of, start_in}
 use Rattle.coordinator_rules.specs.Tracks.{AreInOrder, Tracks}
 use Rattle.session_memory.proofs.MayLaws.{none_found}
-use Rattle.coordinator_rules.proofs.Kept.{kept_now}
 use Rattle.coordinator_rules.proofs.Laws.{answers_alike}
 use Rattle.coordinator_rules.proofs.PlanLaws.{moment_with, in_order_with}
 
@@ -146,7 +145,7 @@ starts rs memory now allowed known in_time = subst (λ m. Tracks m (started_on n
   turns_in_order = turns_rise now (snapshot_of rs).sessions no_moments tt;
   rests_in_order = rests_rise now (snapshot_of rs).sessions no_moments tt;
   planned = λ x. turns_on now x (status_of rs) (snapshot_of rs).sessions (entries_of rs _) no_moments
-      ∙ ap (λ b. if b then Some now else None) (going_is rs allowed x) ∙ ap (λ (k : ℕ). if goes rs x then Some k else None) (sym (kept_now now in_time));
+      ∙ ap (λ b. if b then Some now else None) (going_is rs allowed x);
   resting = λ x. rests_on now x (status_of rs) (snapshot_of rs).sessions (entries_of rs _) no_moments ∙ ap (λ b. if b then Some now else None) (over_is rs allowed x);
 })
 

@@ -16,21 +16,20 @@ use Rattle.durable_records.specs.SessionOrder.{is_empty, may}
 use Rattle.history_rules.specs.Own.{still}
 use Rattle.history_rules.specs.CoordinatorMemory.{is_past, is_late, is_old, due_moment}
 use Rattle.history_rules.specs.CoordinatorRules.{turn_answer, due_answer, old_answer, next_asked}
-use Rattle.retry_turns.specs.Plans.{Plans, TellsDue}
-use Rattle.session_log.specs.declared.sessions.Snapshot.{Snapshot}
+use Rattle.retry_turns.specs.Plans.{TellsDue}
 use Rattle.session_log.specs.SnapshotOf.{snapshot_of}
 use Rattle.session_memory.specs.Changes.{may_come, finished_status}
 use Rattle.session_memory.specs.Lookups.{xid_of, session_in, status_in}
 use Rattle.session_memory.proofs.Small.{false_true, none_some, and_left, and_right, and_both}
 use Rattle.coordinator_rules.specs.declared.answers.Answer.{Answer}
 use Rattle.coordinator_rules.specs.declared.questions.Question.{Question}
-use Rattle.coordinator_rules.specs.Answers.{AnswersFor, IsDueAt, IsSentBy, answer, late_at, due_at, old_at, number}
+use Rattle.coordinator_rules.specs.Answers.{Answers, IsSentBy, answer, late_at, due_at, old_at}
 use Rattle.coordinator_rules.specs.Choices.{is_late_entry, is_old_entry, question_in}
 use Rattle.coordinator_rules.specs.Knowledge.{Knowledge, times_in}
 use Rattle.coordinator_rules.specs.Looked as looked
 use Rattle.coordinator_rules.specs.Steps.{asked_step}
 use Rattle.coordinator_rules.specs.Tracks.{Course, rule_answer, due_on, rests_on, Follows, records}
-use Rattle.coordinator_rules.proofs.AnswerLaws.{told_for, made_for, asked_for, still_sent}
+use Rattle.coordinator_rules.proofs.AnswerLaws.{told, made, asked_later, still_sent}
 use Rattle.coordinator_rules.proofs.Chosen.{late_alike, old_alike, due_first, due_none, question_none, question_some, left_none}
 use Rattle.coordinator_rules.proofs.Firsts.{least_passes, soonest_is}
 use Rattle.coordinator_rules.proofs.Kept.{may_by, may_is}
@@ -104,9 +103,9 @@ module _ (t : Knowledge) (now : ℕ) (owns : Course) (s : Follows t owns) where
   late_none is = no_number _ _ late_is is
 
   -- the transaction that is due first
-  pub due_is : now < 2 ^ 64 - 1 → (due : Option Xid) → TellsDue t.moments.turns now due → option_map number due ≡ option_map (λ (p : ℕ × ℕ). p.0) (due_at (times_in t) now owns)
-  due_is in_time (Some x) f = ap (option_map (λ (p : ℕ × ℕ). p.0)) (sym (due_first stood s.tracks.allowed (alike t owns s) t.moments.turns (due_on t.retry owns) now in_time s.tracks.planned x.0 f))
-  due_is in_time None none = ap (option_map (λ (p : ℕ × ℕ). p.0)) (sym (due_none stood s.tracks.allowed (alike t owns s) t.moments.turns (due_on t.retry owns) now in_time s.tracks.planned none))
+  pub due_is : (due : Option Xid) → TellsDue t.moments.turns now due → option_map (λ (x : Xid). x.0) due ≡ option_map (λ (p : ℕ × ℕ). p.0) (due_at (times_in t) now owns)
+  due_is (Some x) f = ap (option_map (λ (p : ℕ × ℕ). p.0)) (sym (due_first stood s.tracks.allowed (alike t owns s) t.moments.turns (due_on t.retry owns) now s.tracks.planned x.0 f))
+  due_is None none = ap (option_map (λ (p : ℕ × ℕ). p.0)) (sym (due_none stood s.tracks.allowed (alike t owns s) t.moments.turns (due_on t.retry owns) now s.tracks.planned none))
 
   old_is : option_map (λ (x : Xid). x.0) (option_map xid_of (find (is_old_entry t.moments.rests t.forget now) t.memory.sessions)) ≡ old_at (times_in t) now owns
   old_is =
@@ -130,81 +129,72 @@ no_first : (o : Option (ℕ × ℕ)) → None ≡ option_map (λ (p : ℕ × ℕ
 no_first None e = refl
 no_first (Some p) e = none_some e
 
--- of own entries that what is known is of
-module _ (k : Knowledge) (now : ℕ) (in_time : now < 2 ^ 64) (Of : Course → Type 0) (are : (owns : Course) → Of owns → Follows k owns) where
+module _ (k : Knowledge) (now : ℕ) (in_time : now < 2 ^ 64) where
   -- nothing is done where the rules take none
-  rests_where : ((owns : Course) → Of owns → still act.Nothing ≡ rule_answer (times_in k) owns now input.Turn) → (a : Answer) → a ≡ looked.nothing → AnswersFor Of k input.Turn now a
-  rests_where rule = told_for k input.Turn now Of are act.Nothing None refl rule (still_sent input.Turn act.Nothing (λ resources. tt))
+  rests_where : ((owns : Course) → Follows k owns → still act.Nothing ≡ rule_answer (times_in k) owns now input.Turn) → (a : Answer) → a ≡ looked.nothing → Answers k input.Turn now a
+  rests_where rule = told k input.Turn now act.Nothing None refl rule (still_sent input.Turn act.Nothing (λ resources. tt))
 
-  never : (step : Step) → ((owns : Course) → Of owns → false ≡ true) → (owns : Course) → Of owns → step ≡ rule_answer (times_in k) owns now input.Turn
+  never : (step : Step) → ((owns : Course) → Follows k owns → false ≡ true) → (owns : Course) → Follows k owns → step ≡ rule_answer (times_in k) owns now input.Turn
   never step excluded owns s = false_true (excluded owns s)
 
-  refused : (r : SessionRecord) (owns : Course) (s : Of owns) → may_come k.memory r ≡ false → may (records owns) r ≡ true → false ≡ true
-  refused r owns s is here = sym is ∙ may_is k.memory k.moments (records owns) (due_on k.retry owns) (rests_on owns) (are owns s).tracks now in_time r ∙ here
+  refused : (r : SessionRecord) (owns : Course) (s : Follows k owns) → may_come k.memory r ≡ false → may (records owns) r ≡ true → false ≡ true
+  refused r owns s is here = sym is ∙ may_is k.memory k.moments (records owns) (due_on k.retry owns) (rests_on owns) s.tracks now in_time r ∙ here
 
   -- a late transaction
-  late_by : (x : Xid) → ((owns : Course) → Of owns → IsLate (times_in k) now x.0 owns) → (b : Bool) → may_come k.memory (log.Decided x how.Timeout) ≡ b
-      → (a : Answer) → a ≡ (if b then answer (Some (log.Decided x how.Timeout)) (still (act.Durable (durable.Decided x how.Timeout))) else looked.nothing) → AnswersFor Of k input.Turn now a
+  late_by : (x : Xid) → ((owns : Course) → Follows k owns → IsLate (times_in k) now x.0 owns) → (b : Bool) → may_come k.memory (log.Decided x how.Timeout) ≡ b
+      → (a : Answer) → a ≡ (if b then answer (Some (log.Decided x how.Timeout)) (still (act.Durable (durable.Decided x how.Timeout))) else looked.nothing) → Answers k input.Turn now a
   late_by x takes true may =
-      made_for k input.Turn now Of are (log.Decided x how.Timeout) (durable.Decided x how.Timeout) None in_time may refl (λ y before. refl) (λ y before. refl) (λ owns s. late_rule k now owns (are owns s) x.0 (takes owns s))
+      made k input.Turn now (log.Decided x how.Timeout) (durable.Decided x how.Timeout) None in_time may refl (λ y before. refl) (λ y before. refl) (λ owns s. late_rule k now owns s x.0 (takes owns s))
       (still_sent input.Turn (act.Durable (durable.Decided x how.Timeout)) (λ resources. tt))
-  late_by x takes false may = rests_where (never (still act.Nothing) (λ owns s. refused (log.Decided x how.Timeout) owns s may (late_may k now owns (are owns s) x.0 (takes owns s))))
+  late_by x takes false may = rests_where (never (still act.Nothing) (λ owns s. refused (log.Decided x how.Timeout) owns s may (late_may k now owns s x.0 (takes owns s))))
 
   -- an old one
-  old_by : (x : Xid) → ((owns : Course) → Of owns → IsOld (times_in k) now x.0 owns) → (b : Bool) → may_come k.memory (log.Forgot x) ≡ b
-      → (a : Answer) → a ≡ (if b then answer (Some (log.Forgot x)) (still (act.Durable (durable.Forgot x))) else looked.nothing) → AnswersFor Of k input.Turn now a
+  old_by : (x : Xid) → ((owns : Course) → Follows k owns → IsOld (times_in k) now x.0 owns) → (b : Bool) → may_come k.memory (log.Forgot x) ≡ b
+      → (a : Answer) → a ≡ (if b then answer (Some (log.Forgot x)) (still (act.Durable (durable.Forgot x))) else looked.nothing) → Answers k input.Turn now a
   old_by x takes true may =
-      made_for k input.Turn now Of are (log.Forgot x) (durable.Forgot x) None in_time may refl (λ y before. refl) (λ y before. refl) (λ owns s. old_rule k now owns (are owns s) x.0 (takes owns s))
+      made k input.Turn now (log.Forgot x) (durable.Forgot x) None in_time may refl (λ y before. refl) (λ y before. refl) (λ owns s. old_rule k now owns s x.0 (takes owns s))
       (still_sent input.Turn (act.Durable (durable.Forgot x)) (λ resources. tt))
-  old_by x takes false may = rests_where (never (still act.Nothing) (λ owns s. refused (log.Forgot x) owns s may (old_may k now owns (are owns s) x.0 (takes owns s))))
+  old_by x takes false may = rests_where (never (still act.Nothing) (λ owns s. refused (log.Forgot x) owns s may (old_may k now owns s x.0 (takes owns s))))
 
   -- one that is due
-  module _ (x : Xid) (takes : (owns : Course) → Of owns → IsFirst (times_in k) now x.0 owns) where
-    goes_on : (owns : Course) → Of owns → goes (records owns) x.0 ≡ true
-    goes_on owns s = due_goes k now owns (are owns s) x.0 (takes owns s)
+  module _ (x : Xid) (takes : (owns : Course) → Follows k owns → IsFirst (times_in k) now x.0 owns) where
+    goes_on : (owns : Course) → Follows k owns → goes (records owns) x.0 ≡ true
+    goes_on owns s = due_goes k now owns s x.0 (takes owns s)
 
-    known_question : (owns : Course) → Of owns → question_in (session_in k.memory x.0) ≡ question_in (session_in (snapshot_of (records owns)) x.0)
-    known_question owns s = ap (λ m. question_in (session_in m x.0)) (are owns s).tracks.known
+    known_question : (owns : Course) → Follows k owns → question_in (session_in k.memory x.0) ≡ question_in (session_in (snapshot_of (records owns)) x.0)
+    known_question owns s = ap (λ m. question_in (session_in m x.0)) s.tracks.known
 
-    asks_by : may_come k.memory (log.Finished x) ≡ false → (o : Option Question) → question_in (session_in k.memory x.0) ≡ o → (a : Answer) → a ≡ looked.asked x o → IsSentBy input.Turn a.step → AnswersFor Of k input.Turn now a
+    asks_by : may_come k.memory (log.Finished x) ≡ false → (o : Option Question) → question_in (session_in k.memory x.0) ≡ o → (a : Answer) → a ≡ looked.asked x o → IsSentBy input.Turn a.step → Answers k input.Turn now a
     asks_by left None is a same out =
         rests_where (never (still act.Nothing) (λ owns s.
         refused (log.Finished x) owns s left (and_both (goes (records owns) x.0) (is_empty (unended (records owns) x.0)) (goes_on owns s)
-        (question_none (records owns) (alike k owns (are owns s)) x.0 (goes_on owns s) (sym (known_question owns s) ∙ is))))) a same
+        (question_none (records owns) (alike k owns s) x.0 (goes_on owns s) (sym (known_question owns s) ∙ is))))) a same
     asks_by left (Some q) is a same out =
-        asked_for k input.Turn now Of are x q.branch (asked_step x q).sent in_time goes_on
-        (λ owns s. let found = question_some (records owns) (alike k owns (are owns s)) x.0 (goes_on owns s) q (sym (known_question owns s) ∙ is) in
-        found.1.1 ∙ due_rule k now owns (are owns s) x.0 (Some found.0) (takes owns s) found.1.0)
+        asked_later k input.Turn now x q.branch (asked_step x q).sent in_time goes_on
+        (λ owns s. let found = question_some (records owns) (alike k owns s) x.0 (goes_on owns s) q (sym (known_question owns s) ∙ is) in
+        found.1.1 ∙ due_rule k now owns s x.0 (Some found.0) (takes owns s) found.1.0)
         (subst (λ (z : Answer). IsSentBy input.Turn z.step) same out) a same
 
     due_by : (b : Bool) → may_come k.memory (log.Finished x) ≡ b → (a : Answer)
         → a ≡ (if b then answer (Some (log.Finished x)) (still (act.Durable (durable.Finished x (finished_status (status_in k.memory x.0))))) else looked.asked x (question_in (session_in k.memory x.0)))
-        → IsSentBy input.Turn a.step → AnswersFor Of k input.Turn now a
+        → IsSentBy input.Turn a.step → Answers k input.Turn now a
     due_by true may a same out =
-        made_for k input.Turn now Of are (log.Finished x) (durable.Finished x (finished_status (status_in k.memory x.0))) None in_time may refl (λ y before. refl) (λ y before. refl)
-        (λ owns s. ap (λ z. still (act.Durable (durable.Finished x z))) (finished_is k owns (are owns s) x.0 (goes_on owns s)) ∙ due_rule k now owns (are owns s) x.0 None (takes owns s)
-        (left_none (records owns) (alike k owns (are owns s)) x.0 (goes_on owns s)
-        (and_right (goes (records owns) x.0) (is_empty (unended (records owns) x.0)) (may_by k.memory k.moments (records owns) (due_on k.retry owns) (rests_on owns) (are owns s).tracks now in_time (log.Finished x) may))))
+        made k input.Turn now (log.Finished x) (durable.Finished x (finished_status (status_in k.memory x.0))) None in_time may refl (λ y before. refl) (λ y before. refl)
+        (λ owns s. ap (λ z. still (act.Durable (durable.Finished x z))) (finished_is k owns s x.0 (goes_on owns s)) ∙ due_rule k now owns s x.0 None (takes owns s)
+        (left_none (records owns) (alike k owns s) x.0 (goes_on owns s)
+        (and_right (goes (records owns) x.0) (is_empty (unended (records owns) x.0)) (may_by k.memory k.moments (records owns) (due_on k.retry owns) (rests_on owns) s.tracks now in_time (log.Finished x) may))))
         (still_sent input.Turn (act.Durable (durable.Finished x (finished_status (status_in k.memory x.0)))) (λ resources. tt)) a same
     due_by false may a same out = asks_by may (question_in (session_in k.memory x.0)) refl a same out
 
   -- what a turn takes by the memory
-  turn_by : (late due old : Option Xid) → option_map xid_of (find (is_late_entry now) k.memory.sessions) ≡ late → ((owns : Course) → Of owns → IsDueAt input.Turn k now due owns)
-      → option_map xid_of (find (is_old_entry k.moments.rests k.forget now) k.memory.sessions) ≡ old
-      → (a : Answer) → a ≡ looked.turn k.memory late due old → IsSentBy input.Turn a.step → AnswersFor Of k input.Turn now a
-  turn_by (Some x) due old late is rests a same out = late_by x (λ owns s. late_found k now owns (are owns s) x late) (may_come k.memory (log.Decided x how.Timeout)) refl a same
-  turn_by None (Some x) old none is rests a same out =
-      due_by x (λ owns s. (late_none k now owns (are owns s) none, some_first (due_at (times_in k) now owns) x.0 (is owns s))) (may_come k.memory (log.Finished x)) refl a same out
-  turn_by None None (Some x) none is rests a same out =
-      old_by x (λ owns s. old_found k now owns (are owns s) x rests (late_none k now owns (are owns s) none) (no_first (due_at (times_in k) now owns) (is owns s))) (may_come k.memory (log.Forgot x)) refl a same
-  turn_by None None None none is rests a same out =
-      rests_where (λ owns s. nothing_rule k now owns (are owns s) (late_none k now owns (are owns s) none) (no_first (due_at (times_in k) now owns) (is owns s)) (old_none k now owns (are owns s) rests)) a same
-
-  -- the same where these were looked up
-  pub takes_turn : (s : Snapshot) (late due old : Option Xid) (rests : Plans) (forget : ℕ) → k.memory ≡ s → k.moments.rests ≡ rests → k.forget ≡ forget → ((owns : Course) → Of owns → IsDueAt input.Turn k now due owns)
-      → late ≡ option_map xid_of (find (is_late_entry now) s.sessions) → old ≡ option_map xid_of (find (is_old_entry rests forget now) s.sessions)
-      → (a : Answer) → a ≡ looked.turn s late due old → IsSentBy input.Turn a.step → AnswersFor Of k input.Turn now a
-  takes_turn s late due old rests forget same resting forgets is lates olds a value out =
-      turn_by late due old (ap (λ (m : Snapshot). option_map xid_of (find (is_late_entry now) m.sessions)) same ∙ sym lates) is
-      ((λ i. option_map xid_of (find (is_old_entry (resting i) (forgets i) now) (same i).sessions)) ∙ sym olds)
-      a (value ∙ ap (λ m. looked.turn m late due old) (sym same)) out
+  pub takes_turn : (late due old : Option Xid) → late ≡ option_map xid_of (find (is_late_entry now) k.memory.sessions) → TellsDue k.moments.turns now due
+      → old ≡ option_map xid_of (find (is_old_entry k.moments.rests k.forget now) k.memory.sessions)
+      → (a : Answer) → a ≡ looked.turn k.memory late due old → IsSentBy input.Turn a.step → Answers k input.Turn now a
+  takes_turn (Some x) due old late first rests a same out = late_by x (λ owns s. late_found k now owns s x (sym late)) (may_come k.memory (log.Decided x how.Timeout)) refl a same
+  takes_turn None (Some x) old none first rests a same out =
+      due_by x (λ owns s. (late_none k now owns s (sym none), some_first (due_at (times_in k) now owns) x.0 (due_is k now owns s (Some x) first))) (may_come k.memory (log.Finished x)) refl a same out
+  takes_turn None None (Some x) none first rests a same out =
+      old_by x (λ owns s. old_found k now owns s x (sym rests) (late_none k now owns s (sym none)) (no_first (due_at (times_in k) now owns) (due_is k now owns s None first)))
+      (may_come k.memory (log.Forgot x)) refl a same
+  takes_turn None None None none first rests a same out =
+      rests_where (λ owns s. nothing_rule k now owns s (late_none k now owns s (sym none)) (no_first (due_at (times_in k) now owns) (due_is k now owns s None first)) (old_none k now owns s (sym rests))) a same

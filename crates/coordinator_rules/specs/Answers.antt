@@ -1,5 +1,5 @@
 -- What an answer of a coordinator is by its rules: said of each list of own entries that what it knows is of.
-use Rattle.std.specs.Prelude.{◌≡◌, ℕ, ◌-◌, ◌<◌, ◌^◌, ◌&&◌, Bool, true, false, Option, Some, None, option_map}
+use Rattle.std.specs.Prelude.{◌≡◌, ℕ, ◌&&◌, Bool, true, false, Option, Some, None}
 use Rattle.seata_types.specs.declared.acts.Act.{Act}
 use Rattle.seata_types.specs.declared.acts.Act.TheVariants as act
 use Rattle.seata_types.specs.declared.acts.Durable.{Durable}
@@ -17,7 +17,6 @@ use Rattle.durable_records.specs.declared.coordinators.SessionRecord.{SessionRec
 use Rattle.durable_records.specs.SessionOrder.{is_counted}
 use Rattle.history_rules.specs.Own.{Given, Own}
 use Rattle.history_rules.specs.CoordinatorMemory.{Times, session_asked, session_record, late_one, due_one, old_one}
-use Rattle.retry_turns.specs.Plans.{Plans}
 use Rattle.session_log.specs.declared.sessions.Snapshot.{Snapshot}
 use Rattle.session_memory.specs.Changes.{may_come}
 use Rattle.coordinator_rules.specs.declared.answers.Answer.{Answer}
@@ -117,27 +116,24 @@ IsSentBy given step = (managers resources : ℕ) → IsSent managers resources g
 
 -- ---- all
 
--- An answer to an input at a moment is by the rules after all these own entries; and, whatever they are, the record that it asks for
--- is that of its act, and may come, and the transaction that is due again is its act's.
-pub record IsRuledFor (Of : Course → Type 0) (k : Knowledge) (given : Input) (now : ℕ) (a : Answer) : Type 0 where
-  pub rules : (owns : Course) → Of owns → IsOfRules k given now a owns
+-- An answer to an input at a moment is by the rules after all own entries that what is known is of; and, whatever they are, the record
+-- that it asks for is that of its act, and may come, and the transaction that is due again is its act's.
+pub record IsRuled (k : Knowledge) (given : Input) (now : ℕ) (a : Answer) : Type 0 where
+  pub rules : (owns : Course) → Follows k owns → IsOfRules k given now a owns
   pub asked : a.asked ≡ session_asked (own_step given now a.step)
   pub recorded : IsRecorded k.memory given now a.step.act a.asked
   pub again : a.again ≡ again_after a.step.act
 
 -- and what it sends can be sent
-pub record AnswersFor (Of : Course → Type 0) (k : Knowledge) (given : Input) (now : ℕ) (a : Answer) : Type 0 where
-  pub ruled : IsRuledFor Of k given now a
+pub record Answers (k : Knowledge) (given : Input) (now : ℕ) (a : Answer) : Type 0 where
+  pub ruled : IsRuled k given now a
   pub sent : IsSentBy given a.step
 
--- the same of all own entries that what is known is of
-abbrev pub IsRuled : Knowledge → Input → ℕ → Answer → Type 0
-IsRuled k given now a = IsRuledFor (Follows k) k given now a
+-- the same of a message from there, whatever the settings and the moments are
+abbrev pub HearsFrom : Snapshot → Place → Message → ℕ → Answer → Type 0
+HearsFrom s from heard now a = (times : Times) (m : Moments) → Answers (knows times s m) (input.Message from heard) now a
 
-abbrev pub Answers : Knowledge → Input → ℕ → Answer → Type 0
-Answers k given now a = AnswersFor (Follows k) k given now a
-
--- the same of a message, wherever it came from, whatever the settings and the moments are
+-- and wherever it came from
 abbrev pub Hears : Snapshot → Message → ℕ → Answer → Type 0
 Hears s heard now a = (times : Times) (m : Moments) (from : Place) → Answers (knows times s m) (input.Message from heard) now a
 
@@ -146,11 +142,6 @@ abbrev pub AnswersBy : (forget : ℕ) → Snapshot → Moments → Input → ℕ
 AnswersBy forget s m given now a = (retry : ℕ) → Answers (knows (waits retry forget) s m) given now a
 
 -- ---- turns
-
--- a turn comes before the last moment: plans are kept up to that
-abbrev pub ComesInTime : Input → ℕ → Type 0
-ComesInTime input.Turn now = now < 2 ^ 64 - 1
-ComesInTime _ now = Unit {0}
 
 -- the transaction that a turn takes
 abbrev pub late_at : Times → ℕ → Course → Option ℕ
@@ -161,20 +152,3 @@ due_at times now owns = due_one times owns.past owns.owns (records owns) now
 
 abbrev pub old_at : Times → ℕ → Course → Option ℕ
 old_at times now owns = old_one times owns.past owns.owns (records owns) now
-
-abbrev pub number : Xid → ℕ
-number x = x.0
-
--- at a turn this transaction is due first
-abbrev pub IsDueAt : Input → Knowledge → ℕ → Option Xid → Course → Type 0
-IsDueAt input.Turn k now due owns = option_map number due ≡ option_map (λ (p : ℕ × ℕ). p.0) (due_at (times_in k) now owns)
-IsDueAt given k now due owns = Unit {0}
-
--- what is known is of these own entries, after which this transaction is due first
-abbrev pub FollowsBy : Option Xid → Knowledge → Input → ℕ → Course → Type 0
-FollowsBy due k given now owns = Follows k owns × IsDueAt given k now due owns
-
--- an answer by what is known, where the transaction that is due first was given
-abbrev pub AnswersBefore : (due : Option Xid) (forget : ℕ) → Snapshot → (rests : Plans) → Input → ℕ → Answer → Type 0
-AnswersBefore due forget s rests given now a =
-    (k : Knowledge) → k.memory ≡ s → k.moments.rests ≡ rests → k.forget ≡ forget → AnswersFor (FollowsBy due k given now) k given now a

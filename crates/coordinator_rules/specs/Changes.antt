@@ -1,15 +1,11 @@
 -- What one more record does to the moments that a coordinator keeps.
-use Rattle.std.specs.Prelude.{◌≡◌, ℕ, ◌+◌, ◌-◌, ◌^◌, min, true, false, Bool}
+use Rattle.std.specs.Prelude.{◌≡◌, ℕ, ◌+◌, true, false, Bool}
 use Rattle.durable_records.specs.declared.coordinators.SessionRecord.{SessionRecord}
 use Rattle.durable_records.specs.declared.coordinators.SessionRecord.TheVariants as log
 use Rattle.retry_turns.specs.Plans.{Plans, is_planned, with_plan, without_plan}
 use Rattle.session_memory.specs.Changes.{may_come, after}
 use Rattle.coordinator_rules.specs.declared.moments.Moments.{Moments}
 use Rattle.coordinator_rules.specs.Knowledge.{Knowledge, SameTimes}
-
--- a moment, as far as it can be kept: no clock comes to the last one
-abbrev pub kept_moment : ℕ → ℕ
-kept_moment moment = min moment (2 ^ 64 - 1)
 
 -- ---- before a record
 
@@ -31,11 +27,15 @@ withdrawn _ m = m
 -- planned no more once it failed or is finished, and doesn't rest once it is forgotten
 abbrev pub settled : (retry now : ℕ) → SessionRecord → Moments → Moments
 settled retry now (log.Ended xid branch) m = record m { turns = with_plan m.turns xid.0 now }
-settled retry now (log.Retrying xid) m = record m { turns = with_plan m.turns xid.0 (kept_moment (now + retry)) }
+settled retry now (log.Retrying xid) m = record m { turns = with_plan m.turns xid.0 (now + retry) }
 settled retry now (log.Failed xid branch stmt) m = record m { turns = without_plan m.turns xid.0 }
 settled retry now (log.Finished xid) m = record m { turns = without_plan m.turns xid.0 }
 settled retry now (log.Forgot xid) m = record m { rests = without_plan m.rests xid.0 }
 settled retry now _ m = m
+
+-- a planned transaction is planned for this moment
+abbrev pub Replans : (x at : ℕ) → (old new : Plans) → Type 0
+Replans x at old new = is_planned old x ≡ true → new ≡ with_plan old x at
 
 -- the transaction that a record plans anew is planned
 abbrev pub IsPlannedFor : SessionRecord → Plans → Type 0
@@ -59,7 +59,7 @@ pub record Makes (old new : Knowledge) (r : SessionRecord) (now : ℕ) : Type 0 
 
 -- transaction x is planned `retry` ticks later, and all else stays
 pub record PlansAgain (old new : Knowledge) (x now : ℕ) : Type 0 where
-  pub turns : new.moments.turns ≡ with_plan old.moments.turns x (kept_moment (now + old.retry))
+  pub turns : new.moments.turns ≡ with_plan old.moments.turns x (now + old.retry)
   pub rests : new.moments.rests ≡ old.moments.rests
   pub memory : new.memory ≡ old.memory
   pub same : SameTimes old new

@@ -1,5 +1,5 @@
 -- Which transaction a turn takes, and which branch is asked, by what a coordinator knows.
-use Rattle.std.specs.Prelude.{ℕ, ◌+◌, ◌&&◌, nat_lt, nat_le, Bool, true, false, not, if◌then◌else◌, Option, Some, None, option_map, List, [], ◌∷◌, find}
+use Rattle.std.specs.Prelude.{ℕ, ◌+◌, ◌&&◌, nat_lt, nat_le, Bool, false, not, Option, Some, None, option_map}
 use Rattle.std.specs.Option.{option_and_then}
 use Rattle.seata_types.specs.declared.ids.Leg.{Leg}
 use Rattle.seata_types.specs.declared.ids.Ticket.{Ticket}
@@ -15,10 +15,9 @@ use Rattle.session_log.specs.declared.sessions.RegisterPlace.{RegisterPlace}
 use Rattle.session_log.specs.declared.sessions.Session.{Session}
 use Rattle.session_log.specs.declared.sessions.SessionEntry.{SessionEntry}
 use Rattle.session_log.specs.declared.sessions.Snapshot.{Snapshot}
-use Rattle.session_log.specs.Soundness.{is_open_branch}
-use Rattle.session_memory.specs.Changes.{is_begin, is_finished}
+use Rattle.session_memory.specs.Changes.{is_begin, is_finished, is_open}
 use Rattle.session_memory.specs.Holding.{keeps_rows}
-use Rattle.session_memory.specs.Lookups.{or_else, ticket_leg, call_leg}
+use Rattle.session_memory.specs.Lookups.{ticket_leg, call_leg, next_open, status_in}
 use Rattle.coordinator_rules.specs.declared.questions.Question.{Question}
 
 -- the timeout of a transaction is over
@@ -45,13 +44,12 @@ is_by forget now (Some since) = nat_le (since + forget) now
 abbrev pub is_old_entry : Plans → (forget now : ℕ) → SessionEntry → Bool
 is_old_entry rests forget now e = is_finished e.session.status && (nat_lt 0 forget && is_by forget now (moment_of rests e.xid.0))
 
-abbrev pub if_open : Branch → Option Branch
-if_open b = if is_open_branch b then Some b else None
+-- an unended branch of a transaction that commits, and of one that rolls back
+abbrev pub commits_here : Snapshot → Leg → Bool
+commits_here s leg = not (keeps_rows (status_in s leg.xid.0)) && is_open s leg.xid.0 leg.branch.0
 
--- the last branch that isn't ended
-abbrev pub last_open : List Branch → Option Branch
-last_open [] = None
-last_open (b ∷ bs) = or_else (last_open bs) (if_open b)
+abbrev pub rolls_here : Snapshot → Leg → Bool
+rolls_here s leg = is_rolling (status_in s leg.xid.0) && is_open s leg.xid.0 leg.branch.0
 
 -- the number of no transaction
 abbrev pub nobody : Xid
@@ -66,11 +64,6 @@ abbrev pub leg_in : Snapshot → Xid → RegisterPlace → Option Leg
 leg_in s x p = leg_of_kind s x p.resource p.call p.ticket p.kind
 
 -- ---- questions
-
--- the branch that is asked next: after a commit the first one that isn't ended, else the last one
-abbrev pub next_open : Bool → List Branch → Option Branch
-next_open true bs = find is_open_branch bs
-next_open false bs = last_open bs
 
 abbrev pub question_to : Session → Branch → Question
 question_to t b = record {

@@ -28,6 +28,17 @@ MessageCosts (message.Register xid resource call ticket kind hold check) s old n
     (d : ℕ) → held_rows s + length hold < 2 ^ d → new ≤ old + 3 + (2 * length hold + length check) * d
 MessageCosts _ s old new = Unit {0}
 
+-- The steps that its answer takes at most, before its rows are held: for each binary digit of the number of rows that are held one
+-- comparison for each of its rows, and the three look-ups.
+abbrev pub AnswerCosts : Message → Snapshot → (old new : ℕ) → Type 0
+AnswerCosts (message.Register xid resource call ticket kind hold check) s old new =
+    (d : ℕ) → held_rows s < 2 ^ d → new ≤ old + 3 + (length hold + length check) * d
+AnswerCosts _ s old new = Unit {0}
+
+abbrev pub AnswersCost : Input → Snapshot → (old new : ℕ) → Type 0
+AnswersCost (input.Message from heard) s old new = AnswerCosts heard s old new
+AnswersCost _ s old new = Unit {0}
+
 abbrev pub InputCosts : Input → Snapshot → (old new : ℕ) → Type 0
 InputCosts (input.Message from heard) s old new = MessageCosts heard s old new
 InputCosts _ s old new = Unit {0}

@@ -14,7 +14,6 @@ use Rattle.session_log.specs.SnapshotOf.{snapshot_of}
 use Rattle.session_memory.specs.Order.{AreRising}
 use Rattle.coordinator_rules.specs.declared.moments.Moments.{Moments}
 use Rattle.coordinator_rules.specs.Knowledge.{Knowledge}
-use Rattle.coordinator_rules.specs.Changes.{kept_moment}
 
 -- own entries of a coordinator, over the records that its disks had before
 pub record Course : Type 0 where
@@ -54,7 +53,7 @@ pub record Tracks (memory : Snapshot) (moments : Moments) (rs : List SessionReco
   pub known : memory ≡ snapshot_of rs
   pub turns_in_order : AreInOrder moments.turns
   pub rests_in_order : AreInOrder moments.rests
-  pub planned : (x : ℕ) → moment_of moments.turns x ≡ (if is_going rs x then Some (kept_moment (due_at x)) else None)
+  pub planned : (x : ℕ) → moment_of moments.turns x ≡ (if is_going rs x then Some (due_at x) else None)
   pub resting : (x : ℕ) → moment_of moments.rests x ≡ (if is_finished rs x then Some (rested x) else None)
 
 -- it is what is known after these own entries

@@ -1,11 +1,11 @@
 //! The answers of branches in their second phase.
-ghost use Rattle.std.specs.Prelude.{◌≡◌, ◌&&◌, not};
+ghost use Rattle.std.specs.Prelude.{◌≡◌};
 ghost use Rattle.seata_types.specs.declared.messages.Message.TheVariants as message;
 ghost use Rattle.durable_records.specs.Progress.{has_retrying};
-ghost use Rattle.session_memory.specs.Changes.{is_begin, is_open};
-ghost use Rattle.session_memory.specs.Holding.{keeps_rows};
+ghost use Rattle.session_memory.specs.Changes.{is_open};
 ghost use Rattle.session_memory.specs.Lookups.{status_in};
 ghost use Rattle.coordinator_rules.specs.Answers.{Hears};
+ghost use Rattle.coordinator_rules.specs.Choices.{commits_here, rolls_here};
 ghost use Rattle.coordinator_rules.specs.Looked as looked;
 
 use crate::answers::Answer;
@@ -24,7 +24,8 @@ pub(crate) fn branch_committed(
     stmt: u16,
     now: u64,
 ) -> Answer
-    ensures { Hears memory.now (message.BranchCommitted leg.xid leg.branch status stmt) now result }
+    ensures { Hears memory.now
+        (message.BranchCommitted leg.xid leg.branch status stmt) now result }
 {
     if !may_commit(memory, leg) {
         return rests(Act::Ignored, None);
@@ -40,7 +41,8 @@ pub(crate) fn branch_rollbacked(
     stmt: u16,
     now: u64,
 ) -> Answer
-    ensures { Hears memory.now (message.BranchRollbacked leg.xid leg.branch status stmt) now result }
+    ensures { Hears memory.now
+        (message.BranchRollbacked leg.xid leg.branch status stmt) now result }
 {
     if !may_roll_back(memory, leg) {
         return rests(Act::Ignored, None);
@@ -50,14 +52,14 @@ pub(crate) fn branch_rollbacked(
 
 // Whether this is an unended branch of a transaction that commits.
 fn may_commit(memory: &Memory, leg: Leg) -> bool
-    ensures { result ≡ (not (keeps_rows (status_in memory.now leg.xid.0)) && is_open memory.now leg.xid.0 leg.branch.0) }
+    ensures { result ≡ commits_here memory.now leg }
 {
     kinds::is_committing(memory.status(leg.xid)) && is_open(memory, leg)
 }
 
 // Whether this is an unended branch of a transaction that rolls back.
 fn may_roll_back(memory: &Memory, leg: Leg) -> bool
-    ensures { result ≡ ((keeps_rows (status_in memory.now leg.xid.0) && not (is_begin (status_in memory.now leg.xid.0))) && is_open memory.now leg.xid.0 leg.branch.0) }
+    ensures { result ≡ rolls_here memory.now leg }
 {
     kinds::is_rolling(memory.status(leg.xid)) && is_open(memory, leg)
 }

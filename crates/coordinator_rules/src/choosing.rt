@@ -1,17 +1,16 @@
 //! Which transaction a turn takes, and which branch is asked.
-ghost use Rattle.std.specs.Prelude.{◌≡◌, ◌&&◌, ◌≤◌, nat_lt, nat_le, find, option_map, IfOk};
+ghost use Rattle.std.specs.Prelude.{◌≡◌, ◌&&◌, nat_lt, find, option_map, IfOk};
 ghost use Rattle.std.specs.Option.{option_copied};
 ghost use Rattle.lock_table.specs.Locks.{first_held};
-ghost use Rattle.session_log.specs.Soundness.{is_open_branch};
 ghost use Rattle.session_memory.specs.Lookups.{xid_of};
 ghost use Rattle.session_memory.specs.Changes.{is_begin};
-ghost use Rattle.coordinator_rules.specs.Choices.{is_late_entry, is_old_entry, is_by, last_open, nobody, has_passed, has_passed_in};
+ghost use Rattle.coordinator_rules.specs.Choices.{is_late_entry, is_old_entry, is_by, nobody, has_passed, has_passed_in};
 
 use crate::kinds;
 use lock_table::{LockTable, Steps};
 use retry_turns::Turns;
 use seata_types::{Duplicate, NoMemory, RowKey, Xid};
-use session_log::{Branch, Session, SessionEntry};
+use session_log::{Session, SessionEntry};
 use std::alloc::Global;
 use std::sync::ledger::Ledger;
 
@@ -51,11 +50,11 @@ pub(crate) fn least_late(sessions: &[SessionEntry], now: u64) -> Option<Xid>
 }
 
 // Whether `forget` ticks, which isn't 0, have gone by.
-fn is_by(since: Option<u64>, forget: u64, now: u64) -> bool
+fn is_by(since: Option<u128>, forget: u64, now: u64) -> bool
     ensures { result ≡ (nat_lt 0 forget && is_by forget now since) }
 {
     match since {
-        Some(since) => forget > 0 && now.saturating_sub(since) >= forget,
+        Some(since) => forget > 0 && (now as u128).saturating_sub(since) >= forget as u128,
         None => false,
     }
 }
@@ -90,31 +89,6 @@ pub(crate) fn least_old(
         }
     }
     None
-}
-
-/// The first branch that isn't ended.
-pub(crate) fn first_open(branches: &[Branch]) -> Option<&Branch>
-    ensures { option_copied result ≡ find is_open_branch branches.now }
-{
-    for branch in branches {
-        if !branch.ended {
-            return Some(branch);
-        }
-    }
-    None
-}
-
-/// The last branch that isn't ended.
-pub(crate) fn last_open(branches: &[Branch]) -> Option<&Branch>
-    ensures { option_copied result ≡ last_open branches.now }
-{
-    let mut found = None;
-    for branch in branches {
-        if !branch.ended {
-            found = Some(branch);
-        }
-    }
-    found
 }
 
 /// The first of these rows that a transaction holds, with the transaction.

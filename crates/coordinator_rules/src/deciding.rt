@@ -1,17 +1,13 @@
 //! Transactions begin, and are decided.
 ghost use Rattle.std.specs.Prelude.{◌≡◌, ℕ, true, if◌then◌else◌};
 ghost use Rattle.seata_types.specs.declared.ids.Place.TheVariants as place;
-ghost use Rattle.seata_types.specs.declared.messages.Input.TheVariants as input;
 ghost use Rattle.seata_types.specs.declared.messages.Message.TheVariants as message;
 ghost use Rattle.seata_types.specs.declared.statuses.Decision.TheVariants as decision;
 ghost use Rattle.durable_records.specs.SessionOrder.{is_counted};
-ghost use Rattle.history_rules.specs.CoordinatorMemory.{Times};
 ghost use Rattle.history_rules.specs.Own as own;
-ghost use Rattle.coordinator_rules.specs.Answers.{Answers, Hears, answer};
+ghost use Rattle.coordinator_rules.specs.Answers.{Hears, HearsFrom, answer};
 ghost use Rattle.coordinator_rules.specs.Framing.{SendsFramable};
-ghost use Rattle.coordinator_rules.specs.Knowledge.{knows};
 ghost use Rattle.coordinator_rules.specs.Naming.{ActNames, IsNamed};
-ghost use Rattle.coordinator_rules.specs.declared.moments.Moments.{Moments};
 
 use crate::answers::Answer;
 use crate::telling::sends;
@@ -46,15 +42,15 @@ pub(crate) fn begin(memory: &Memory, manager: u16, timeout: u64, now: u64) -> An
 fn begun(act: Act, manager: u16, xid: Xid, asked: Option<SessionRecord>) -> Answer
     ensures value { result ≡ answer asked (own.sends act (place.Man manager) (message.Begun xid)) }
     ensures framable { SendsFramable result.step }
-    ensures named { (managers resources : ℕ) → ActNames resources act → is_counted managers manager ≡ true → IsNamed managers resources result.step }
+    ensures named { (managers resources : ℕ) → ActNames resources act →
+        is_counted managers manager ≡ true → IsNamed managers resources result.step }
 {
     sends(act, Place::Man(manager), Message::Begun { xid }, asked)
 }
 
 /// Answers a GlobalCommit: past its timeout a transaction is rolled back.
 pub(crate) fn commit(memory: &Memory, from: Place, xid: Xid, now: u64) -> Answer
-    ensures { (times : Times) (m : Moments) →
-        Answers (knows times memory.now m) (input.Message from (message.GlobalCommit xid)) now result }
+    ensures { HearsFrom memory.now from (message.GlobalCommit xid) now result }
 {
     let status = memory.status(xid);
     if !kinds::is_begin(status) {
@@ -86,8 +82,7 @@ fn commit_or_timeout(past: bool) -> Decision
 
 /// Answers a GlobalRollback.
 pub(crate) fn roll_back(memory: &Memory, from: Place, xid: Xid, now: u64) -> Answer
-    ensures { (times : Times) (m : Moments) →
-        Answers (knows times memory.now m) (input.Message from (message.GlobalRollback xid)) now result }
+    ensures { HearsFrom memory.now from (message.GlobalRollback xid) now result }
 {
     let status = memory.status(xid);
     if !kinds::is_begin(status) {
@@ -108,8 +103,7 @@ pub(crate) fn roll_back(memory: &Memory, from: Place, xid: Xid, now: u64) -> Ans
 
 /// Answers a question for a status.
 pub(crate) fn tell(memory: &Memory, from: Place, xid: Xid, now: u64) -> Answer
-    ensures { (times : Times) (m : Moments) →
-        Answers (knows times memory.now m) (input.Message from (message.GlobalStatus xid)) now result }
+    ensures { HearsFrom memory.now from (message.GlobalStatus xid) now result }
 {
     let status = memory.status(xid);
     let message = Message::StatusAnswer { xid, status };

@@ -19,7 +19,6 @@ pub mod uncounted;
 
 pub use answers::Answer;
 pub use moments::Moments;
-pub use registering::{before_rows, conflict, granted};
 pub use ruling::answer;
 pub use starting::{start_of, started};
-pub use turning::{turn, turn_by};
+pub use turning::turn;

@@ -13,9 +13,9 @@ pub struct Moments {
 }
 
 impl Moments {
-    ghost use Rattle.std.specs.Prelude.{◌≡◌, ◌+◌, [], true, OnOk, OnErr};
-    ghost use Rattle.retry_turns.specs.Plans.{is_planned, with_plan};
-    ghost use Rattle.coordinator_rules.specs.Changes.{prepared, withdrawn, settled, kept_moment, GivesUp, IsPlannedFor};
+    ghost use Rattle.std.specs.Prelude.{◌≡◌, ◌+◌, [], OnOk, OnErr};
+    ghost use Rattle.retry_turns.specs.Plans.{with_plan};
+    ghost use Rattle.coordinator_rules.specs.Changes.{prepared, withdrawn, settled, GivesUp, IsPlannedFor, Replans};
 
     /// Nothing is planned, and nothing rests; takes no memory.
     pub fn new(alloc: Global) -> Moments
@@ -53,11 +53,12 @@ impl Moments {
 
     /// After a record that was prepared.
     pub fn settle(&mut self, item: &SessionRecord, now: u64, retry: u64)
-        ensures { IsPlannedFor item.now self.old.turns → self.new ≡ settled retry now item.now self.old }
+        ensures { IsPlannedFor item.now self.old.turns →
+            self.new ≡ settled retry now item.now self.old }
     {
         match item {
             SessionRecord::Ended { xid, .. } => self.replan(*xid, now),
-            SessionRecord::Retrying { xid } => self.replan(*xid, now.saturating_add(retry)),
+            SessionRecord::Retrying { xid } => self.replan_after(*xid, now, retry),
             SessionRecord::Failed { xid, .. } => self.turns.forget(*xid),
             SessionRecord::Finished { xid } => self.turns.forget(*xid),
             SessionRecord::Forgot { xid } => self.rests.forget(*xid),
@@ -78,18 +79,26 @@ impl Moments {
 
     /// A transaction is due again `retry` ticks later. After an error all is as before.
     pub fn plan_again(&mut self, xid: Xid, now: u64, retry: u64) -> Result<(), NoMemory>
-        ensures ok { OnOk result (self.new.turns ≡ with_plan self.old.turns xid.0 (kept_moment (now + retry))) }
+        ensures ok { OnOk result (self.new.turns ≡ with_plan self.old.turns xid.0 (now + retry)) }
         ensures rests { self.new.rests ≡ self.old.rests }
         ensures err { OnErr result (self.new ≡ self.old) }
     {
-        self.turns.plan(xid, now.saturating_add(retry))
+        self.turns.plan_after(xid, now, retry)
     }
 
     // A transaction that is planned is planned for another moment, which takes no memory.
     fn replan(&mut self, xid: Xid, at: u64)
-        ensures planned { is_planned self.old.turns xid.0 ≡ true → self.new.turns ≡ with_plan self.old.turns xid.0 at }
+        ensures planned { Replans xid.0 at self.old.turns self.new.turns }
         ensures rests { self.new.rests ≡ self.old.rests }
     {
         drop(self.turns.plan(xid, at));
+    }
+
+    // The same for the moment so many ticks after another one.
+    fn replan_after(&mut self, xid: Xid, moment: u64, ticks: u64)
+        ensures planned { Replans xid.0 (moment + ticks) self.old.turns self.new.turns }
+        ensures rests { self.new.rests ≡ self.old.rests }
+    {
+        drop(self.turns.plan_after(xid, moment, ticks));
     }
 }

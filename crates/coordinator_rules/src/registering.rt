@@ -1,23 +1,16 @@
 //! Branches are registered, and rows are asked for.
-ghost use Rattle.std.specs.Prelude.{◌≡◌, ◌≤◌, ◌+◌, ◌*◌, ◌++◌, length, Some, None, IfOk, IfSome};
-ghost use Rattle.seata_types.specs.declared.ids.Place.{Place as Places};
-ghost use Rattle.seata_types.specs.declared.messages.Input.TheVariants as input;
+ghost use Rattle.std.specs.Prelude.{◌≡◌, ◌≤◌, ◌+◌, length, Some, None, IfOk, IfSome};
 ghost use Rattle.seata_types.specs.declared.messages.Message.TheVariants as message;
 ghost use Rattle.seata_types.specs.declared.statuses.Decision.TheVariants as how;
 ghost use Rattle.durable_records.specs.declared.coordinators.SessionRecord.TheVariants as log;
-ghost use Rattle.history_rules.specs.CoordinatorMemory.{Times};
-ghost use Rattle.lock_table.specs.Answers.{FindsConflict};
-ghost use Rattle.lock_table.specs.Locks.{TakesAtMost, first_held, locks};
-ghost use Rattle.session_memory.specs.Holding.{held_in};
-ghost use Rattle.coordinator_rules.specs.Answers.{Answers, Hears, IsSentBy, answer};
-ghost use Rattle.coordinator_rules.specs.Choices.{leg_in, nobody};
-ghost use Rattle.coordinator_rules.specs.Costs.{MessageCosts, MessagePasses, held_rows, passed};
+ghost use Rattle.lock_table.specs.Locks.{TakesAtMost};
+ghost use Rattle.coordinator_rules.specs.Answers.{Hears, HearsFrom, answer};
+ghost use Rattle.coordinator_rules.specs.Choices.{leg_in};
+ghost use Rattle.coordinator_rules.specs.Costs.{AnswerCosts, MessagePasses, held_rows, passed};
 ghost use Rattle.coordinator_rules.specs.Framing.{SendsFramable};
-ghost use Rattle.coordinator_rules.specs.Knowledge.{knows};
 ghost use Rattle.coordinator_rules.specs.Naming.{NamesResource};
-ghost use Rattle.coordinator_rules.specs.Registering.{IsAnsweredFirst, IsConflict, granted_answer, registers, rows_answer};
+ghost use Rattle.coordinator_rules.specs.Registering.{IsAnsweredFirst, IsByRows, IsConflict, IsSentBack, granted_answer, registers};
 ghost use Rattle.coordinator_rules.specs.Steps.{regranted_step, closed_step, late_step, granted_step, conflict_step, held_step, IsFramableKey, IsFramableRow};
-ghost use Rattle.coordinator_rules.specs.declared.moments.Moments.{Moments};
 
 use crate::answers::Answer;
 use crate::telling::sends;
@@ -25,8 +18,8 @@ use crate::{choosing, kinds};
 use durable_records::SessionRecord;
 use lock_table::{HoldError, Steps};
 use seata_types::{
-    Act, BranchKind, Decision, Duplicate, Durable, GlobalStatus, Leg, List, Message, NoMemory,
-    Outgoing, Place, Registered, RowKey, Step, Ticket, Xid,
+    Act, BranchKind, Decision, Duplicate, Durable, GlobalStatus, Leg, Message, NoMemory, Outgoing,
+    Place, Registered, RowKey, Step, Ticket, Xid,
 };
 use session_log::RegisterPlace;
 use session_memory::Memory;
@@ -47,8 +40,10 @@ pub(crate) fn register<L: Ledger, P: Ledger>(
     passes: &mut Steps<P>,
 ) -> Result<Answer, NoMemory>
     ensures answers { IfOk result (Hears memory.now (registers xid place hold.now check.now) now) }
-    ensures cost { MessageCosts (registers xid place hold.now check.now) memory.now steps.old steps.new }
-    ensures passes { MessagePasses (registers xid place hold.now check.now) memory.now passes.old passes.new }
+    ensures cost { AnswerCosts (registers xid place hold.now check.now)
+        memory.now steps.old steps.new }
+    ensures passes { MessagePasses (registers xid place hold.now check.now)
+        memory.now passes.old passes.new }
 {
     match before_rows(memory, xid, place, now, steps, passes) {
         Some(answer) => Ok(answer),
@@ -56,10 +51,10 @@ pub(crate) fn register<L: Ledger, P: Ledger>(
     }
 }
 
-/// Answers a registration whatever its rows are: one of a branch that was registered before, one of a transaction that can't be
-/// decided any more, and one past its timeout. There is no answer where it goes by its rows. Takes no memory, two steps at most,
-/// and a pass for a transaction and for each branch of it that is passed.
-pub fn before_rows<L: Ledger, P: Ledger>(
+// Answers a registration whatever its rows are: one of a branch that was registered before, one of a transaction that can't be
+// decided any more, and one past its timeout. There is no answer where it goes by its rows. Takes no memory, two steps at most,
+// and a pass for a transaction and for each branch of it that is passed.
+fn before_rows<L: Ledger, P: Ledger>(
     memory: &Memory,
     xid: Xid,
     place: RegisterPlace,
@@ -68,7 +63,6 @@ pub fn before_rows<L: Ledger, P: Ledger>(
     passes: &mut Steps<P>,
 ) -> Option<Answer>
     ensures answered { IsAnsweredFirst memory.now xid place now result }
-    ensures decides { IfSome result (λ a. IfSome a.asked (λ r. r ≡ log.Decided xid how.Timeout)) }
     ensures cost { steps.new ≤ steps.old + 2 }
     ensures passes { passes.new ≤ passes.old + 1 + passed memory.now xid place.kind }
 {
@@ -113,14 +107,15 @@ fn by_rows<L: Ledger>(
     check: &[RowKey],
     steps: &mut Steps<L>,
 ) -> Result<Answer, NoMemory>
-    ensures value { IfOk result (λ a. a ≡ rows_answer memory.now xid place hold.now (first_held (held_in memory.now) xid (hold.now ++ check.now))) }
-    ensures sent { IfOk result (λ a. (from : Places) → IsSentBy (input.Message from (registers xid place hold.now check.now)) a.step) }
-    ensures cost { TakesAtMost (length hold.now + length check.now) (held_rows memory.now) (steps.old + 1) steps.new }
+    ensures value { IfOk result (IsByRows memory.now xid place hold.now check.now) }
+    ensures sent { IfOk result (IsSentBack (registers xid place hold.now check.now)) }
+    ensures cost { TakesAtMost (length hold.now + length check.now)
+        (held_rows memory.now) (steps.old + 1) steps.new }
 {
-    match conflict_among(alloc, memory, xid, hold, check, steps) {
+    match memory.conflict(alloc, xid, hold, check, steps) {
         Ok(()) => grant(alloc, memory, xid, place, hold),
         Err(HoldError::Held { key, by }) => {
-            match conflict(alloc, memory, xid, place, key, by, steps) {
+            match tell_conflict(alloc, memory, xid, place, key, by, steps) {
                 Ok(step) => Ok(Answer {
                     step,
                     asked: None,
@@ -130,24 +125,6 @@ fn by_rows<L: Ledger>(
             }
         }
         Err(HoldError::NoMemory) => Err(NoMemory),
-    }
-}
-
-// Whether another transaction holds a row, and the first one, of those to hold and then those to check.
-fn conflict_among<L: Ledger>(
-    alloc: Global,
-    memory: &Memory,
-    xid: Xid,
-    hold: &[RowKey],
-    check: &[RowKey],
-    steps: &mut Steps<L>,
-) -> Result<(), HoldError>
-    ensures found { FindsConflict (locks (held_in memory.now)) xid (hold.now ++ check.now) result }
-    ensures cost { TakesAtMost (length hold.now + length check.now) (held_rows memory.now) steps.old steps.new }
-{
-    match memory.conflict(alloc, xid, hold, steps) {
-        Ok(()) => memory.conflict(alloc, xid, check, steps),
-        Err(error) => Err(error),
     }
 }
 
@@ -163,33 +140,13 @@ fn grant(
     ensures framable { IfOk result (λ a. SendsFramable a.step) }
     ensures named { IfOk result (λ a. NamesResource place.resource a.step) }
 {
-    let hold = copies(alloc, hold)?;
     let branch = memory.next_branch();
-    let item = SessionRecord::Granted {
-        xid,
-        branch,
-        resource: place.resource,
-        call: place.call,
-        ticket: place.ticket,
-        kind: place.kind,
-        hold,
-    };
+    let item = session_memory::granted(alloc, xid, branch, place, hold)?;
     Ok(Answer {
         step: granted(place, Leg { xid, branch }),
         asked: Some(item),
         again: None,
     })
-}
-
-// Copies of these rows.
-fn copies(alloc: Global, rows: &[RowKey]) -> Result<List<RowKey>, NoMemory>
-    ensures { IfOk result (λ copied. copied ≡ rows.now) }
-{
-    let mut copied = Vec::new(alloc);
-    for row in rows {
-        copied.push(row.copy(alloc)?)?;
-    }
-    Ok(List::of(copied))
 }
 
 // The branch was registered before.
@@ -240,8 +197,8 @@ fn late(place: RegisterPlace, xid: Xid) -> Answer
     sends(act, Place::Res(place.resource), message, Some(item))
 }
 
-/// The step of a branch that is registered; takes no memory.
-pub fn granted(place: RegisterPlace, leg: Leg) -> Step
+// The step of a branch that is registered.
+fn granted(place: RegisterPlace, leg: Leg) -> Step
     ensures value { result ≡ granted_step place leg }
     ensures framable { SendsFramable result }
     ensures named { NamesResource place.resource result }
@@ -261,8 +218,8 @@ pub fn granted(place: RegisterPlace, leg: Leg) -> Step
     }
 }
 
-/// The step of a branch that isn't registered, since another transaction holds a row; one step looks this transaction up.
-pub fn conflict<L: Ledger>(
+// The step of a branch that isn't registered, since another transaction holds a row; one step looks this transaction up.
+fn tell_conflict<L: Ledger>(
     alloc: Global,
     memory: &Memory,
     xid: Xid,
@@ -327,8 +284,8 @@ pub(crate) fn query<L: Ledger>(
     now: u64,
     steps: &mut Steps<L>,
 ) -> Result<Answer, NoMemory>
-    ensures { IfOk result (λ a. (times : Times) (m : Moments) →
-        Answers (knows times memory.now m) (input.Message from (message.LockQuery resource ticket check.now)) now a) }
+    ensures { IfOk result
+        (HearsFrom memory.now from (message.LockQuery resource ticket check.now) now) }
 {
     let found = choosing::first_held(alloc, memory.locks(), check, steps)?;
     held(alloc, from, ticket, found)

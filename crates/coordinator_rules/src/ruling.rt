@@ -1,11 +1,7 @@
 //! The one answer of a coordinator to what it is given.
 ghost use Rattle.std.specs.Prelude.{IfOk};
-ghost use Rattle.seata_types.specs.declared.messages.Input.TheVariants as input;
-ghost use Rattle.history_rules.specs.CoordinatorMemory.{Times};
-ghost use Rattle.coordinator_rules.specs.Answers.{Answers, AnswersBy, ComesInTime};
-ghost use Rattle.coordinator_rules.specs.Costs.{InputCosts, InputPasses, MessageCosts, MessagePasses};
-ghost use Rattle.coordinator_rules.specs.Knowledge.{knows};
-ghost use Rattle.coordinator_rules.specs.declared.moments.Moments.{Moments as Kept};
+ghost use Rattle.coordinator_rules.specs.Answers.{AnswersBy, HearsFrom};
+ghost use Rattle.coordinator_rules.specs.Costs.{AnswerCosts, AnswersCost, InputPasses, MessagePasses};
 
 use crate::answers::Answer;
 use crate::moments::Moments;
@@ -34,9 +30,8 @@ pub fn answer<L: Ledger, P: Ledger>(
     steps: &mut Steps<L>,
     passes: &mut Steps<P>,
 ) -> Result<Answer, NoMemory>
-    requires { ComesInTime given.now now }
     ensures answers { IfOk result (AnswersBy forget memory.now moments.now given.now now) }
-    ensures cost { InputCosts given.now memory.now steps.old steps.new }
+    ensures cost { AnswersCost given.now memory.now steps.old steps.new }
     ensures passes { InputPasses given.now memory.now passes.old passes.new }
 {
     match given {
@@ -58,8 +53,8 @@ pub(crate) fn hear<L: Ledger, P: Ledger>(
     steps: &mut Steps<L>,
     passes: &mut Steps<P>,
 ) -> Result<Answer, NoMemory>
-    ensures answers { IfOk result (λ a. (times : Times) (m : Kept) → Answers (knows times memory.now m) (input.Message from message.now) now a) }
-    ensures cost { MessageCosts message.now memory.now steps.old steps.new }
+    ensures answers { IfOk result (HearsFrom memory.now from message.now now) }
+    ensures cost { AnswerCosts message.now memory.now steps.old steps.new }
     ensures passes { MessagePasses message.now memory.now passes.old passes.new }
 {
     match message {

@@ -1,11 +1,10 @@
 //! The turns of a coordinator.
-ghost use Rattle.std.specs.Prelude.{◌≡◌, ◌-◌, ◌<◌, ◌^◌, ℕ, true};
-ghost use Rattle.std.specs.Option.{option_copied};
+ghost use Rattle.std.specs.Prelude.{◌≡◌, ℕ, true};
 ghost use Rattle.frame_codec.specs.Limits.{IsFramable};
 ghost use Rattle.seata_types.specs.declared.messages.Input.TheVariants as input;
 ghost use Rattle.session_memory.specs.Lookups.{session_in};
-ghost use Rattle.coordinator_rules.specs.Answers.{AnswersBefore, AnswersBy, IsSentBy, later};
-ghost use Rattle.coordinator_rules.specs.Choices.{next_open, names_nodes, is_sendable, question_in, question_of, question_to};
+ghost use Rattle.coordinator_rules.specs.Answers.{AnswersBy, IsSentBy, later};
+ghost use Rattle.coordinator_rules.specs.Choices.{names_nodes, is_sendable, question_in, question_to};
 ghost use Rattle.coordinator_rules.specs.Framing.{SendsFramable};
 ghost use Rattle.coordinator_rules.specs.Looked as looked;
 ghost use Rattle.coordinator_rules.specs.Naming.{IsNamed};
@@ -17,30 +16,20 @@ use crate::questions::Question;
 use crate::telling::rests;
 use crate::{choosing, kinds, statuses};
 use durable_records::SessionRecord;
-use retry_turns::Turns;
 use seata_types::{Act, Decision, Durable, Message, Outgoing, Place, Step, Xid};
 use session_log::{Branch, Session};
 use session_memory::Memory;
 use session_memory::uncounted::allows;
 
-/// Takes a turn before the last moment, which is 2^64 - 1: a transaction past its timeout is rolled back, one that is due goes on,
-/// one that is old is forgotten.
+/// Takes a turn: a transaction past its timeout is rolled back, one that is due goes on, one that rests for `forget` ticks is
+/// forgotten, or none where that is 0. Takes no memory.
 pub fn turn(memory: &Memory, moments: &Moments, forget: u64, now: u64) -> Answer
-    requires { now < 2 ^ 64 - 1 }
     ensures { AnswersBy forget memory.now moments.now input.Turn now result }
-{
-    let due = moments.turns.next_due(now);
-    turn_by(memory, due, &moments.rests, forget, now)
-}
-
-/// Takes a turn at any moment, where the transaction that is due first is given; takes no memory. It rests since the moments of
-/// `rests`, and is forgotten after `forget` ticks, or never where that is 0.
-pub fn turn_by(memory: &Memory, due: Option<Xid>, rests: &Turns, forget: u64, now: u64) -> Answer
-    ensures { AnswersBefore due forget memory.now rests.now input.Turn now result }
 {
     let sessions = memory.snapshot().sessions.as_slice();
     let late = choosing::least_late(sessions, now);
-    let old = choosing::least_old(sessions, rests, forget, now);
+    let due = moments.turns.next_due(now);
+    let old = choosing::least_old(sessions, &moments.rests, forget, now);
     taken(memory, late, due, old)
 }
 
@@ -115,29 +104,9 @@ fn ask(memory: &Memory, xid: Xid) -> Answer
 fn question(memory: &Memory, xid: Xid) -> Option<Question>
     ensures { result ≡ question_in (session_in memory.now xid.0) }
 {
-    match memory.find(xid) {
-        Some(session) => question_of(session),
-        None => None,
-    }
-}
-
-fn question_of(session: &Session) -> Option<Question>
-    ensures { result ≡ question_of session.now }
-{
-    let commit = kinds::is_committing(session.status);
-    let branch = next_open(commit, session.branches.as_slice())?;
+    let session = memory.find(xid)?;
+    let branch = memory.next_open(xid, kinds::is_committing(session.status))?;
     Some(question_to(session, branch))
-}
-
-// The branch that is asked next: branches commit in their order, and roll back from the last one on.
-fn next_open(commit: bool, branches: &[Branch]) -> Option<&Branch>
-    ensures { option_copied result ≡ next_open commit branches.now }
-{
-    if commit {
-        choosing::first_open(branches)
-    } else {
-        choosing::last_open(branches)
-    }
 }
 
 fn question_to(session: &Session, branch: &Branch) -> Question
@@ -157,7 +126,8 @@ fn question_to(session: &Session, branch: &Branch) -> Question
 fn asked(xid: Xid, question: Question) -> Answer
     ensures value { result ≡ later xid (asked_step xid question) }
     ensures framable { is_sendable question ≡ true → SendsFramable result.step }
-    ensures named { (managers resources : ℕ) → names_nodes managers resources question ≡ true → IsNamed managers resources result.step }
+    ensures named { (managers resources : ℕ) →
+        names_nodes managers resources question ≡ true → IsNamed managers resources result.step }
 {
     let act = Act::Asked {
         xid,

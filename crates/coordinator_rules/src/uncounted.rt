@@ -1,16 +1,12 @@
-//! The answer whose comparisons nobody counts, at any moment.
+//! The answer whose comparisons nobody counts.
 ghost use Rattle.std.specs.Prelude.{◌≡◌, ◌<◌, IfOk};
-ghost use Rattle.seata_types.specs.declared.messages.Input.TheVariants as input;
-ghost use Rattle.history_rules.specs.CoordinatorMemory.{Times};
-ghost use Rattle.coordinator_rules.specs.Answers.{Answers, AnswersBefore};
-ghost use Rattle.coordinator_rules.specs.Knowledge.{knows};
-ghost use Rattle.coordinator_rules.specs.declared.moments.Moments.{Moments as Kept};
+ghost use Rattle.coordinator_rules.specs.Answers.{AnswersBy, HearsFrom};
 
 use crate::answers::Answer;
+use crate::moments::Moments;
 use crate::{ruling, telling, turning};
 use lock_table::Steps;
-use retry_turns::Turns;
-use seata_types::{Act, Input, Message, NoMemory, Place, Xid};
+use seata_types::{Act, Input, Message, NoMemory, Place};
 use session_memory::Memory;
 use std::alloc::Global;
 use std::marker::Brand;
@@ -31,8 +27,7 @@ fn hear_by<L: Ledger, P: Ledger>(
     requires other_name { other.name ≡ P.name }
     requires other_parts { other.parts ≡ P.parts }
     requires other_some { 0 < other.parts }
-    ensures { IfOk result (λ a. (times : Times) (m : Kept) →
-        Answers (knows times memory.now m) (input.Message from message.now) now a) }
+    ensures { IfOk result (HearsFrom memory.now from message.now now) }
 {
     let mut steps = Steps::<L>::new(blank);
     let mut passes = Steps::<P>::new(other);
@@ -47,8 +42,7 @@ fn hear(
     message: &Message,
     now: u64,
 ) -> Result<Answer, NoMemory>
-    ensures { IfOk result (λ a. (times : Times) (m : Kept) →
-        Answers (knows times memory.now m) (input.Message from message.now) now a) }
+    ensures { IfOk result (HearsFrom memory.now from message.now now) }
 {
     hear_by::<Brand, Brand>(
         alloc,
@@ -61,22 +55,20 @@ fn hear(
     )
 }
 
-/// Answers an input by the rules of the coordinator, at any moment, where the transaction that is due first at a turn is given.
-/// Finished transactions rest since the moments of `rests`, and are forgotten after `forget` ticks, or never where that is 0.
-/// Nothing changes, and without memory there is no answer.
+/// Answers an input by the rules of the coordinator, which forgets a finished transaction after `forget` ticks, or never where that
+/// is 0. Nothing changes, and without memory there is no answer.
 pub fn answer(
     alloc: Global,
     memory: &Memory,
-    due: Option<Xid>,
-    rests: &Turns,
+    moments: &Moments,
     forget: u64,
     given: &Input,
     now: u64,
 ) -> Result<Answer, NoMemory>
-    ensures { IfOk result (AnswersBefore due forget memory.now rests.now given.now now) }
+    ensures { IfOk result (AnswersBy forget memory.now moments.now given.now now) }
 {
     match given {
-        Input::Turn => Ok(turning::turn_by(memory, due, rests, forget, now)),
+        Input::Turn => Ok(turning::turn(memory, moments, forget, now)),
         Input::Message { from, message } => hear(alloc, memory, *from, message, now),
         Input::Local { .. } | Input::Outside { .. } => Ok(telling::rests(Act::Ignored, None)),
     }

@@ -41,7 +41,9 @@ pub fn read_entry(alloc: Global, line: &str, names: &Names) -> Result<Entry, Lin
 
 /// Whether the entry is printed as this line.
 fn is_line(alloc: Global, names: &Names, entry: &Entry, line: &str) -> Result<bool, NoMemory>
-    ensures { IfOk result (λ is. is ≡ (same_text (entry_text names.now entry.entry.now) line.now && writable.is_entry names.now entry.entry.now)) }
+    ensures { IfOk result (λ is. is ≡
+        (same_text (entry_text names.now entry.entry.now) line.now &&
+        writable.is_entry names.now entry.entry.now)) }
 {
     let text = write_entry(alloc, entry, names)?;
     Ok(text.as_str() == line && is_entry(names, entry))

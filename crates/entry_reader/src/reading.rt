@@ -23,7 +23,8 @@ fn entry_by(
     act_pieces: &[List<u8>],
     sent_pieces: &[List<u8>],
 ) -> Result<Entry, NoMemory>
-    ensures { IfOk result (λ found. found ≡ spec.entry_by names.now origin.now act_pieces.now sent_pieces.now) }
+    ensures { IfOk result (λ found. found ≡
+        spec.entry_by names.now origin.now act_pieces.now sent_pieces.now) }
 {
     let at = place(names, piece(origin, 1));
     let sent = sent(alloc, names, resource_at(at), further(sent_pieces, 1))?;

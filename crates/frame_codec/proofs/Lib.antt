@@ -4,6 +4,6 @@ pub mod MessageLaws
 pub mod HeadLaws
 pub mod FrameLaws
 pub mod Lengths
-pub mod PacketLaws
 pub mod LaterBytes
 pub mod FeedLaws
+pub mod Sendable

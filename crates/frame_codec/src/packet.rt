@@ -1,30 +1,38 @@
-//! A message on its way, as its frame.
+//! A message on its way, with its frame.
 ghost use Rattle.std.specs.Prelude.{◌≡◌, ◌<◌, IfOk};
 ghost use Rattle.frame_codec.specs.Frames.{frame_bytes};
 ghost use Rattle.frame_codec.specs.Limits.{IsFramable};
 
-use crate::errors::FrameError;
-use crate::{decoding, encoding};
-use seata_types::{Message, NoMemory};
+use crate::encoding;
+use seata_types::{Duplicate, Message, NoMemory};
 use std::alloc::Global;
 use std::marker::Model;
 
-/// The one frame of a message that may be sent. Contracts see the message and its stamp.
+/// A message with a stamp, and the frame of both.
 #[derive(Drop)]
-pub struct Packet {
+struct Kept {
+    message: Message,
+    stamp: u32,
     bytes: Vec<u8>,
 }
 
+/// The one frame of a message that may be sent. Contracts see the message and its stamp. The message is kept beside its frame,
+/// so that opening reads no bytes again; what is moved about is one pointer.
+#[derive(Drop)]
+pub struct Packet {
+    kept: Box<Kept>,
+}
+
 impl Model for Packet {
-    ghost use Rattle.frame_codec.specs.Packets.{Sent, sent_code, sent_in, IsPacket};
+    ghost use Rattle.frame_codec.specs.Packets.{Sent, sent_code, IsPacket};
 
     ghost Value = { Sent };
 
     ghost coded = { sent_code };
 
-    ghost view = { λ p. sent_in p.bytes.items };
+    ghost view = { λ p. record { message = p.kept.value.message; stamp = p.kept.value.stamp } };
 
-    ghost invariant = { λ p. IsPacket p.bytes.items };
+    ghost invariant = { λ p. IsPacket p.kept.value.message p.kept.value.stamp p.kept.value.bytes.items };
 }
 
 /// The frame of a message with the stamp of the entry that sends it.
@@ -33,7 +41,16 @@ pub fn encode(alloc: Global, message: &Message, stamp: u32) -> Result<Packet, No
     ensures { IfOk result (λ packet. packet ≡ record { message = message.now; stamp = stamp }) }
 {
     let bytes = encoding::frame(alloc, message, stamp)?;
-    Ok(Packet { bytes })
+    let message = message.copy(alloc)?;
+    let kept = Box::new(
+        alloc,
+        Kept {
+            message,
+            stamp,
+            bytes,
+        },
+    )?;
+    Ok(Packet { kept })
 }
 
 impl Packet {
@@ -42,7 +59,7 @@ impl Packet {
         ensures frame { result.now ≡ frame_bytes self.now.message self.now.stamp }
         ensures framable { IsFramable self.now.message }
     {
-        self.bytes.as_slice()
+        self.kept.bytes.as_slice()
     }
 
     /// The message and its stamp again.
@@ -51,13 +68,7 @@ impl Packet {
         ensures stamp { IfOk result (λ opened. opened.1 ≡ self.now.stamp) }
         ensures framable { IsFramable self.now.message }
     {
-        match decoding::decode(alloc, &self.bytes) {
-            Ok((message, stamp, _)) => Ok((message, stamp)),
-            // The bytes are a frame, so nothing else is wrong with them.
-            Err(fault) => match fault {
-                FrameError::NoMemory => Err(NoMemory),
-                _ => unreachable!(),
-            },
-        }
+        let message = self.kept.message.copy(alloc)?;
+        Ok((message, self.kept.stamp))
     }
 }

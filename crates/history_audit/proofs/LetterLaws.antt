@@ -12,13 +12,14 @@ use Rattle.history_law.proofs.Deliveries.{one_place}
 use Rattle.history_law.proofs.Tests.{and_right}
 use Rattle.history_text.specs.declared.entries.Cause.{Cause}
 use Rattle.history_text.specs.declared.entries.Cause.TheVariants as cause
+use Rattle.history_text.specs.declared.entries.Origin.{Origin}
+use Rattle.history_text.specs.Origins.{origin_cmp, origin_of}
+use Rattle.history_text.proofs.OriginLaws.{origin_exact, origin_test, origin_total}
 use Rattle.verdict_law.specs.Verdicts.{reason_of}
 use Rattle.judged_devices.specs.declared.events.Event.{Event as Brought}
 use Rattle.judged_devices.specs.Taking.{event_of}
 use Rattle.history_audit.specs.declared.kept.Letters.{Letters}
 use Rattle.history_audit.specs.Letters.{AddsLetter, AreLetters, Notes, NotesSent, has_number, letter_at, message_by, with_letter, with_sender, with_sent}
-use Rattle.history_audit.specs.Order.{Spot, origin, origin_cmp}
-use Rattle.history_audit.proofs.Origins.{origin_exact, origin_test, origin_total}
 
 -- ---- one message more
 
@@ -26,14 +27,14 @@ abbrev found_after : Option Outgoing → (is_new : Bool) → Option Outgoing →
 found_after None is_new before = before
 found_after (Some out) is_new before = cond is_new (Some out) before
 
-abbrev found_at : List (Spot × Outgoing) → ℕ → Place → Option Outgoing
-found_at sent stamp from = lookup (is_at (origin_cmp (origin stamp from))) sent
+abbrev found_at : List (Origin × Outgoing) → ℕ → Place → Option Outgoing
+found_at sent stamp from = lookup (is_at (origin_cmp (origin_of stamp from))) sent
 
-placed : (sent : List (Spot × Outgoing)) (o : Option Outgoing) (at : ℕ) (from : Place) (stamp : ℕ) (p : Place)
+placed : (sent : List (Origin × Outgoing)) (o : Option Outgoing) (at : ℕ) (from : Place) (stamp : ℕ) (p : Place)
     → found_at (with_sent sent at from o) stamp p ≡ found_after o ((at == stamp) && same_place from p) (found_at sent stamp p)
 placed sent None at from stamp p = refl
 placed sent (Some out) at from stamp p =
-    at_insert origin_cmp origin_total origin_exact sent (origin at from) out (origin stamp p)
+    at_insert origin_cmp origin_total origin_exact sent (origin_of at from) out (origin_of stamp p)
     ∙ ap (λ b. cond b (Some out) (found_at sent stamp p)) (origin_test at from stamp p)
 
 finds_by : (m : Moment) (p : Place) (sent : Option Outgoing) (is_new : Bool) → (is_new ≡ true → m.place ≡ p) → (old : Option Outgoing) (before : Option (Place × Outgoing))
@@ -59,7 +60,7 @@ numbers_by m stamp (Some out) old new before noted same = noted stamp ∙ some (
 pub next_letters : (old new : Letters) (ms : List Moment) (m : Moment) → AreLetters old ms → AddsLetter old new m.stamp m.place m.step.sent → AreLetters new (m ∷ ms)
 next_letters old new ms m are adds = record {
   finds = λ stamp p.
-      ap (λ (sent : List (Spot × Outgoing)). letter_at sent stamp p) adds.letters
+      ap (λ (sent : List (Origin × Outgoing)). letter_at sent stamp p) adds.letters
       ∙ ap (option_map (with_sender p)) (placed old.sent.entries m.step.sent m.stamp m.place stamp p)
       ∙ finds_by m p m.step.sent ((m.stamp == stamp) && same_place m.place p) (λ e. one_place m.place p (and_right (m.stamp == stamp) (same_place m.place p) e))
       (found_at old.sent.entries stamp p) (sent_from stamp p ms) (are.finds stamp p);
@@ -72,7 +73,7 @@ next_letters old new ms m are adds = record {
 pub none_added : (l : Letters) (stamp : ℕ) (from : Place) (sent : Option Outgoing) → sent ≡ None → AddsLetter l l stamp from sent
 none_added l stamp from sent is = subst (AddsLetter l l stamp from) (sym is) (record { letters = refl; noted = refl })
 
-pub one_added : (old new : Letters) (stamp : ℕ) (from : Place) (sent : Option Outgoing) (out : Outgoing) → sent ≡ Some out → new.sent.entries ≡ with_letter old.sent.entries (origin stamp from) out
+pub one_added : (old new : Letters) (stamp : ℕ) (from : Place) (sent : Option Outgoing) (out : Outgoing) → sent ≡ Some out → new.sent.entries ≡ with_letter old.sent.entries (origin_of stamp from) out
     → Notes stamp old.numbers.keys new.numbers.keys → AddsLetter old new stamp from sent
 one_added old new stamp from sent out is put noted = subst (AddsLetter old new stamp from) (sym is) (record { letters = put; noted = noted })
 

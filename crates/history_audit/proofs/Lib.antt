@@ -1,12 +1,10 @@
 mod SameNotes
 mod Counted
-mod Origins
 mod Orders
 mod LetterLaws
 mod NodeLaws
 mod Served
 mod SoFar
-mod Made
 mod SetupLaws
 mod Taking
 mod JudgeLaws

@@ -10,8 +10,10 @@ use Rattle.history_law.proofs.Tests.{same_nat}
 use Rattle.history_text.specs.declared.entries.Cause.{Cause}
 use Rattle.history_text.specs.declared.entries.Cause.TheVariants as cause
 use Rattle.history_text.specs.declared.entries.Entry.{Entry}
+use Rattle.history_text.specs.declared.entries.Origin.{Origin}
+use Rattle.history_text.specs.Origins.{origin_of}
 use Rattle.verdict_law.specs.Verdicts.{IsInOrder, moment_at, reason_of}
-use Rattle.history_audit.specs.Order.{Spot, is_above, is_received_later, newest_of, origin}
+use Rattle.history_audit.specs.Order.{is_above, is_received_later, newest_of}
 
 -- ---- numbers, one before the others
 
@@ -73,7 +75,7 @@ last_decides a b = by (stand a b)
 
 -- ---- an entry
 
-rises_decides : (ms older : List Moment) (e : Entry) → Decides (is_above (newest_of ms) (origin e.stamp e.place)) ((step : Step) → Rises ms (moment_at older e step))
+rises_decides : (ms older : List Moment) (e : Entry) → Decides (is_above (newest_of ms) (origin_of e.stamp e.place)) ((step : Step) → Rises ms (moment_at older e step))
 rises_decides [] older e = always (λ step. tt)
 rises_decides (m ∷ ms) older e =
     let p = rank m.place in
@@ -93,11 +95,11 @@ later_decides (cause.Restart pick calls) received = always tt
 later_decides (cause.Local number) received = always tt
 later_decides (cause.Outside number) received = always tt
 
-pub in_order : (newest : Option Spot) (e : Entry) (r : Bool) → r ≡ (is_above newest (origin e.stamp e.place) && is_received_later e.cause e.stamp)
+pub in_order : (newest : Option Origin) (e : Entry) (r : Bool) → r ≡ (is_above newest (origin_of e.stamp e.place) && is_received_later e.cause e.stamp)
     → (ms : List Moment) → newest ≡ newest_of ms → Decides r (IsInOrder ms e)
 in_order newest e r is ms same =
-    let above = subst (λ o. Decides (is_above o (origin e.stamp e.place)) ((step : Step) → Rises ms (moment_at ms e step))) (sym same) (rises_decides ms ms e) in
-    let both = Decides-and (is_above newest (origin e.stamp e.place)) (is_received_later e.cause e.stamp) above (later_decides e.cause e.stamp) in
+    let above = subst (λ o. Decides (is_above o (origin_of e.stamp e.place)) ((step : Step) → Rises ms (moment_at ms e step))) (sym same) (rises_decides ms ms e) in
+    let both = Decides-and (is_above newest (origin_of e.stamp e.place)) (is_received_later e.cause e.stamp) above (later_decides e.cause e.stamp) in
     Decides-at r _ is (Decides-like _ (λ p. record { rises = p.0; receives_later = p.1 }) (λ o. (o.rises, o.receives_later)) both)
 
 -- both tests, one after the other

@@ -9,6 +9,7 @@ use Rattle.history_rules.specs.Nodes.{World, no_past}
 use Rattle.history_rules.specs.Histories.{Moment, Legal, last_now, own}
 use Rattle.history_text.specs.declared.entries.Entry.{Entry}
 use Rattle.history_text.specs.History.{entries}
+use Rattle.history_text.specs.Origins.{origin_of}
 use Rattle.history_text.specs.Worlds.{world_of}
 use Rattle.judged_devices.specs.declared.limits.TheConstants.{OWN_ENTRIES}
 use Rattle.verdict_law.specs.declared.rules.Rule.{Rule}
@@ -19,7 +20,7 @@ use Rattle.history_audit.specs.declared.kept.Judge.{Judge}
 use Rattle.history_audit.specs.Finding.{Finds}
 use Rattle.history_audit.specs.Letters.{AddsLetter, AreLetters}
 use Rattle.history_audit.specs.Nodes.{AreNodes}
-use Rattle.history_audit.specs.Order.{newest_of, origin}
+use Rattle.history_audit.specs.Order.{newest_of}
 
 -- what is kept is of these moments
 pub record Follows (w : World) (j : Judge) (ms : List Moment) : Type 0 where
@@ -68,7 +69,7 @@ clock_after _ now before = before
 
 -- where the newest entry stands, and the clock, are this entry's
 pub record Enters (old new : Judge) (e : Entry) : Type 0 where
-  pub newest : new.newest ≡ Some (origin e.stamp e.place)
+  pub newest : new.newest ≡ Some (origin_of e.stamp e.place)
   pub clock : new.clock ≡ clock_after e.place e.now old.clock
   pub letters : new.letters ≡ old.letters
   pub nodes : new.nodes ≡ old.nodes
@@ -76,7 +77,7 @@ pub record Enters (old new : Judge) (e : Entry) : Type 0 where
 -- all is kept of an entry whose step was done
 pub record Keeps (old new : Judge) (e : Entry) (step : Step) : Type 0 where
   pub sends : Sends e step
-  pub newest : new.newest ≡ Some (origin e.stamp e.place)
+  pub newest : new.newest ≡ Some (origin_of e.stamp e.place)
   pub clock : new.clock ≡ clock_after e.place e.now old.clock
   pub letters : AddsLetter old.letters new.letters e.stamp e.place step.sent
   pub nodes : new.nodes ≡ old.nodes

@@ -8,8 +8,9 @@ use Rattle.seata_types.specs.declared.ids.Place.{Place}
 use Rattle.seata_types.specs.declared.messages.Outgoing.{Outgoing}
 use Rattle.history_rules.specs.Own.{Event}
 use Rattle.history_rules.specs.Histories.{Moment, delivered, sent_at, sent_from}
+use Rattle.history_text.specs.declared.entries.Origin.{Origin}
+use Rattle.history_text.specs.Origins.{origin_cmp, origin_of}
 use Rattle.history_audit.specs.declared.kept.Letters.{Letters}
-use Rattle.history_audit.specs.Order.{Spot, origin, origin_cmp}
 
 -- ---- by their entries
 
@@ -17,16 +18,16 @@ use Rattle.history_audit.specs.Order.{Spot, origin, origin_cmp}
 abbrev pub with_sender : Place → Outgoing → Place × Outgoing
 with_sender from out = (from, out)
 
-abbrev pub letter_at : List (Spot × Outgoing) → ℕ → Place → Option (Place × Outgoing)
-letter_at sent stamp from = option_map (with_sender from) (lookup (is_at (origin_cmp (origin stamp from))) sent)
+abbrev pub letter_at : List (Origin × Outgoing) → ℕ → Place → Option (Place × Outgoing)
+letter_at sent stamp from = option_map (with_sender from) (lookup (is_at (origin_cmp (origin_of stamp from))) sent)
 
 -- with a message at its entry
-abbrev pub with_letter : List (Spot × Outgoing) → Spot → Outgoing → List (Spot × Outgoing)
+abbrev pub with_letter : List (Origin × Outgoing) → Origin → Outgoing → List (Origin × Outgoing)
 with_letter sent at out = insert_entry origin_cmp sent at out
 
-abbrev pub with_sent : List (Spot × Outgoing) → ℕ → Place → Option Outgoing → List (Spot × Outgoing)
+abbrev pub with_sent : List (Origin × Outgoing) → ℕ → Place → Option Outgoing → List (Origin × Outgoing)
 with_sent sent stamp from None = sent
-with_sent sent stamp from (Some out) = with_letter sent (origin stamp from) out
+with_sent sent stamp from (Some out) = with_letter sent (origin_of stamp from) out
 
 -- the event that a message brings to a place
 abbrev pub message_by : Letters → ℕ → Place → Place → Option Event

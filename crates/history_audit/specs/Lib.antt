@@ -1,6 +1,5 @@
 pub mod Order
 pub mod Letters
-pub mod Setups
 pub mod Nodes
 pub mod Finding
 pub mod Judging

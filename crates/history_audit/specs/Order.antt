@@ -1,30 +1,19 @@
--- The order of entries.
+-- The order of entries that are judged.
 use Rattle.std.specs.Prelude.{ℕ, nat_lt, Bool, true, List, [], ◌∷◌, Option, Some, None}
-use Rattle.std.specs.Ordering.{is_lt, nat_cmp, ordering_then}
-use Rattle.std.specs.declared.cmp.Ordering.{Ordering}
-use Rattle.seata_types.specs.declared.ids.Place.{Place}
-use Rattle.history_rules.specs.Histories.{Moment, rank}
+use Rattle.std.specs.Ordering.{is_lt}
+use Rattle.history_rules.specs.Histories.{Moment}
 use Rattle.history_text.specs.declared.entries.Cause.{Cause}
 use Rattle.history_text.specs.declared.entries.Cause.TheVariants as cause
-
--- where an entry stands among all: its number, and the kind and the number of its place
-abbrev pub Spot : Type 0
-Spot = ℕ × (ℕ × ℕ)
-
-abbrev pub origin : ℕ → Place → Spot
-origin stamp place = (stamp, rank place)
-
--- entries stand by their numbers, and those of one number by their places
-abbrev pub origin_cmp : Spot → Spot → Ordering
-origin_cmp a b = ordering_then (nat_cmp a.0 b.0) (ordering_then (nat_cmp a.1.0 b.1.0) (nat_cmp a.1.1 b.1.1))
+use Rattle.history_text.specs.declared.entries.Origin.{Origin}
+use Rattle.history_text.specs.Origins.{origin_cmp, origin_of}
 
 -- where the newest entry stands
-abbrev pub newest_of : List Moment → Option Spot
+abbrev pub newest_of : List Moment → Option Origin
 newest_of [] = None
-newest_of (m ∷ ms) = Some (origin m.stamp m.place)
+newest_of (m ∷ ms) = Some (origin_of m.stamp m.place)
 
 -- an entry stands above the newest one before it
-abbrev pub is_above : Option Spot → Spot → Bool
+abbrev pub is_above : Option Origin → Origin → Bool
 is_above None next = true
 is_above (Some before) next = is_lt (origin_cmp before next)
 

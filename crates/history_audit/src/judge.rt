@@ -4,9 +4,9 @@ ghost use Rattle.seata_types.specs.declared.acts.Act.TheVariants as act;
 ghost use Rattle.std.specs.Bool.{Decides};
 
 use crate::kept::{Found, Judge, Letters, Nodes};
-use crate::order::{is_in_order, is_timely, origin};
+use crate::order::{is_in_order, is_timely};
 use crate::shown::shows;
-use history_text::Entry;
+use history_text::{Entry, origin_of};
 use scenario_form::Scenario;
 use seata_types::{Act, NoMemory, Outgoing, Place, Step};
 use std::alloc::Global;
@@ -102,7 +102,7 @@ impl Judge {
     fn enter(&mut self, next: &Entry)
         ensures { Enters self.old self.new next.entry.now }
     {
-        self.newest = Some(origin(next.stamp, next.place));
+        self.newest = Some(origin_of(next.stamp, next.place));
         if matches!(next.place, Place::Tc) {
             self.clock = next.now;
         }

@@ -1,13 +1,11 @@
 //! What a judge keeps, and what it finds of an entry.
+use history_text::Origin;
 use judged_bench::Bench;
 use judged_desk::Desk;
 use judged_talk::Talk;
 use seata_types::{Outgoing, Step};
 use std::collections::{BTreeMap, BTreeSet};
 use verdict_law::Rule;
-
-/// Where an entry stands among all: its number, and the kind and the number of its place.
-pub(crate) type Origin = (u32, (u8, u16));
 
 /// What is found of an entry: the step that its node does, or the rule that it breaks.
 #[derive(Drop)]

@@ -4,9 +4,8 @@ ghost use Rattle.history_rules.specs.Histories.{delivered};
 ghost use Rattle.judged_devices.specs.Taking.{event_of};
 ghost use Rattle.history_audit.specs.Letters.{Notes, with_letter};
 
-use crate::kept::{Letters, Origin};
-use crate::order::origin;
-use history_text::Cause;
+use crate::kept::Letters;
+use history_text::{Cause, Origin, origin_of};
 use judged_devices::Event;
 use seata_types::{Duplicate, Input, NoMemory, Outgoing, Place};
 use std::alloc::Global;
@@ -55,9 +54,10 @@ impl Letters {
         from: Place,
         to: Place,
     ) -> Result<Option<Event>, NoMemory>
-        ensures { IfOk result (λ event. option_map event_of event ≡ message_by self.now stamp from to) }
+        ensures { IfOk result (λ event. option_map event_of event ≡
+            message_by self.now stamp from to) }
     {
-        match self.sent.get(&origin(stamp, from)) {
+        match self.sent.get(&origin_of(stamp, from)) {
             Some(out) => deliver(alloc, from, to, out),
             None => Ok(None),
         }
@@ -94,7 +94,8 @@ impl Letters {
 
     /// Whether a cause comes to a place though it brings nothing: ticks that pass, and a message that no entry sent.
     pub(crate) fn come_to_none(&self, to: Place, cause: &Cause) -> bool
-        ensures { (ms : List Moment) → AreLetters self.now ms → Decides result (ComesToNone ms to (reason_of cause.now)) }
+        ensures { (ms : List Moment) → AreLetters self.now ms →
+            Decides result (ComesToNone ms to (reason_of cause.now)) }
     {
         match (to, cause) {
             (Place::Net, Cause::Wait { .. }) => true,
@@ -115,7 +116,7 @@ impl Letters {
         let Some(out) = sent else {
             return Ok(());
         };
-        put(&mut self.sent, origin(stamp, from), out)?;
+        put(&mut self.sent, origin_of(stamp, from), out)?;
         note(&mut self.numbers, stamp)?;
         Ok(())
     }
@@ -123,7 +124,8 @@ impl Letters {
 
 // A message comes to its receiver alone.
 fn deliver(alloc: Global, from: Place, to: Place, out: &Outgoing) -> Result<Option<Event>, NoMemory>
-    ensures { IfOk result (λ event. option_map event_of event ≡ delivered to (Some (from, out.now))) }
+    ensures { IfOk result (λ event. option_map event_of event ≡
+        delivered to (Some (from, out.now))) }
 {
     if out.to != to {
         return Ok(None);

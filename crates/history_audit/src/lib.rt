@@ -8,7 +8,6 @@ mod kept;
 mod letters;
 mod nodes;
 mod order;
-mod setups;
 mod shown;
 
 pub use audits::audit;

@@ -14,14 +14,13 @@ ghost use Rattle.history_audit.specs.Nodes.{AreBenches, AreTalks, BenchesCan, Ta
 ghost use Rattle.history_audit.specs.Finding.{Finds, found_of};
 
 use crate::kept::{Found, Nodes};
-use crate::setups;
-use crate::setups::put;
 use history_text::Entry;
 use judged_bench::Bench;
 use judged_desk::Desk;
 use judged_devices::{Event, given_in};
 use judged_talk::Talk;
 use scenario_form::{ResourceDef, Scenario};
+use scenario_setups::put;
 use seata_types::{Duplicate, NoMemory, Place, Step};
 use std::alloc::Global;
 use verdict_law::Rule;
@@ -49,7 +48,7 @@ fn new_bench(
 {
     let schema = def.schema.copy(alloc)?;
     let opening = def.opening.copy(alloc)?;
-    let setup = setups::setup_of(alloc, scenario, number)?;
+    let setup = scenario_setups::setup_of(alloc, scenario, number)?;
     Bench::new(alloc, setup, schema, opening)
 }
 
@@ -90,7 +89,8 @@ fn at_resource(
     requires can { BenchesCan benches.old.items }
     requires served { ServesEvent event.now }
     requires here { next.now.place ≡ place.Res number }
-    ensures { IfOk result (λ found. (w : World) (ms : List Moment) → AreBenches w benches.old.items ms →
+    ensures { IfOk result (λ found. (w : World) (ms : List Moment) →
+        AreBenches w benches.old.items ms →
         event_at ms next.entry.now ≡ Some (event_of event.now) →
         Finds w ms next.entry.now (AreBenches w benches.new.items) found) }
 {

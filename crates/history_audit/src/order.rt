@@ -2,32 +2,12 @@
 ghost use Rattle.std.specs.Prelude.{◌≡◌, List};
 ghost use Rattle.std.specs.Bool.{Decides};
 ghost use Rattle.seata_types.specs.declared.ids.Place.TheVariants as place;
-ghost use Rattle.history_rules.specs.Histories.{Moment, last_now, own, rank};
+ghost use Rattle.history_rules.specs.Histories.{Moment, last_now, own};
 ghost use Rattle.verdict_law.specs.Verdicts.{IsInOrder, IsTimely};
-ghost use Rattle.history_audit.specs.Order.{is_above, is_received_later, newest_of, origin};
+ghost use Rattle.history_audit.specs.Order.{is_above, is_received_later, newest_of};
 
-use crate::kept::Origin;
-use history_text::{Cause, Entry};
+use history_text::{Cause, Entry, Origin, origin_of};
 use seata_types::Place;
-
-// The order of places: the network, the coordinator, resources, managers.
-fn rank(place: Place) -> (u8, u16)
-    ensures { result ≡ rank place }
-{
-    match place {
-        Place::Net => (0, 0),
-        Place::Tc => (1, 0),
-        Place::Res(n) => (2, n),
-        Place::Man(n) => (3, n),
-    }
-}
-
-/// Where an entry of this number and place stands among all.
-pub(crate) fn origin(stamp: u32, place: Place) -> Origin
-    ensures { result ≡ origin stamp place }
-{
-    (stamp, rank(place))
-}
 
 // Whether one entry stands above the newest one before it.
 fn is_above(newest: Option<Origin>, next: Origin) -> bool
@@ -51,14 +31,17 @@ fn is_received_later(cause: &Cause, received: u32) -> bool
 
 /// Whether an entry stands above the newest one before it, and above the message that it takes.
 pub(crate) fn is_in_order(newest: Option<Origin>, next: &Entry) -> bool
-    ensures { (ms : List Moment) → newest ≡ newest_of ms → Decides result (IsInOrder ms next.entry.now) }
+    ensures { (ms : List Moment) → newest ≡ newest_of ms →
+        Decides result (IsInOrder ms next.entry.now) }
 {
-    is_above(newest, origin(next.stamp, next.place)) && is_received_later(&next.cause, next.stamp)
+    let at = origin_of(next.stamp, next.place);
+    is_above(newest, at) && is_received_later(&next.cause, next.stamp)
 }
 
 /// Whether an entry doesn't make the coordinator's clock fall.
 pub(crate) fn is_timely(clock: u64, next: &Entry) -> bool
-    ensures { (ms : List Moment) → clock ≡ last_now (own place.Tc ms) → Decides result (IsTimely ms next.entry.now) }
+    ensures { (ms : List Moment) → clock ≡ last_now (own place.Tc ms) →
+        Decides result (IsTimely ms next.entry.now) }
 {
     match next.place {
         Place::Tc => clock <= next.now,

@@ -1,2 +1,3 @@
 mod Texts
 pub mod Worlds
+pub mod OriginLaws

@@ -101,12 +101,17 @@ read_text names l = leg_text (xid_of l.xid) (branch_of l.branch) ++ (codes " " +
 
 -- ---- the report
 
+-- the sections of what stands: transactions, held rows, tables and fences, and behind them the rest of a text
+abbrev pub state_text : Names → List SessionLine → List (RowKey × ℕ) → List (RowKey × Row)
+    → List (ℕ × ((ℕ × ℕ) × Fence)) → (rest : List ℕ) → List ℕ
+state_text names sessions held rows fences rest =
+    line (codes "sessions") ++ (lines (session_text names) sessions ++ (line (codes "locks") ++ (lines (holder_text names) held ++
+    (line (codes "tables") ++ (lines (table_row_text names) rows ++ (line (codes "fences") ++ (lines (fence_text names) fences ++ rest)))))))
+
 -- the sections after the entries
 abbrev pub sections_text : Names → Report → List ℕ
 sections_text names r =
-    line (codes "sessions") ++ (lines (session_text names) r.sessions ++ (line (codes "locks") ++ (lines (holder_text names) r.locks ++
-    (line (codes "tables") ++ (lines (table_row_text names) r.tables ++ (line (codes "fences") ++ (lines (fence_text names) r.fences ++
-    (line (codes "reads") ++ lines (read_text names) r.reads))))))))
+    state_text names r.sessions r.locks r.tables r.fences (line (codes "reads") ++ lines (read_text names) r.reads)
 
 -- the text of a report, with these entries
 unfoldable pub report_text : Names → List Entry → Report → List ℕ

@@ -15,7 +15,8 @@ use std::alloc::AllocError;
 
 /// What a step did.
 pub(crate) fn add_act(out: &mut String, act: &Act, names: &Names) -> Result<(), AllocError>
-    ensures { OnOk result (string_bytes out.new ≡ string_bytes out.old ++ lines.act_text names.now act.now) }
+    ensures { OnOk result (string_bytes out.new ≡ string_bytes out.old ++
+        lines.act_text names.now act.now) }
 {
     match act {
         Act::Durable(done) => add_durable(out, *done),
@@ -169,7 +170,8 @@ fn add_change(
     now: &Option<Row>,
     names: &Names,
 ) -> Result<(), AllocError>
-    ensures { OnOk result (string_bytes out.new ≡ string_bytes out.old ++ (codes " " ++ lines.change_text names.now key.now after.now now.now)) }
+    ensures { OnOk result (string_bytes out.new ≡ string_bytes out.old ++
+        (codes " " ++ lines.change_text names.now key.now after.now now.now)) }
 {
     out.push_str(" ")?;
     add_key(out, key, names)?;

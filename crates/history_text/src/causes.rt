@@ -9,7 +9,8 @@ use std::alloc::AllocError;
 
 /// The cause of an entry.
 pub(crate) fn add_cause(out: &mut String, cause: &Cause, names: &Names) -> Result<(), AllocError>
-    ensures { OnOk result (string_bytes out.new ≡ string_bytes out.old ++ lines.cause_text names.now cause.now) }
+    ensures { OnOk result (string_bytes out.new ≡ string_bytes out.old ++
+        lines.cause_text names.now cause.now) }
 {
     match cause {
         Cause::Turn => out.push_str("turn"),

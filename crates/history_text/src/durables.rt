@@ -64,7 +64,8 @@ pub(crate) fn add_with(
     word: &str,
     done: Option<Durable>,
 ) -> Result<(), AllocError>
-    ensures { OnOk result (string_bytes out.new ≡ string_bytes out.old ++ lines.with_durable word.now done) }
+    ensures { OnOk result (string_bytes out.new ≡ string_bytes out.old ++
+        lines.with_durable word.now done) }
 {
     match done {
         Some(done) => {

@@ -35,6 +35,15 @@ pub struct Entry {
     pub sent: Option<Sent>,
 }
 
+/// Where an entry stands among all: entries rise by their numbers, and those of one number by the kinds of their places and
+/// the numbers of these.
+#[derive(Clone, Copy, PartialEq, Eq, PartialOrd, Ord)]
+pub struct Origin {
+    pub stamp: u32,
+    pub kind: u8,
+    pub number: u16,
+}
+
 /// The names of the resources and of the managers, each counted from 1.
 #[derive(Drop)]
 pub struct Names {

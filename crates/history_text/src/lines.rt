@@ -28,7 +28,8 @@ const LINE_ROOM: usize = 160;
 
 /// Appends the line of an entry, without its line feed. Nothing is appended where memory ends.
 pub fn put_entry(out: &mut String, of: &Entry, names: &Names) -> Result<(), AllocError>
-    ensures appended { OnOk result (string_bytes out.new ≡ string_bytes out.old ++ lines.entry_text names.now of.entry.now) }
+    ensures appended { OnOk result (string_bytes out.new ≡ string_bytes out.old ++
+        lines.entry_text names.now of.entry.now) }
     ensures kept { OnErr result (string_bytes out.new ≡ string_bytes out.old) }
 {
     let mut line = String::with_capacity(*out.allocator(), LINE_ROOM)?;
@@ -38,7 +39,8 @@ pub fn put_entry(out: &mut String, of: &Entry, names: &Names) -> Result<(), Allo
 
 /// Appends a note. Nothing is appended where memory ends.
 pub fn put_note(out: &mut String, note: &Note, names: &Names) -> Result<(), AllocError>
-    ensures appended { OnOk result (string_bytes out.new ≡ string_bytes out.old ++ lines.note_text names.now note.now) }
+    ensures appended { OnOk result (string_bytes out.new ≡ string_bytes out.old ++
+        lines.note_text names.now note.now) }
     ensures kept { OnErr result (string_bytes out.new ≡ string_bytes out.old) }
 {
     let mut text = String::with_capacity(*out.allocator(), LINE_ROOM)?;
@@ -48,7 +50,8 @@ pub fn put_note(out: &mut String, note: &Note, names: &Names) -> Result<(), Allo
 
 /// Appends a place, by its node's name. Nothing is appended where memory ends.
 pub fn put_place(out: &mut String, place: Place, names: &Names) -> Result<(), AllocError>
-    ensures appended { OnOk result (string_bytes out.new ≡ string_bytes out.old ++ lines.place_text names.now place) }
+    ensures appended { OnOk result (string_bytes out.new ≡ string_bytes out.old ++
+        lines.place_text names.now place) }
     ensures kept { OnErr result (string_bytes out.new ≡ string_bytes out.old) }
 {
     let mut text = String::new(*out.allocator());
@@ -58,7 +61,8 @@ pub fn put_place(out: &mut String, place: Place, names: &Names) -> Result<(), Al
 
 /// Appends a key, as `A.acc:1`. Nothing is appended where memory ends.
 pub fn put_key(out: &mut String, key: &RowKey, names: &Names) -> Result<(), AllocError>
-    ensures appended { OnOk result (string_bytes out.new ≡ string_bytes out.old ++ lines.key_text names.now key.now) }
+    ensures appended { OnOk result (string_bytes out.new ≡ string_bytes out.old ++
+        lines.key_text names.now key.now) }
     ensures kept { OnErr result (string_bytes out.new ≡ string_bytes out.old) }
 {
     let mut text = String::new(*out.allocator());
@@ -68,7 +72,8 @@ pub fn put_key(out: &mut String, key: &RowKey, names: &Names) -> Result<(), Allo
 
 /// Appends a row, as `(1, 900)`. Nothing is appended where memory ends.
 pub fn put_row(out: &mut String, row: &Row) -> Result<(), AllocError>
-    ensures appended { OnOk result (string_bytes out.new ≡ string_bytes out.old ++ lines.row_text row.now) }
+    ensures appended { OnOk result (string_bytes out.new ≡ string_bytes out.old ++
+        lines.row_text row.now) }
     ensures kept { OnErr result (string_bytes out.new ≡ string_bytes out.old) }
 {
     let mut text = String::new(*out.allocator());
@@ -80,7 +85,8 @@ pub fn put_row(out: &mut String, row: &Row) -> Result<(), AllocError>
 /// or nothing.
 #[tactic(auto, unfolding(crate::specs::Lines::entry_text))]
 pub fn add_entry(out: &mut String, of: &Entry, names: &Names) -> Result<(), AllocError>
-    ensures { OnOk result (string_bytes out.new ≡ string_bytes out.old ++ lines.entry_text names.now of.entry.now) }
+    ensures { OnOk result (string_bytes out.new ≡ string_bytes out.old ++
+        lines.entry_text names.now of.entry.now) }
 {
     add_origin(out, of, names)?;
     add_done(out, &of.act, &of.sent, names)
@@ -93,7 +99,10 @@ fn add_done(
     sent: &Option<Sent>,
     names: &Names,
 ) -> Result<(), AllocError>
-    ensures { OnOk result (string_bytes out.new ≡ string_bytes out.old ++ (codes " | " ++ (lines.act_text names.now act.now ++ (codes " | " ++ lines.sent_text names.now sent.now)))) }
+    ensures { OnOk result (string_bytes out.new ≡ string_bytes out.old ++
+        (codes " | " ++
+        (lines.act_text names.now act.now ++
+        (codes " | " ++ lines.sent_text names.now sent.now)))) }
 {
     if let (Act::Nothing, None) = (act, sent) {
         return out.push_str(" | none | -");
@@ -107,7 +116,8 @@ fn add_done(
 /// The number of an entry, its place, its moment and its cause.
 #[tactic(auto, unfolding(crate::specs::Lines::origin_text))]
 fn add_origin(out: &mut String, of: &Entry, names: &Names) -> Result<(), AllocError>
-    ensures { OnOk result (string_bytes out.new ≡ string_bytes out.old ++ lines.origin_text names.now of.entry.now) }
+    ensures { OnOk result (string_bytes out.new ≡ string_bytes out.old ++
+        lines.origin_text names.now of.entry.now) }
 {
     add_number(out, u64::from(of.stamp))?;
     out.push_str(" ")?;
@@ -119,7 +129,8 @@ fn add_origin(out: &mut String, of: &Entry, names: &Names) -> Result<(), AllocEr
 
 /// What an entry sent, and to whom, or `-`.
 fn add_sent(out: &mut String, sent: &Option<Sent>, names: &Names) -> Result<(), AllocError>
-    ensures { OnOk result (string_bytes out.new ≡ string_bytes out.old ++ lines.sent_text names.now sent.now) }
+    ensures { OnOk result (string_bytes out.new ≡ string_bytes out.old ++
+        lines.sent_text names.now sent.now) }
 {
     match sent {
         Some(sent) => {

@@ -16,7 +16,8 @@ pub(crate) fn add_held(
     rolling: bool,
     names: &Names,
 ) -> Result<(), AllocError>
-    ensures { OnOk result (string_bytes out.new ≡ string_bytes out.old ++ (codes " " ++ lines.held_text names.now key.now holder rolling)) }
+    ensures { OnOk result (string_bytes out.new ≡ string_bytes out.old ++
+        (codes " " ++ lines.held_text names.now key.now holder rolling)) }
 {
     out.push_str(" ")?;
     add_key(out, key, names)?;
@@ -30,7 +31,8 @@ pub(crate) fn add_lock(
     holder: Xid,
     names: &Names,
 ) -> Result<(), AllocError>
-    ensures { OnOk result (string_bytes out.new ≡ string_bytes out.old ++ (codes " " ++ lines.lock_text names.now key.now holder)) }
+    ensures { OnOk result (string_bytes out.new ≡ string_bytes out.old ++
+        (codes " " ++ lines.lock_text names.now key.now holder)) }
 {
     out.push_str(" ")?;
     add_key(out, key, names)?;
@@ -44,7 +46,8 @@ pub(crate) fn add_opener(
     by: Ticket,
     names: &Names,
 ) -> Result<(), AllocError>
-    ensures { OnOk result (string_bytes out.new ≡ string_bytes out.old ++ (codes " " ++ lines.opener_text names.now key.now by)) }
+    ensures { OnOk result (string_bytes out.new ≡ string_bytes out.old ++
+        (codes " " ++ lines.opener_text names.now key.now by)) }
 {
     out.push_str(" ")?;
     add_key(out, key, names)?;

@@ -15,7 +15,8 @@ use std::alloc::AllocError;
 
 /// Appends a note; where memory ends a part of it may stand. `put_note` appends all of it or nothing.
 pub fn add_note(out: &mut String, note: &Note, names: &Names) -> Result<(), AllocError>
-    ensures { OnOk result (string_bytes out.new ≡ string_bytes out.old ++ lines.note_text names.now note.now) }
+    ensures { OnOk result (string_bytes out.new ≡ string_bytes out.old ++
+        lines.note_text names.now note.now) }
 {
     match note {
         Note::Begin { manager, timeout } => {
@@ -112,7 +113,8 @@ fn add_registered(
     answer: &Registered,
     names: &Names,
 ) -> Result<(), AllocError>
-    ensures { OnOk result (string_bytes out.new ≡ string_bytes out.old ++ lines.registered_text names.now ticket xid answer.now) }
+    ensures { OnOk result (string_bytes out.new ≡ string_bytes out.old ++
+        lines.registered_text names.now ticket xid answer.now) }
 {
     match answer {
         Registered::Granted { branch } => {
@@ -145,7 +147,8 @@ fn add_registered(
 
 /// A resource's answer to a call.
 fn add_reply(out: &mut String, answer: &CallAnswer, names: &Names) -> Result<(), AllocError>
-    ensures { OnOk result (string_bytes out.new ≡ string_bytes out.old ++ lines.reply_text names.now answer.now) }
+    ensures { OnOk result (string_bytes out.new ≡ string_bytes out.old ++
+        lines.reply_text names.now answer.now) }
 {
     match answer {
         CallAnswer::Done { branch } => add_numbered(out, "done b", branch.0),
@@ -167,7 +170,8 @@ fn add_lock_answer(
     held: &Option<(RowKey, Xid)>,
     names: &Names,
 ) -> Result<(), AllocError>
-    ensures { OnOk result (string_bytes out.new ≡ string_bytes out.old ++ lines.lock_answer_text names.now ticket held.now) }
+    ensures { OnOk result (string_bytes out.new ≡ string_bytes out.old ++
+        lines.lock_answer_text names.now ticket held.now) }
 {
     match held {
         None => {
@@ -184,7 +188,8 @@ fn add_lock_answer(
 
 /// The rows that a registration holds and those that it checks.
 fn add_locks(out: &mut String, hold: &[RowKey], check: &[RowKey]) -> Result<(), AllocError>
-    ensures { OnOk result (string_bytes out.new ≡ string_bytes out.old ++ lines.locks_text hold.now check.now) }
+    ensures { OnOk result (string_bytes out.new ≡ string_bytes out.old ++
+        lines.locks_text hold.now check.now) }
 {
     out.push_str(" hold ")?;
     add_keys(out, hold)?;

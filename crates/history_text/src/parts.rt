@@ -10,7 +10,8 @@ use std::alloc::AllocError;
 
 /// The n-th name, counted from 1; where there is none, a letter and the number.
 fn add_name(out: &mut String, letter: &str, names: &[Text], n: u16) -> Result<(), AllocError>
-    ensures { OnOk result (string_bytes out.new ≡ string_bytes out.old ++ lines.name_text letter.now names.now n) }
+    ensures { OnOk result (string_bytes out.new ≡ string_bytes out.old ++
+        lines.name_text letter.now names.now n) }
 {
     if n > 0
         && let Some(name) = names.get(n as usize - 1)
@@ -22,7 +23,8 @@ fn add_name(out: &mut String, letter: &str, names: &[Text], n: u16) -> Result<()
 
 /// Appends a place, by its node's name; where memory ends a part of it may stand. `put_place` appends all of it or nothing.
 pub fn add_place(out: &mut String, place: Place, names: &Names) -> Result<(), AllocError>
-    ensures { OnOk result (string_bytes out.new ≡ string_bytes out.old ++ lines.place_text names.now place) }
+    ensures { OnOk result (string_bytes out.new ≡ string_bytes out.old ++
+        lines.place_text names.now place) }
 {
     match place {
         Place::Net => out.push_str("net"),
@@ -46,7 +48,8 @@ fn add_quoted(out: &mut String, text: &str) -> Result<(), AllocError>
 
 /// A value as a statement's literal.
 fn add_literal(out: &mut String, value: &Value) -> Result<(), AllocError>
-    ensures { OnOk result (string_bytes out.new ≡ string_bytes out.old ++ lines.literal_text value.now) }
+    ensures { OnOk result (string_bytes out.new ≡ string_bytes out.old ++
+        lines.literal_text value.now) }
 {
     match value {
         Value::Int(number) => add_signed(out, *number),
@@ -60,7 +63,8 @@ fn add_literal(out: &mut String, value: &Value) -> Result<(), AllocError>
 
 /// Values, with a text between two.
 fn add_values(out: &mut String, between: &str, values: &[Value]) -> Result<(), AllocError>
-    ensures { OnOk result (string_bytes out.new ≡ string_bytes out.old ++ lines.values_text between.now values.now) }
+    ensures { OnOk result (string_bytes out.new ≡ string_bytes out.old ++
+        lines.values_text between.now values.now) }
 {
     if let Some((first, rest)) = values.split_first() {
         add_literal(out, first)?;
@@ -81,7 +85,8 @@ fn add_parts(out: &mut String, pk: &List<Value>) -> Result<(), AllocError>
 
 /// Appends a key, as `A.seat:1_2`; where memory ends a part of it may stand. `put_key` appends all of it or nothing.
 pub fn add_key(out: &mut String, key: &RowKey, names: &Names) -> Result<(), AllocError>
-    ensures { OnOk result (string_bytes out.new ≡ string_bytes out.old ++ lines.key_text names.now key.now) }
+    ensures { OnOk result (string_bytes out.new ≡ string_bytes out.old ++
+        lines.key_text names.now key.now) }
 {
     add_name(out, "r", names.resources.as_slice(), key.resource)?;
     out.push_str(".")?;
@@ -92,7 +97,8 @@ pub fn add_key(out: &mut String, key: &RowKey, names: &Names) -> Result<(), Allo
 
 /// The keys of locks, as `acc:1,2;stock:1`, or `-` for none.
 pub(crate) fn add_keys(out: &mut String, keys: &[RowKey]) -> Result<(), AllocError>
-    ensures { OnOk result (string_bytes out.new ≡ string_bytes out.old ++ lines.keys_text keys.now) }
+    ensures { OnOk result (string_bytes out.new ≡ string_bytes out.old ++
+        lines.keys_text keys.now) }
 {
     let Some((first, rest)) = keys.split_first() else {
         return out.push_str("-");
@@ -124,7 +130,8 @@ pub fn add_row(out: &mut String, row: &Row) -> Result<(), AllocError>
 
 /// A row, or `-` for none.
 pub(crate) fn add_option_row(out: &mut String, row: &Option<Row>) -> Result<(), AllocError>
-    ensures { OnOk result (string_bytes out.new ≡ string_bytes out.old ++ lines.option_row_text row.now) }
+    ensures { OnOk result (string_bytes out.new ≡ string_bytes out.old ++
+        lines.option_row_text row.now) }
 {
     match row {
         Some(row) => add_row(out, row),

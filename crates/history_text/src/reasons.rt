@@ -13,7 +13,8 @@ pub(crate) fn add_error(
     error: &StmtError,
     names: &Names,
 ) -> Result<(), AllocError>
-    ensures { OnOk result (string_bytes out.new ≡ string_bytes out.old ++ lines.error_text names.now error.now) }
+    ensures { OnOk result (string_bytes out.new ≡ string_bytes out.old ++
+        lines.error_text names.now error.now) }
 {
     match error {
         StmtError::NoTable => out.push_str("NoTable"),
@@ -36,7 +37,8 @@ pub(crate) fn add_error(
 
 /// Why a call failed.
 pub(crate) fn add_why(out: &mut String, why: &Why, names: &Names) -> Result<(), AllocError>
-    ensures { OnOk result (string_bytes out.new ≡ string_bytes out.old ++ lines.why_text names.now why.now) }
+    ensures { OnOk result (string_bytes out.new ≡ string_bytes out.old ++
+        lines.why_text names.now why.now) }
 {
     match why {
         Why::Stmt { index, why } => {

@@ -26,7 +26,8 @@ pub(crate) fn add_signed(out: &mut String, number: i64) -> Result<(), AllocError
 
 /// A word and a number.
 pub(crate) fn add_numbered(out: &mut String, word: &str, number: u64) -> Result<(), AllocError>
-    ensures { OnOk result (string_bytes out.new ≡ string_bytes out.old ++ (word.now ++ decimal number)) }
+    ensures { OnOk result (string_bytes out.new ≡ string_bytes out.old ++
+        (word.now ++ decimal number)) }
 {
     out.push_str(word)?;
     add_number(out, number)
@@ -34,7 +35,8 @@ pub(crate) fn add_numbered(out: &mut String, word: &str, number: u64) -> Result<
 
 /// A word and a transaction.
 pub(crate) fn add_word_xid(out: &mut String, word: &str, xid: Xid) -> Result<(), AllocError>
-    ensures { OnOk result (string_bytes out.new ≡ string_bytes out.old ++ (word.now ++ lines.xid_text xid)) }
+    ensures { OnOk result (string_bytes out.new ≡ string_bytes out.old ++
+        (word.now ++ lines.xid_text xid)) }
 {
     out.push_str(word)?;
     add_numbered(out, "tc:", xid.0)
@@ -47,7 +49,8 @@ pub(crate) fn add_word_status(
     xid: Xid,
     status: GlobalStatus,
 ) -> Result<(), AllocError>
-    ensures { OnOk result (string_bytes out.new ≡ string_bytes out.old ++ (word.now ++ (lines.xid_text xid ++ (codes " " ++ decimal (code_of status))))) }
+    ensures { OnOk result (string_bytes out.new ≡ string_bytes out.old ++
+        (word.now ++ (lines.xid_text xid ++ (codes " " ++ decimal (code_of status))))) }
 {
     add_word_xid(out, word, xid)?;
     add_numbered(out, " ", u64::from(status.code()))
@@ -60,7 +63,8 @@ pub(crate) fn add_word_leg(
     xid: Xid,
     branch: BranchId,
 ) -> Result<(), AllocError>
-    ensures { OnOk result (string_bytes out.new ≡ string_bytes out.old ++ (word.now ++ lines.leg_text xid branch)) }
+    ensures { OnOk result (string_bytes out.new ≡ string_bytes out.old ++
+        (word.now ++ lines.leg_text xid branch)) }
 {
     add_word_xid(out, word, xid)?;
     add_numbered(out, " b", branch.0)
@@ -73,7 +77,8 @@ pub(crate) fn add_word_call(
     xid: Xid,
     call: u16,
 ) -> Result<(), AllocError>
-    ensures { OnOk result (string_bytes out.new ≡ string_bytes out.old ++ (word.now ++ lines.call_text xid call)) }
+    ensures { OnOk result (string_bytes out.new ≡ string_bytes out.old ++
+        (word.now ++ lines.call_text xid call)) }
 {
     add_word_xid(out, word, xid)?;
     add_numbered(out, " c", u64::from(call))
@@ -81,14 +86,16 @@ pub(crate) fn add_word_call(
 
 /// A word and a number of 16 bits.
 pub(crate) fn add_word_number(out: &mut String, word: &str, number: u16) -> Result<(), AllocError>
-    ensures { OnOk result (string_bytes out.new ≡ string_bytes out.old ++ (word.now ++ decimal number)) }
+    ensures { OnOk result (string_bytes out.new ≡ string_bytes out.old ++
+        (word.now ++ decimal number)) }
 {
     add_numbered(out, word, u64::from(number))
 }
 
 /// A space and a ticket.
 pub(crate) fn add_after_space(out: &mut String, ticket: Ticket) -> Result<(), AllocError>
-    ensures { OnOk result (string_bytes out.new ≡ string_bytes out.old ++ (codes " " ++ lines.ticket_text ticket)) }
+    ensures { OnOk result (string_bytes out.new ≡ string_bytes out.old ++
+        (codes " " ++ lines.ticket_text ticket)) }
 {
     add_numbered(out, " t", u64::from(ticket.boot))?;
     add_numbered(out, ".", u64::from(ticket.seq))

@@ -74,8 +74,10 @@ impl Bench {
         requires stands { CanTake self.old }
         requires room { self.old.device.taken < OWN_ENTRIES }
         requires served { ServesEvent event.now }
-        ensures { IfOk result (λ step. (s : Rules) (os : Entries Own) (now : ℕ) → Follows s os self.old →
-            Takes (ResourceRole s []) os (event_of event.now) now done.now (λ after. Follows s after self.new) step) }
+        ensures { IfOk result (λ step. (s : Rules) (os : Entries Own) (now : ℕ) →
+            Follows s os self.old →
+            Takes (ResourceRole s []) os (event_of event.now) now done.now
+            (λ after. Follows s after self.new) step) }
     {
         let device = self.device;
         match self.resource.take(alloc, &device, event, done) {

@@ -1,11 +1,10 @@
 //! A resource, as its own entries left it.
 ghost use Rattle.std.specs.Prelude.{◌≡◌, ◌+◌, ◌<◌, ◌^◌, true, OnOk, IfSome};
-ghost use Rattle.history_rules.specs.Own as own;
 ghost use Rattle.resource_memory.specs.Changes.{may_come};
 ghost use Rattle.resource_rules.specs.Laws.{known_after};
 
 use durable_records::ResourceRecord;
-use judged_devices::{Back, Device, Event, Plain, Shown, act_of, given_in};
+use judged_devices::{Back, Device, Event, Plain, Shown, act_of, given_in, still};
 use local_txn::LocalTxns;
 use resource_memory::Memory;
 use resource_rules::{Answer, Change, Setup, follow};
@@ -109,7 +108,10 @@ impl Resource {
         requires comes { IfSome asked (λ item. may_come self.old.memory item ≡ true) }
         requires follows { MayFollow self.old.txns change }
         ensures { OnOk result (self.new ≡
-            record self.old { memory = known_after asked self.old.memory; txns = tickets_after change self.old.txns }) }
+            record self.old {
+              memory = known_after asked self.old.memory;
+              txns = tickets_after change self.old.txns;
+            }) }
     {
         match add(alloc, &mut self.memory, asked) {
             Ok(()) => follow(alloc, &mut self.txns, change),
@@ -241,11 +243,4 @@ fn next_boot(memory: &Memory) -> u32
     ensures { result ≡ memory.now.boots + 1 }
 {
     memory.kept().boots() + 1
-}
-
-// Nothing is sent.
-fn still(act: Act) -> Step
-    ensures { result ≡ own.still act }
-{
-    Step { act, sent: None }
 }

@@ -1,5 +1,3 @@
-pub mod Planned
-pub mod Due
 pub mod Counts
 pub mod Asked
 pub mod Took

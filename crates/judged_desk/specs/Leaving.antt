@@ -7,10 +7,9 @@ use Rattle.seata_types.specs.declared.messages.Input.{Input}
 use Rattle.seata_types.specs.declared.messages.Step.{Step}
 use Rattle.durable_records.specs.declared.coordinators.SessionRecord.{SessionRecord}
 use Rattle.history_rules.specs.Own.{Event, kept_part, still}
-use Rattle.retry_turns.specs.Plans.{TellsDue}
 use Rattle.session_log.specs.declared.sessions.Snapshot.{Snapshot}
 use Rattle.session_memory.specs.Changes.{after, may_come}
-use Rattle.coordinator_rules.specs.Answers.{AnswersBefore}
+use Rattle.coordinator_rules.specs.Answers.{AnswersBy, LeavesBy}
 use Rattle.coordinator_rules.specs.Starting.{no_moments, started_on}
 use Rattle.coordinator_rules.specs.declared.answers.Answer.{Answer}
 use Rattle.judged_devices.specs.declared.devices.Device.{Device}
@@ -19,7 +18,7 @@ use Rattle.judged_devices.specs.declared.shown.Plain.TheVariants as plain
 use Rattle.judged_devices.specs.declared.shown.Shown.{Shown}
 use Rattle.judged_devices.specs.declared.shown.Shown.TheVariants as shown
 use Rattle.judged_devices.specs.Showing.{Shows, ShowsPlain, given_in, shown_step}
-use Rattle.judged_desk.specs.Planning.{planned_again, settled}
+use Rattle.judged_desk.specs.Standing.{knowledge}
 use Rattle.judged_desk.specs.declared.coordinators.Coordinator.{Coordinator}
 
 -- ---- an answer
@@ -30,42 +29,36 @@ known_after None s = s
 known_after (Some r) s = after r s
 
 -- what is done of an answer: its record is known, or a transaction is due again later; or its record is in flight
-abbrev pub made : ℕ → SessionRecord → Coordinator → Coordinator
-made now r c = record c { memory = after r c.memory; moments = settled c.retry now r c.moments }
+abbrev pub IsFollowed : ℕ → Option SessionRecord → Option Xid → (old new : Coordinator) → Type 0
+IsFollowed now asked again old new = LeavesBy asked again (knowledge old) (knowledge new) now × (new.flight ≡ old.flight)
 
-abbrev pub followed : ℕ → Option SessionRecord → Option Xid → Coordinator → Coordinator
-followed now (Some r) again c = made now r c
-followed now None again c = record c { moments = planned_again c.retry now again c.moments }
-
-abbrev pub stands : ℕ → Answer → Coordinator → Coordinator
-stands now a c = followed now a.asked a.again c
+abbrev pub IsStood : ℕ → Answer → (old new : Coordinator) → Type 0
+IsStood now a old new = IsFollowed now a.asked a.again old new
 
 abbrev pub fallen : Answer → Coordinator → Coordinator
 fallen a c = record c { flight = a.asked }
 
-abbrev pub left_by : ℕ → Shown → Answer → Coordinator → Coordinator
-left_by now shown.Done a c = stands now a c
-left_by now (shown.Cut flight) a c = fallen a c
+abbrev pub LeftBy : ℕ → Shown → Answer → (old new : Coordinator) → Type 0
+LeftBy now shown.Done a old new = IsStood now a old new
+LeftBy now (shown.Cut flight) a old new = new ≡ fallen a old
 
--- an answer by the rules, where the transaction that is due first was looked up
-pub record Rules (given : Input) (now : ℕ) (old : Coordinator) (a : Answer) : Type 0 where
-  pub due : Option Xid
-  pub tells : TellsDue old.moments.turns now due
-  pub answers : AnswersBefore due old.forget old.memory old.moments.rests given now a
+-- an answer by the rules
+abbrev pub IsRuled : Input → ℕ → Coordinator → Answer → Type 0
+IsRuled given now old a = AnswersBy old.forget old.memory old.moments given now a
 
 -- the answer is done as the act of an entry shows it
 pub record IsAnswered (left : Option ℕ) (given : Input) (now : ℕ) (done : Act) (old new : Coordinator) (step : Step) : Type 0 where
   pub answer : Answer
-  pub rules : Rules given now old answer
+  pub ruled : IsRuled given now old answer
   pub how : Shown
   pub shows : Shows left answer.step.act done (Some how)
   pub is : step ≡ shown_step how answer.step
-  pub leaves : new ≡ left_by now how answer old
+  pub leaves : LeftBy now how answer old new
 
 -- or it is shown by nothing that may be done of it
 pub record IsUnanswered (left : Option ℕ) (given : Input) (now : ℕ) (done : Act) (old : Coordinator) : Type 0 where
   pub answer : Answer
-  pub rules : Rules given now old answer
+  pub ruled : IsRuled given now old answer
   pub shows : Shows left answer.step.act done None
 
 abbrev pub Answered : Option ℕ → Input → ℕ → Act → (old new : Coordinator) → Option Step → Type 0

@@ -1,4 +1,3 @@
-pub mod Planning
 pub mod Leaving
 pub mod Standing
 pub mod Following

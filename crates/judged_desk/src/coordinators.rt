@@ -1,14 +1,11 @@
 //! The coordinator, as its own entries left it.
 ghost use Rattle.std.specs.Prelude.{◌≡◌, ◌+◌, ◌<◌, ◌^◌, true, OnOk, IfSome};
-ghost use Rattle.history_rules.specs.Own as own;
 ghost use Rattle.session_memory.specs.Changes.{may_come};
-ghost use Rattle.judged_desk.specs.Planning.{comes_at, planned, planned_again, settled};
 ghost use Rattle.judged_desk.specs.Leaving.{known_after};
 
 use coordinator_rules::{Answer, Moments, started, uncounted};
 use durable_records::SessionRecord;
-use judged_devices::{Device, Event, Plain, Shown, act_of, given_in};
-use retry_turns::Turns;
+use judged_devices::{Device, Event, Plain, Shown, act_of, given_in, still};
 use seata_types::{Act, Durable, Input, NoMemory, Step, Xid};
 use session_memory::Memory;
 use session_memory::uncounted::apply;
@@ -16,7 +13,7 @@ use std::alloc::Global;
 use std::mem;
 
 /// The coordinator, as its own entries left it: its settings, what it knows, the moments that it goes by, and the record in flight
-/// while it is down. No turn is planned after the last moment, which is 2^64 - 1.
+/// while it is down.
 #[derive(Drop)]
 pub struct Coordinator {
     pub retry: u64,
@@ -33,7 +30,7 @@ impl Coordinator {
     ghost use Rattle.session_memory.specs.Changes.{may_come};
     ghost use Rattle.judged_devices.specs.Showing.{IsPlain};
     ghost use Rattle.judged_devices.specs.Taking.{event_of};
-    ghost use Rattle.judged_desk.specs.Leaving.{Answered, CanServe, Stayed, Took, fallen, followed, landed, left_plain, made, opened, stands};
+    ghost use Rattle.judged_desk.specs.Leaving.{Answered, CanServe, IsFollowed, IsStood, Stayed, Took, fallen, landed, left_plain, opened};
 
     /// Takes an entry as its act shows it: the step that is done with it, or none where none is. After an error, or none, nothing
     /// more is asked of it.
@@ -46,7 +43,8 @@ impl Coordinator {
         done: &Act,
     ) -> Result<Option<Step>, NoMemory>
         requires ready { CanServe self.old }
-        ensures { IfOk result (Took device.now (event_of event.now) now done.now self.old self.new) }
+        ensures { IfOk result (Took device.now
+            (event_of event.now) now done.now self.old self.new) }
     {
         match given_in(device.down, event) {
             Some(given) => self.answer(alloc, device, given, now, done),
@@ -66,9 +64,8 @@ impl Coordinator {
         requires ready { CanServe self.old }
         ensures { IfOk result (Answered device.now.left given.now now done.now self.old self.new) }
     {
-        let due = self.moments.turns.next_due(now);
-        let rests = &self.moments.rests;
-        let answer = uncounted::answer(alloc, &self.memory, due, rests, self.forget, given, now)?;
+        let moments = &self.moments;
+        let answer = uncounted::answer(alloc, &self.memory, moments, self.forget, given, now)?;
         match device.shows(&answer.step.act, done) {
             Some(Shown::Done) => self.stand(alloc, answer, now),
             Some(Shown::Cut { flight }) => Ok(Some(self.fall(answer, flight))),
@@ -84,7 +81,7 @@ impl Coordinator {
         requires room { self.old.memory.acts + 1 < 2 ^ 32 }
         requires comes { IfSome answer.asked (λ item. may_come self.old.memory item ≡ true) }
         ensures step { IfOk result (λ step. step ≡ Some answer.step) }
-        ensures left { OnOk result (self.new ≡ stands now answer self.old) }
+        ensures left { OnOk result (IsStood now answer self.old self.new) }
     {
         let Answer { step, asked, again } = answer;
         match self.follow(alloc, asked, again, now) {
@@ -106,11 +103,11 @@ impl Coordinator {
     ) -> Result<(), NoMemory>
         requires room { self.old.memory.acts + 1 < 2 ^ 32 }
         requires comes { IfSome asked (λ item. may_come self.old.memory item ≡ true) }
-        ensures { OnOk result (self.new ≡ followed now asked again self.old) }
+        ensures { OnOk result (IsFollowed now asked again self.old self.new) }
     {
         match asked {
             Some(item) => self.make(alloc, item, now),
-            None => go_again(&mut self.moments, again, now, self.retry),
+            None => self.go_again(again, now),
         }
     }
 
@@ -118,15 +115,32 @@ impl Coordinator {
     fn make(&mut self, alloc: Global, item: SessionRecord, now: u64) -> Result<(), NoMemory>
         requires room { self.old.memory.acts + 1 < 2 ^ 32 }
         requires comes { may_come self.old.memory item ≡ true }
-        ensures { OnOk result (self.new ≡ made now item self.old) }
+        ensures { OnOk result (IsFollowed now (Some item) None self.old self.new) }
     {
-        let known = apply(alloc, &mut self.memory, &item);
-        let left = match known {
-            Ok(()) => settle(&mut self.moments, &item, now, self.retry),
-            Err(error) => Err(error),
-        };
+        let made = self.know(alloc, &item, now);
         drop(item);
-        left
+        made
+    }
+
+    fn know(&mut self, alloc: Global, item: &SessionRecord, now: u64) -> Result<(), NoMemory>
+        requires room { self.old.memory.acts + 1 < 2 ^ 32 }
+        requires comes { may_come self.old.memory item.now ≡ true }
+        ensures { OnOk result (IsFollowed now (Some item.now) None self.old self.new) }
+    {
+        self.moments.prepare(item, now)?;
+        apply(alloc, &mut self.memory, item)?;
+        self.moments.settle(item, now, self.retry);
+        Ok(())
+    }
+
+    // A transaction is due again later, if there is one.
+    fn go_again(&mut self, again: Option<Xid>, now: u64) -> Result<(), NoMemory>
+        ensures { OnOk result (IsFollowed now None again self.old self.new) }
+    {
+        match again {
+            Some(xid) => self.moments.plan_again(xid, now, self.retry),
+            None => Ok(()),
+        }
     }
 
     // It went down with what an answer asks for in flight.
@@ -158,7 +172,8 @@ impl Coordinator {
     ) -> Result<Option<Step>, NoMemory>
         requires plain { IsPlain device.now (event_of event.now) }
         requires ready { CanServe self.old }
-        ensures { IfOk result (Stayed device.now (event_of event.now) now done.now self.old self.new) }
+        ensures { IfOk result (Stayed device.now
+            (event_of event.now) now done.now self.old self.new) }
     {
         let Some(plain) = device.does(false, event, done) else {
             return Ok(None);
@@ -223,59 +238,4 @@ fn add(alloc: Global, memory: &mut Memory, asked: Option<SessionRecord>) -> Resu
         }
         None => Ok(()),
     }
-}
-
-// The moments after a record.
-fn settle(moments: &mut Moments, item: &SessionRecord, now: u64, retry: u64) -> Result<(), NoMemory>
-    ensures { OnOk result (moments.new ≡ settled retry now item.now moments.old) }
-{
-    match item {
-        SessionRecord::Decided { xid, .. } => moments.turns.plan(*xid, now),
-        SessionRecord::Ended { xid, .. } => moments.turns.plan(*xid, now),
-        SessionRecord::Retrying { xid } => plan(&mut moments.turns, *xid, later(now, retry)),
-        SessionRecord::Failed { xid, .. } => plan(&mut moments.turns, *xid, None),
-        SessionRecord::Finished { xid } => {
-            moments.turns.forget(*xid);
-            moments.rests.plan(*xid, now)
-        }
-        SessionRecord::Forgot { xid } => plan(&mut moments.rests, *xid, None),
-        SessionRecord::Begun { .. } | SessionRecord::Granted { .. } => Ok(()),
-    }
-}
-
-// A transaction is due again later, if there is one.
-fn go_again(moments: &mut Moments, again: Option<Xid>, now: u64, retry: u64) -> Result<(), NoMemory>
-    ensures { OnOk result (moments.new ≡ planned_again retry now again moments.old) }
-{
-    match again {
-        Some(xid) => plan(&mut moments.turns, xid, later(now, retry)),
-        None => Ok(()),
-    }
-}
-
-// A transaction is planned for a moment, or for none.
-fn plan(turns: &mut Turns, xid: Xid, at: Option<u64>) -> Result<(), NoMemory>
-    ensures { OnOk result (turns.new ≡ planned turns.old xid.0 at) }
-{
-    match at {
-        Some(at) => turns.plan(xid, at),
-        None => {
-            turns.forget(xid);
-            Ok(())
-        }
-    }
-}
-
-// The moment so many ticks later, where it comes.
-fn later(now: u64, retry: u64) -> Option<u64>
-    ensures { result ≡ comes_at (now + retry) }
-{
-    now.checked_add(retry)
-}
-
-// Nothing is sent.
-fn still(act: Act) -> Step
-    ensures { result ≡ own.still act }
-{
-    Step { act, sent: None }
 }

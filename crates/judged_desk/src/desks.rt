@@ -54,7 +54,8 @@ impl Desk {
         requires stands { CanTake self.old }
         requires room { self.old.device.taken < OWN_ENTRIES }
         ensures { IfOk result (λ step. (t : Times) (os : List Own) → Follows t os self.old →
-            Takes (CoordinatorRole t []) os (event_of event.now) now done.now (λ after. Follows t after self.new) step) }
+            Takes (CoordinatorRole t []) os (event_of event.now) now done.now
+            (λ after. Follows t after self.new) step) }
     {
         let device = self.device;
         match self.coordinator.take(alloc, &device, event, now, done) {

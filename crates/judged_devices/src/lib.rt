@@ -10,9 +10,11 @@ pub mod limits;
 mod looks;
 mod restarts;
 pub mod shown;
+mod steps;
 
 pub use devices::Device;
 pub use events::Event;
 pub use looks::{act_of, same_act};
 pub use restarts::given_in;
 pub use shown::{Back, Plain, Shown};
+pub use steps::still;

@@ -58,8 +58,10 @@ impl Talk {
     ) -> Result<Option<Step>, NoMemory>
         requires stands { CanTake self.old }
         requires room { self.old.taken < OWN_ENTRIES }
-        ensures { IfOk result (λ step. (m : Rules) (os : Entries Own) (now : ℕ) → Follows m os self.old →
-            Takes (Manager m) os (Given input.now) now done.now (λ after. Follows m after self.new) step) }
+        ensures { IfOk result (λ step. (m : Rules) (os : Entries Own) (now : ℕ) →
+            Follows m os self.old →
+            Takes (Manager m) os (Given input.now) now done.now
+            (λ after. Follows m after self.new) step) }
     {
         let step = self.talk.answer(alloc, input)?;
         self.taken += 1;

@@ -1,2 +1,2 @@
 pub mod LocalLaws
-pub mod StepLaws
+pub mod OutsideLaws

@@ -1,3 +1,2 @@
 pub mod Locals
 pub mod Outside
-pub mod Steps

@@ -1,32 +1,52 @@
--- What the coordinator's answers do to a guarded local transaction.
-use Rattle.std.specs.Prelude.{ℕ, List, [], Option, Some, None, Result, Ok, Err}
+-- A guarded local transaction: what its opening answers, what the coordinator's answers to its lock query ask of a resource, and what
+-- the act that this answers by its rules tells.
+use Rattle.std.specs.Prelude.{◌≡◌, ℕ, List, [], Option, Some, None, Result, Ok, Err}
+use Rattle.disk_model.specs.Disk.{DiskState}
+use Rattle.seata_types.specs.declared.acts.Act.{Act}
+use Rattle.seata_types.specs.declared.acts.Act.TheVariants as act
+use Rattle.seata_types.specs.declared.acts.Durable.TheVariants as durable
 use Rattle.seata_types.specs.declared.errors.StoreError.{StoreError}
+use Rattle.seata_types.specs.declared.ids.Place.TheVariants as place
 use Rattle.seata_types.specs.declared.ids.Ticket.{Ticket}
+use Rattle.seata_types.specs.declared.ids.Xid.{Xid}
+use Rattle.seata_types.specs.declared.messages.Input.{Input}
+use Rattle.seata_types.specs.declared.messages.Input.TheVariants as input
+use Rattle.seata_types.specs.declared.messages.Message.TheVariants as message
+use Rattle.seata_types.specs.declared.rows.RowKey.{RowKey}
+use Rattle.seata_types.specs.declared.statements.Stmt.{Stmt}
+use Rattle.local_tables.specs.Calls.{effect}
 use Rattle.local_tables.specs.Rows.{Database}
-use Rattle.durable_records.specs.declared.resources.ResourceRecord.{ResourceRecord}
 use Rattle.local_txn.specs.OpenTickets.{Owner, OfCall, OfLocal, Open, without}
-use Rattle.local_txn.specs.Answers.{Tickets, with_opens}
-use Rattle.history_rules.specs.ResourceMemory.{local_committed_of}
-use Rattle.resource_store.specs.Answers.{Answer, only, making, TakesRows}
+use Rattle.local_txn.specs.Answers.{Executes, Tickets, with_opens}
+use Rattle.local_txn.specs.declared.transactions.ExecError.{ExecError}
+use Rattle.history_rules.specs.ResourceMemory.{Setup, Memory, local_committed_of}
+use Rattle.history_rules.specs.ResourceRules.{resource_answer}
+use Rattle.resource_store.specs.declared.store.Store.{Store}
+use Rattle.resource_store.specs.Answers.{TakesRows}
+use Rattle.rule_calls.specs.Calls.{GivesAs, bare}
 
--- no transaction holds a row of a ticket: it commits, where it is of a local transaction
-abbrev pub freed_by : Open → Owner → Answer (Option ℕ)
-freed_by o (OfLocal k) = making (local_committed_of k o) (Some k)
-freed_by o (OfCall m x c w) = only None
+-- its statements open its ticket on these tables, or tell why not
+abbrev pub OpensLocal : Database → (number : ℕ) → List Stmt → Result Ticket ExecError → Tickets → Tickets → Type 0
+OpensLocal db number stmts result old new = Executes old (OfLocal number) (effect db stmts) result new
 
--- a ticket that isn't open does nothing
-abbrev pub freed : Option Open → Database → List ResourceRecord → Answer (Option ℕ)
-freed None db rs = only None
-freed (Some o) db rs = freed_by o o.owner
+-- the coordinator answers that a transaction holds this row of a ticket, or that none holds one
+abbrev pub answering : Ticket → (held : Option (RowKey × Xid)) → Input
+answering t held = input.Message place.Tc (message.LockAnswer t held)
 
--- the number of a local transaction
-abbrev pub number_by : Owner → Option ℕ
-number_by (OfLocal k) = Some k
-number_by (OfCall m x c w) = None
+-- the number of the local transaction that ends: it commits, or is dropped
+abbrev pub ended_by : Act → Option ℕ
+ended_by (act.Durable (durable.LocalCommitted k t)) = Some k
+ended_by (act.DroppedLocal k t key holder) = Some k
+ended_by _ = None
 
-abbrev pub local_number : Option Open → Option ℕ
-local_number None = None
-local_number (Some o) = number_by o.owner
+-- no row of one of these open tickets is held
+abbrev pub Frees : {D : Type 0} → (D → DiskState) → List Open → Ticket → Result (Option ℕ) StoreError → Store D → Store D → Type 0
+Frees state opens t result old new = GivesAs state ended_by bare (answering t None) opens result old new
+
+-- a row of it is held, whichever, by whatever transaction
+abbrev pub Drops : List Open → Ticket → Option ℕ → Type 0
+Drops opens t number =
+    (s : Setup) (m : Memory) (key : RowKey) (holder : Xid) → m.opens ≡ opens → number ≡ ended_by (resource_answer s m (answering t (Some (key, holder)))).act
 
 -- a ticket is open no longer where it was that of the local transaction with this number
 abbrev pub closed : Ticket → Option ℕ → Tickets → Tickets

@@ -1,52 +1,38 @@
--- What an outside write does, by the meaning of its statements and the open tickets.
-use Rattle.std.specs.Prelude.{◌≡◌, ℕ, List, None, Result, Ok, Err}
+-- An outside write: what it asks of a resource that has its statements, and what the act that this answers by its rules tells.
+use Rattle.std.specs.Prelude.{ℕ, List, [], ◌∷◌, Result, Ok, Err}
 use Rattle.disk_model.specs.Disk.{DiskState}
-use Rattle.seata_types.specs.declared.errors.StmtError.{StmtError}
+use Rattle.seata_types.specs.declared.acts.Act.{Act}
+use Rattle.seata_types.specs.declared.acts.Act.TheVariants as act
 use Rattle.seata_types.specs.declared.errors.StoreError.{StoreError}
 use Rattle.seata_types.specs.declared.errors.StoreError.TheVariants as store_error
-use Rattle.seata_types.specs.declared.ids.Ticket.{Ticket}
-use Rattle.seata_types.specs.declared.rows.RowKey.{RowKey}
-use Rattle.local_tables.specs.declared.schemas.Effect.{Effect}
-use Rattle.local_tables.specs.declared.schemas.EffectError.{EffectError}
-use Rattle.local_tables.specs.declared.schemas.EffectError.TheVariants as fault
-use Rattle.durable_records.specs.declared.resources.ResourceRecord.TheVariants as log
-use Rattle.local_txn.specs.OpenTickets.{Open, busy_row}
-use Rattle.local_txn.specs.Answers.{IsBusy}
+use Rattle.seata_types.specs.declared.errors.Why.TheVariants as why
+use Rattle.seata_types.specs.declared.messages.Input.TheVariants as input
+use Rattle.seata_types.specs.declared.statements.Stmt.{Stmt}
+use Rattle.local_txn.specs.OpenTickets.{Open}
+use Rattle.resource_rules.specs.Apart.{writes_on}
+use Rattle.resource_rules.specs.declared.setups.Setup.{Setup as TheSetup}
 use Rattle.resource_store.specs.declared.store.Store.{Store}
-use Rattle.resource_store.specs.Keeping.{Changes}
+use Rattle.resource_store.specs.Answers.{Gives}
+use Rattle.resource_store.specs.Keeping.{known}
+use Rattle.rule_calls.specs.Calls.{GivesAs, told_of}
 use Rattle.local_guard.specs.declared.answers.OutsideError.{OutsideError}
 use Rattle.local_guard.specs.declared.answers.OutsideError.TheVariants as error
 
--- The statements have an effect, of rows that no open ticket has, and its record is made, or why it isn't.
-pub record Writes {D : Type 0} (state : D → DiskState) (number : ℕ) (opens : List Open) (meaning : Result Effect (ℕ × StmtError))
-    (result : Result (Unit {0}) StoreError) (old new : Store D) : Type 0 where
-  pub effect : Effect
-  pub means : meaning ≡ Ok effect
-  pub free : busy_row opens effect ≡ None
-  pub changes : Changes state (log.Outside number effect.images) result old new
+abbrev pub Written : Type 0
+Written = Result (Unit {0}) OutsideError
 
--- an outside write: refused, busy, done; want of memory alone is free
-abbrev pub WritesOutside : {D : Type 0} → (D → DiskState) → (number : ℕ) → List Open → Result Effect (ℕ × StmtError) → Result (Unit {0}) OutsideError → Store D → Store D → Type 0
-WritesOutside state number opens meaning (Ok done) old new = Writes state number opens meaning (Ok tt) old new
-WritesOutside state number opens meaning (Err (error.Stmt index why)) old new = (meaning ≡ Err (index, why)) × (new ≡ old)
-WritesOutside state number opens meaning (Err (error.Busy key by)) old new = IsBusy opens meaning key by × (new ≡ old)
-WritesOutside state number opens meaning (Err error.Failed) old new = Writes state number opens meaning (Err store_error.Failed) old new
-WritesOutside state number opens meaning (Err (error.Full full)) old new = Writes state number opens meaning (Err (store_error.Full full)) old new
-WritesOutside state number opens meaning (Err error.NoMemory) old new = new ≡ old
+-- refused at a statement without a meaning, busy, else written
+abbrev pub written_by : Act → Written
+written_by (act.RefusedLocal k (why.Stmt index cause)) = Err (error.Stmt index cause)
+written_by (act.BusyLocal k key by) = Err (error.Busy key by)
+written_by _ = Ok tt
 
--- what became of the record of an outside write; a write that is refused makes none, as without memory
-abbrev pub made_by : Result (Unit {0}) OutsideError → Result (Unit {0}) StoreError
-made_by (Ok done) = Ok tt
-made_by (Err (error.Stmt index why)) = Err store_error.NoMemory
-made_by (Err (error.Busy key by)) = Err store_error.NoMemory
-made_by (Err error.Failed) = Err store_error.Failed
-made_by (Err (error.Full full)) = Err (store_error.Full full)
-made_by (Err error.NoMemory) = Err store_error.NoMemory
-
--- the answer where statements have no effect
-abbrev pub refusal : EffectError → OutsideError
-refusal (fault.At index why) = error.Stmt index why
-refusal fault.NoMemory = error.NoMemory
+-- an answer in the manner of other calls on a store: what is told, or the store's own error
+abbrev pub told : Written → Result Written StoreError
+told (Err error.Failed) = Err store_error.Failed
+told (Err (error.Full full)) = Err (store_error.Full full)
+told (Err error.NoMemory) = Err store_error.NoMemory
+told answer = Ok answer
 
 -- the answer where the record isn't made
 abbrev pub failure : StoreError → OutsideError
@@ -54,10 +40,14 @@ failure store_error.Failed = error.Failed
 failure (store_error.Full full) = error.Full full
 failure store_error.NoMemory = error.NoMemory
 
--- the answer where a row is open, unless memory was refused
-abbrev pub TellsBusy : RowKey → Ticket → OutsideError → Type 0
-TellsBusy r t (error.Stmt index why) = ⊥
-TellsBusy r t (error.Busy key by) = (key ≡ r) × (by ≡ t)
-TellsBusy r t error.Failed = ⊥
-TellsBusy r t (error.Full full) = ⊥
-TellsBusy r t error.NoMemory = Unit {0}
+-- a resource whose one local transaction has this number and these statements
+abbrev pub writing : (number : ℕ) → List Stmt → TheSetup
+writing number stmts = record { number = 0; tries = 0; actions = []; locals = (number, stmts) ∷ [] }
+
+-- a write that is given, by the records that are kept and these open tickets
+abbrev pub Writes : {D : Type 0} → (D → DiskState) → (number : ℕ) → List Stmt → List Open → Written → Store D → Store D → Type 0
+Writes state number stmts opens result old new = GivesAs state written_by (writing number stmts) (input.Outside number) opens (told result) old new
+
+-- the same by what is known, whatever the disks keep
+abbrev pub WritesOn : {D : Type 0} → (D → DiskState) → (number : ℕ) → List Stmt → List Open → Written → Store D → Store D → Type 0
+WritesOn state number stmts opens result old new = Gives state (told_of written_by (writes_on (known old) opens number stmts)) (told result) old new

@@ -1,18 +1,20 @@
 //! Guarded local transactions.
-ghost use Rattle.std.specs.Prelude.{◌≡◌, ◌<◌, ◌≤◌, ◌^◌, ◌-◌, false, [], length, IfSome};
+ghost use Rattle.std.specs.Prelude.{◌≡◌, ◌<◌, ◌≤◌, ◌^◌, ◌-◌, false, None, [], length, IfSome};
 ghost use Rattle.seata_types.specs.declared.limits.TheConstants.{FIELD_ITEMS};
 ghost use Rattle.durable_records.specs.declared.resources.ResourceRecord.TheVariants as log;
-ghost use Rattle.local_tables.specs.Calls.{effect};
-ghost use Rattle.local_txn.specs.OpenTickets.{OfLocal, open_at};
-ghost use Rattle.local_txn.specs.Answers.{Executes, open_of};
-ghost use Rattle.resource_store.specs.Keeping.{known, is_down, Changes};
-ghost use Rattle.resource_store.specs.Answers.{Gives, GivesBy, Leaves, TakesRows};
-ghost use Rattle.local_guard.specs.Locals.{freed, freed_by, local_number, number_by, closed, tickets_after, MayCommit};
+ghost use Rattle.local_txn.specs.OpenTickets.{open_at};
+ghost use Rattle.resource_rules.specs.Locals.{lock_answered};
+ghost use Rattle.resource_store.specs.Keeping.{known, is_down};
+ghost use Rattle.resource_store.specs.Answers.{Gives, Leaves, TakesRows};
+ghost use Rattle.rule_calls.specs.Calls.{told_of};
+ghost use Rattle.local_guard.specs.Locals.{closed, ended_by, tickets_after, Drops, Frees, MayCommit, OpensLocal};
 
 use disk_model::Disk;
 use local_txn::{ExecError, LocalTxns, OpenTxn};
+use resource_rules::{local_answered, local_at};
 use resource_store::Store;
-use seata_types::{Duplicate, List, NoMemory, Shared, Stmt, StoreError, Ticket, Xid};
+use rule_calls::carry_out;
+use seata_types::{Act, Durable, List, NoMemory, Shared, Stmt, StoreError, Ticket, Xid};
 use std::alloc::Global;
 
 /// Opens a guarded local transaction by its number, on the tables as they are now: the ticket, or the first statement without a
@@ -26,7 +28,7 @@ pub fn open_local<D: Disk>(
 ) -> Result<Ticket, ExecError>
     requires statements { length stmts.now ≤ FIELD_ITEMS }
     requires tickets { txns.old.opened < 2 ^ 32 - 1 }
-    ensures { Executes txns.old (OfLocal number) (effect (known store.now).tables stmts.now) result txns.new }
+    ensures { OpensLocal (known store.now).tables number stmts.now result txns.old txns.new }
 {
     txns.execute(alloc, Xid(0), number, 0, stmts, store.tables())
 }
@@ -41,11 +43,11 @@ pub fn on_free<D: Disk>(
 ) -> Result<Option<u16>, StoreError>
     requires up { is_down store.old ≡ false }
     requires may { IfSome (open_at txns.old.opens ticket) (MayCommit (known store.old).tables) }
-    ensures answer { GivesBy D.state (freed (open_at txns.old.opens ticket)) result store.old store.new }
+    ensures answer { Frees D.state txns.old.opens ticket result store.old store.new }
     ensures leaves { Leaves D.state result store.old store.new }
     ensures tickets { txns.new ≡ tickets_after ticket result txns.old }
 {
-    let Some(txn) = txns.find(ticket) else {
+    let Some(txn) = local_at(txns, ticket) else {
         return Ok(None);
     };
     match free(alloc, store, txn) {
@@ -57,53 +59,47 @@ pub fn on_free<D: Disk>(
     }
 }
 
-// Commits an open ticket, where it is that of a guarded local transaction.
+// Commits a guarded local transaction, whose ticket is open.
 fn free<D: Disk>(
     alloc: Global,
     store: &mut Store<D>,
     txn: &OpenTxn,
 ) -> Result<Option<u16>, StoreError>
     requires up { is_down store.old ≡ false }
-    requires may { MayCommit (known store.old).tables (open_of txn.now) }
-    ensures gives { Gives D.state (freed_by (open_of txn.now) (open_of txn.now).owner) result store.old store.new }
+    requires may { TakesRows (known store.old).tables txn.now.images [] (log.LocalCommitted txn.now.call txn.now.images) }
+    ensures gives { Gives D.state (told_of ended_by (lock_answered txn.now None)) result store.old store.new }
     ensures leaves { Leaves D.state result store.old store.new }
 {
-    match number_of(txn) {
-        Some(number) => match commit(alloc, store, txn, number) {
-            Ok(()) => Ok(Some(number)),
+    match local_answered(alloc, txn, &None) {
+        Ok(answer) => match carry_out(alloc, store, answer) {
+            Ok(act) => Ok(ended_by(&act)),
             Err(error) => Err(error),
         },
-        None => Ok(None),
+        Err(NoMemory) => Err(StoreError::NoMemory),
     }
 }
 
-// Makes the record of a guarded local transaction with this number.
-fn commit<D: Disk>(
-    alloc: Global,
-    store: &mut Store<D>,
-    txn: &OpenTxn,
-    number: u16,
-) -> Result<(), StoreError>
-    requires up { is_down store.old ≡ false }
-    requires may { TakesRows (known store.old).tables txn.now.images [] (log.LocalCommitted number txn.now.images) }
-    ensures { Changes D.state (log.LocalCommitted number txn.now.images) result store.old store.new }
+// The number of the local transaction that ends with an act.
+fn ended_by(act: &Act) -> Option<u16>
+    ensures { result ≡ ended_by act.now }
 {
-    match txn.images.copy(alloc) {
-        Ok(images) => store.local_committed(alloc, number, images),
-        Err(NoMemory) => Err(StoreError::NoMemory),
+    match act {
+        Act::Durable(Durable::LocalCommitted { number, .. }) => Some(*number),
+        Act::DroppedLocal { number, .. } => Some(*number),
+        _ => None,
     }
 }
 
 /// A transaction holds a row of a ticket: its guarded local transaction is given up, and isn't open any more. Its number, or none
 /// exactly where the ticket isn't that of an open one. Takes no memory.
 pub fn on_held(txns: &mut LocalTxns, ticket: Ticket) -> Option<u16>
-    ensures number { result ≡ local_number (open_at txns.old.opens ticket) }
+    ensures number { Drops txns.old.opens ticket result }
     ensures tickets { txns.new ≡ closed ticket result txns.old }
 {
-    let number = match txns.find(ticket) {
-        Some(txn) => number_of(txn),
-        None => None,
+    let Some(txn) = local_at(txns, ticket) else {
+        return None;
     };
+    let number = Some(txn.call);
     close(txns, ticket, number);
     number
 }
@@ -116,11 +112,4 @@ fn close(txns: &mut LocalTxns, ticket: Ticket, number: Option<u16>)
         Some(_) => drop(txns.take(ticket)),
         None => {}
     }
-}
-
-// The number of an open guarded local transaction.
-fn number_of(txn: &OpenTxn) -> Option<u16>
-    ensures { result ≡ number_by (open_of txn.now).owner }
-{
-    if txn.xid.0 == 0 { Some(txn.call) } else { None }
 }

@@ -5,7 +5,6 @@
 
 pub mod answers;
 mod guarded;
-pub mod laws;
 mod outside_writes;
 
 pub use answers::OutsideError;

@@ -1,5 +1,5 @@
 -- The first row that another transaction holds, in two lists one after the other.
-use Rattle.std.proofs.Common.{◌≡◌, Bool, true, false, cond, ◌==◌, List, [], ◌∷◌, ◌++◌, Option, Some, None, Result, Ok, Err, refl, ◌∙◌}
+use Rattle.std.proofs.Common.{◌≡◌, Bool, true, false, cond, if◌then◌else◌, ◌==◌, List, [], ◌∷◌, ◌++◌, Option, Some, None, Result, Ok, Err, refl, ◌∙◌}
 use Rattle.std.specs.Prelude.{IfOk}
 use Rattle.seata_types.specs.declared.ids.Xid.{Xid}
 use Rattle.seata_types.specs.declared.rows.RowKey.{RowKey}
@@ -34,3 +34,16 @@ none_at r x (Some y) rest all o later e = none_on (y.0 == x.0) rest all o (r, y)
 pub none_first : (ls : Locks) (x : Xid) (a b : List RowKey) → first_locked ls x a ≡ None → first_locked ls x (a ++ b) ≡ first_locked ls x b
 none_first ls x [] b e = refl
 none_first ls x (r ∷ rs) b e = none_at r x (locked ls r) (first_locked ls x rs) (first_locked ls x (rs ++ b)) (first_locked ls x b) (none_first ls x rs b) e
+
+free_by : (ls : Locks) (x : Xid) (k : RowKey) (o : Option Xid) (all rest : Option (RowKey × Xid)) → if_other k x o all ≡ None → (all ≡ None → rest ≡ None) → if_other k x o rest ≡ None
+free_by ls x k None all rest e below = below e
+free_by ls x k (Some y) all rest e below = by (y.0 == x.0) e
+  where
+    by : (b : Bool) → (if b then all else Some (k, y)) ≡ None → (if b then rest else Some (k, y)) ≡ None
+    by true e = below e
+    by false e = e
+
+-- where none of all is held, none of the first ones is
+pub free_first : (ls : Locks) (x : Xid) (a b : List RowKey) → first_locked ls x (a ++ b) ≡ None → first_locked ls x a ≡ None
+free_first ls x [] b e = refl
+free_first ls x (k ∷ ks) b e = free_by ls x k (locked ls k) (first_locked ls x (ks ++ b)) (first_locked ls x ks) e (free_first ls x ks b)

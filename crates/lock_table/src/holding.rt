@@ -35,7 +35,8 @@ pub(crate) fn conflict<C: Count>(
 ) -> Result<(), HoldError>
     requires { IsRising rows.now }
     ensures found { FindsConflict rows.now xid keys.now result }
-    ensures cost { TakesAtMost (length keys.now) (length rows.now) (C.count steps.old) (C.count steps.new) }
+    ensures cost { TakesAtMost (length keys.now) (length rows.now) (C.count steps.old)
+        (C.count steps.new) }
 {
     for key in keys {
         if let Some(by) = index::holder(rows, key, steps) {
@@ -94,8 +95,10 @@ pub(crate) fn put_all<C: Count>(
     requires room { vec_len rows.old + length keys.items ≤ vec_capacity rows.old }
     requires free { first_locked rows.old.items xid keys.items ≡ None }
     ensures order { IsRising rows.new.items }
-    ensures there { (q : Key) → locked rows.new.items q ≡ (if has_key keys.items q then Some xid else locked rows.old.items q) }
-    ensures cost { TakesAtMost (length keys.items) (length rows.old.items + length keys.items) (C.count steps.old) (C.count steps.new) }
+    ensures there { (q : Key) → locked rows.new.items q ≡
+        (if has_key keys.items q then Some xid else locked rows.old.items q) }
+    ensures cost { TakesAtMost (length keys.items) (length rows.old.items + length keys.items)
+        (C.count steps.old) (C.count steps.new) }
 {
     for key in keys {
         index::put(rows, key, xid, steps);
@@ -147,7 +150,9 @@ fn take_out_free(
 )
     requires { IsRising rows.old.items }
     ensures order { IsRising rows.new.items }
-    ensures there { (q : Key) → locked rows.new.items q ≡ (if is_key key.now q && not (holds legs.now.entries xid q) then None else locked rows.old.items q) }
+    ensures there { (q : Key) → locked rows.new.items q ≡
+        (if is_key key.now q && not (holds legs.now.entries xid q) then None
+        else locked rows.old.items q) }
 {
     if !holds(legs, xid, key) {
         index::take_out(rows, key);
@@ -163,7 +168,9 @@ pub(crate) fn take_out_all(
 )
     requires { IsRising rows.old.items }
     ensures order { IsRising rows.new.items }
-    ensures there { (q : Key) → locked rows.new.items q ≡ (if has_key keys.now q && not (holds legs.now.entries xid q) then None else locked rows.old.items q) }
+    ensures there { (q : Key) → locked rows.new.items q ≡
+        (if has_key keys.now q && not (holds legs.now.entries xid q) then None
+        else locked rows.old.items q) }
 {
     for key in keys {
         take_out_free(rows, legs, key, xid);
@@ -184,7 +191,8 @@ fn leg_of(legs: &BTreeMap<Leg, List<RowKey>>, xid: Xid) -> Option<Leg>
 fn take_out_each(rows: &mut Vec<(RowKey, Xid)>, keys: &[RowKey])
     requires { IsRising rows.old.items }
     ensures order { IsRising rows.new.items }
-    ensures there { (q : Key) → locked rows.new.items q ≡ (if has_key keys.now q then None else locked rows.old.items q) }
+    ensures there { (q : Key) → locked rows.new.items q ≡
+        (if has_key keys.now q then None else locked rows.old.items q) }
 {
     for key in keys {
         index::take_out(rows, key);
@@ -196,7 +204,8 @@ fn give_leg(rows: &mut Vec<(RowKey, Xid)>, legs: &mut BTreeMap<Leg, List<RowKey>
     requires { IsRising rows.old.items }
     ensures order { IsRising rows.new.items }
     ensures legs { legs.new.entries ≡ without_leg legs.old.entries leg }
-    ensures there { (q : Key) → locked rows.new.items q ≡ (if has_key (rows_of legs.old.entries leg) q then None else locked rows.old.items q) }
+    ensures there { (q : Key) → locked rows.new.items q ≡
+        (if has_key (rows_of legs.old.entries leg) q then None else locked rows.old.items q) }
 {
     if let Some(keys) = legs.remove(&leg) {
         take_out_each(rows, keys.as_slice());

@@ -16,7 +16,8 @@ use std::cmp::Ordering;
 // One comparison of two keys, which is a step.
 fn compare<C: Count>(key: &RowKey, other: &RowKey, steps: &mut C) -> Ordering
     ensures order { result ≡ key_cmp key.now other.now }
-    ensures counted { C.count steps.new ≡ (if C.counts then C.count steps.old + 1 else C.count steps.old) }
+    ensures counted { C.count steps.new ≡
+        (if C.counts then C.count steps.old + 1 else C.count steps.old) }
     ensures cost { C.count steps.new ≤ C.count steps.old + 1 }
 {
     steps.step();
@@ -61,11 +62,13 @@ pub(crate) fn put<C: Count>(rows: &mut Vec<(RowKey, Xid)>, key: RowKey, xid: Xid
     requires room { vec_len rows.old < vec_capacity rows.old }
     requires free { MayTake rows.old.items key xid }
     ensures order { IsRising rows.new.items }
-    ensures there { (q : Key) → locked rows.new.items q ≡ (if is_key key q then Some xid else locked rows.old.items q) }
+    ensures there { (q : Key) → locked rows.new.items q ≡
+        (if is_key key q then Some xid else locked rows.old.items q) }
     ensures length { vec_len rows.new ≤ vec_len rows.old + 1 }
     ensures size { length rows.new.items ≤ length rows.old.items + 1 }
     ensures room { vec_capacity rows.old ≤ vec_capacity rows.new }
-    ensures cost { (d : ℕ) → length rows.old.items < 2 ^ d → C.count steps.new ≤ C.count steps.old + d }
+    ensures cost { (d : ℕ) → length rows.old.items < 2 ^ d →
+        C.count steps.new ≤ C.count steps.old + d }
 {
     if let Err(at) = place(rows, &key, steps) {
         let inserted = rows.insert(at, (key, xid));

@@ -1,5 +1,5 @@
 //! The table of global locks.
-ghost use Rattle.std.specs.Prelude.{◌≡◌, ◌+◌, ◌*◌, IfOk, IfErr, OnOk, None, length, []};
+ghost use Rattle.std.specs.Prelude.{◌≡◌, ◌+◌, ◌*◌, ◌++◌, IfOk, OnErr, OnOk, None, length, []};
 ghost use Rattle.lock_table.specs.Locks.{HaveOneHolder, locks, holder, first_held, with_rows, without_leg, without_xid, TakesAtMost};
 ghost use Rattle.lock_table.specs.Answers.{FindsConflict, TakesRows};
 
@@ -52,16 +52,38 @@ impl LockTable {
         steps: &mut Steps<L>,
     ) -> Result<(), HoldError>
         ensures rows { TakesRows self.old leg hold.now check.now self.new result }
-        ensures cost { TakesAtMost (2 * length hold.now + length check.now) (length (locks self.old) + length hold.now) steps.old steps.new }
+        ensures cost { TakesAtMost (2 * length hold.now + length check.now)
+            (length (locks self.old) + length hold.now) steps.old steps.new }
     {
-        self.conflict(alloc, leg.xid, hold, steps)?;
-        self.conflict(alloc, leg.xid, check, steps)?;
-        self.take(alloc, leg, hold, steps)
+        self.conflict(alloc, leg.xid, hold, check, steps)?;
+        match self.hold(alloc, leg, hold, steps) {
+            Ok(()) => Ok(()),
+            Err(NoMemory) => Err(HoldError::NoMemory),
+        }
     }
 
-    /// Whether another transaction holds one of these rows, and the first one, as an error. A step is a comparison of two
-    /// keys.
+    /// Whether another transaction holds a row, and the first one, of those to hold and then those to check, as an error. A step is a
+    /// comparison of two keys.
     pub fn conflict<L: Ledger>(
+        &self,
+        alloc: Global,
+        xid: Xid,
+        hold: &[RowKey],
+        check: &[RowKey],
+        steps: &mut Steps<L>,
+    ) -> Result<(), HoldError>
+        ensures found { FindsConflict (locks self.now) xid (hold.now ++ check.now) result }
+        ensures cost { TakesAtMost (length hold.now + length check.now) (length (locks self.now))
+            steps.old steps.new }
+    {
+        match self.search(alloc, xid, hold, steps) {
+            Ok(()) => self.search(alloc, xid, check, steps),
+            Err(error) => Err(error),
+        }
+    }
+
+    // The same of rows in one list.
+    fn search<L: Ledger>(
         &self,
         alloc: Global,
         xid: Xid,
@@ -74,27 +96,25 @@ impl LockTable {
         holding::conflict(alloc, &self.rows, xid, keys, steps)
     }
 
-    // Takes rows that no other transaction holds.
-    fn take<L: Ledger>(
+    /// Takes rows for a branch that no other transaction holds, as `conflict` tells; without memory nothing changes. A step is a
+    /// comparison of two keys.
+    pub fn hold<L: Ledger>(
         &mut self,
         alloc: Global,
         leg: Leg,
         hold: &[RowKey],
         steps: &mut Steps<L>,
-    ) -> Result<(), HoldError>
+    ) -> Result<(), NoMemory>
         requires { first_held self.old leg.xid hold.now ≡ None }
         ensures ok { OnOk result (self.new ≡ with_rows self.old leg hold.now) }
-        ensures err { IfErr result (λ e. (e ≡ HoldError.NoMemory) × (self.new ≡ self.old)) }
-        ensures cost { TakesAtMost (length hold.now) (length (locks self.old) + length hold.now) steps.old steps.new }
+        ensures err { OnErr result (self.new ≡ self.old) }
+        ensures cost { TakesAtMost (length hold.now) (length (locks self.old) + length hold.now)
+            steps.old steps.new }
     {
         let keys = holding::copies(alloc, hold)?;
         let all = holding::with_rows(alloc, &self.holds, leg, hold)?;
-        let Ok(()) = self.rows.reserve(hold.len()) else {
-            return Err(HoldError::NoMemory);
-        };
-        let Ok(_) = self.holds.insert(leg, all) else {
-            return Err(HoldError::NoMemory);
-        };
+        self.rows.reserve(hold.len())?;
+        self.holds.insert(leg, all)?;
         holding::put_all(&mut self.rows, keys, leg.xid, steps);
         Ok(())
     }

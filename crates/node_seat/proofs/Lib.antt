@@ -7,3 +7,4 @@ mod Entries
 mod AfterTurns
 mod Beginning
 mod Arms
+pub mod Sendable

@@ -1,5 +1,5 @@
 pub mod Lists
-pub mod Origins
+pub mod Tickets
 pub mod SentLaws
 pub mod OpenLaws
 pub mod NumberedLaws

@@ -24,7 +24,7 @@ use Rattle.session_memory.proofs.GrantLaws.{grant_begun}
 use Rattle.report_text.specs.Following.{FindCalls, FindManagers}
 use Rattle.report_text.specs.Keeping.{Numbers, calls_among, calls_of_branches, managers_among, number_at, with_number}
 use Rattle.report_text.proofs.Lists.{counted_there}
-use Rattle.report_text.proofs.Origins.{equal_is}
+use Rattle.report_text.proofs.Tickets.{equal_is}
 
 -- ---- one number more
 

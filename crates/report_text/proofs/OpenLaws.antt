@@ -12,7 +12,7 @@ use Rattle.history_rules.specs.ResourceMemory.{Open, open_at, without, with_firs
 use Rattle.resource_memory.proofs.Maps.{at_insert, at_remove}
 use Rattle.session_memory.proofs.Passing.{both_ways}
 use Rattle.report_text.specs.Opens.{Works, AreOpen, ticket_cmp, work_at, with_work, without_work, work_of}
-use Rattle.report_text.proofs.Origins.{equal_is, ticket_total, ticket_exact}
+use Rattle.report_text.proofs.Tickets.{equal_is, ticket_total, ticket_exact}
 
 -- a ticket's place in the map is its own
 pub ticket_test : (t u : Ticket) → is_eq (ticket_cmp t u) ≡ same_ticket t u

@@ -31,7 +31,7 @@ use Rattle.report_text.specs.Made.{committed_from, tried_from, local_from, next_
 use Rattle.report_text.specs.Opens.{Works, AreOpen, ticket_cmp, with_work, work_of}
 use Rattle.report_text.specs.declared.kept.OpenWork.{OpenWork}
 use Rattle.report_text.proofs.OpenLaws.{opened_kept, closed_kept, again_kept, counted_kept}
-use Rattle.report_text.proofs.Origins.{ticket_total, ticket_exact}
+use Rattle.report_text.proofs.Tickets.{ticket_total, ticket_exact}
 use Rattle.report_text.proofs.SessionLaws.{few_stand, room_for}
 
 -- ---- records that come

@@ -28,12 +28,12 @@ use Rattle.history_rules.specs.ResourceMemory.{Setup, opening_tables}
 use Rattle.history_law.proofs.SessionHistory.{both_allowed}
 use Rattle.history_text.specs.History.{entries}
 use Rattle.history_text.specs.Lines.{entry_text}
-use Rattle.history_text.specs.Report.{line, lines, read_text, names_of, sections_text, report_text, report}
+use Rattle.history_text.specs.Report.{line, lines, read_text, names_of, sections_text, state_text, report_text, report}
 use Rattle.history_text.specs.Worlds.{resources_of, world_of}
 use Rattle.report_text.specs.Folds.{FoldedKept}
 use Rattle.report_text.specs.Following.{Follows}
 use Rattle.report_text.specs.Keeping.{ResourceKept}
-use Rattle.report_text.specs.Sections.{failed_at, line_in, holder_in, locks_in, rows_of_tables, rows_in, rows_kept, fences_in, fences_kept, sections_kept, state_text, text_kept}
+use Rattle.report_text.specs.Sections.{failed_at, line_in, holder_in, locks_in, rows_of_tables, rows_in, rows_kept, fences_in, fences_kept, sections_kept, text_kept}
 use Rattle.report_text.proofs.LockLaws.{locks_alike}
 
 -- ---- sessions

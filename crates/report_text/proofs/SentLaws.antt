@@ -10,9 +10,10 @@ use Rattle.history_text.specs.declared.entries.Entry.{Entry}
 use Rattle.history_text.specs.declared.entries.Sent.{Sent}
 use Rattle.history_text.specs.History.{entries, entry_of}
 use Rattle.history_text.specs.Notes.{sent_of}
-use Rattle.report_text.specs.SentIndex.{Index, IsIndexOf, origin_cmp, origin, place_of, with_place, with_entry, sent_by_entry, sent_in, printed_sent}
+use Rattle.history_text.specs.Origins.{origin_cmp, origin_of}
+use Rattle.history_text.proofs.OriginLaws.{origin_total, origin_exact, origin_test}
+use Rattle.report_text.specs.SentIndex.{Index, IsIndexOf, place_of, with_place, with_entry, sent_by_entry, sent_in, printed_sent}
 use Rattle.report_text.proofs.Lists.{snoc_below, snoc_end, length-snoc}
-use Rattle.report_text.proofs.Origins.{origin_total, origin_exact, origin_test}
 
 -- ---- no entry
 
@@ -31,10 +32,10 @@ place_after None is_new k before = before
 place_after (Some sent) is_new k before = cond is_new (Some k) before
 
 placed : (index : Index) (o : Option Sent) (at : ℕ) (from : Place) (k stamp : ℕ) (p : Place)
-    → place_of (with_place o (origin at from) k index) stamp p ≡ place_after o ((at == stamp) && same_place from p) k (place_of index stamp p)
+    → place_of (with_place o (origin_of at from) k index) stamp p ≡ place_after o ((at == stamp) && same_place from p) k (place_of index stamp p)
 placed index None at from k stamp p = refl
 placed index (Some sent) at from k stamp p =
-    at_insert origin_cmp origin_total origin_exact index (origin at from) k (origin stamp p)
+    at_insert origin_cmp origin_total origin_exact index (origin_of at from) k (origin_of stamp p)
     ∙ ap (λ b. cond b (Some k) (place_of index stamp p)) (origin_test at from stamp p)
 
 place_within : (o : Option Sent) (is_new : Bool) (n : ℕ) (before : Option ℕ) → ((k : ℕ) → before ≡ Some k → k < n) → (k : ℕ) → place_after o is_new n before ≡ Some k → k < n + 1

@@ -16,14 +16,14 @@ use Rattle.history_rules.specs.Nodes.{Past}
 use Rattle.history_rules.specs.Reports.{SessionLine, each, fence_lines, records_at, resource_rows, session_lines}
 use Rattle.history_rules.specs.ResourceMemory.{Setup, opening_tables}
 use Rattle.history_text.specs.declared.entries.Names.{Names}
-use Rattle.history_text.specs.Report.{names_of}
+use Rattle.history_text.specs.Report.{names_of, state_text}
 use Rattle.history_text.specs.Worlds.{resources_of}
 use Rattle.report_text.specs.declared.before.Before.{Before}
 use Rattle.report_text.specs.Folds.{FoldedKept, first_folded}
 use Rattle.report_text.specs.Following.{IsRead}
 use Rattle.report_text.specs.Keeping.{ResourceKept, may_add, resource_over}
 use Rattle.report_text.specs.Made.{next_boot}
-use Rattle.report_text.specs.Sections.{fences_in, fences_kept, holder_in, line_in, rows_in, rows_kept, shown_text, state_kept, state_text}
+use Rattle.report_text.specs.Sections.{fences_in, fences_kept, holder_in, line_in, rows_in, rows_kept, shown_text, state_kept}
 use Rattle.report_text.proofs.LockLaws.{locks_alike}
 use Rattle.report_text.proofs.SectionLaws.{SaysSame, each_same, fences_alike, rows_alike, sessions_alike}
 

@@ -21,7 +21,7 @@ use Rattle.history_rules.specs.Reports.{report as report_of}
 use Rattle.history_text.specs.declared.entries.Entry.{Entry}
 use Rattle.history_text.specs.declared.entries.Names.{Names}
 use Rattle.history_text.specs.Lines.{entry_text}
-use Rattle.history_text.specs.Report.{line, lines, names_of, session_text, holder_text, table_row_text, fence_text, read_text}
+use Rattle.history_text.specs.Report.{line, lines, names_of, read_text, state_text}
 use Rattle.history_text.specs.Worlds.{world_of}
 use Rattle.report_text.specs.Keeping.{CoordinatorKept, ResourceKept}
 
@@ -73,13 +73,7 @@ reads_text names r = lines (read_text names) (reads_in r)
 
 -- ---- the text
 
--- the sections of what stands: transactions, held rows, tables and fences, and behind them the rest of a text
-abbrev pub state_text : Names → List SessionLine → List (RowKey × ℕ) → Rows → List (ℕ × ((ℕ × ℕ) × Fence)) → (rest : List ℕ) → List ℕ
-state_text names sessions held rows fences rest =
-    line (codes "sessions") ++ (lines (session_text names) sessions ++ (line (codes "locks") ++ (lines (holder_text names) held ++
-    (line (codes "tables") ++ (lines (table_row_text names) rows ++ (line (codes "fences") ++ (lines (fence_text names) fences ++ rest)))))))
-
--- those of a scenario whose disks hold these records: what the report has of them before the first entry
+-- the sections of what stands of a scenario whose disks hold these records: what the report has of them before the first entry
 unfoldable pub shown_text : Scenario → Past → List ℕ
 shown_text s past = let r = report_of (world_of s) past [] in state_text (names_of s) r.sessions r.locks r.tables r.fences []
 

@@ -3,35 +3,27 @@ use Rattle.std.specs.Prelude.{◌≡◌, ℕ, ◌<◌, List, length, Option, Som
 use Rattle.std.specs.BTreeMap.{insert_entry, is_at}
 use Rattle.std.specs.Map.{lookup}
 use Rattle.std.specs.Option.{option_and_then}
-use Rattle.std.specs.Ordering.{nat_cmp, ordering_then}
-use Rattle.std.specs.declared.cmp.Ordering.{Ordering}
 use Rattle.seata_types.specs.declared.ids.Place.{Place}
 use Rattle.seata_types.specs.declared.messages.Outgoing.{Outgoing}
-use Rattle.history_rules.specs.Histories.{Moment, rank, sent_from}
+use Rattle.history_rules.specs.Histories.{Moment, sent_from}
 use Rattle.history_text.specs.declared.entries.Cause.{Cause}
 use Rattle.history_text.specs.declared.entries.Cause.TheVariants as cause
 use Rattle.history_text.specs.declared.entries.Entry.{Entry}
+use Rattle.history_text.specs.declared.entries.Origin.{Origin}
 use Rattle.history_text.specs.declared.entries.Sent.{Sent}
 use Rattle.history_text.specs.declared.notes.Note.{Note}
 use Rattle.history_text.specs.History.{entries}
 use Rattle.history_text.specs.Notes.{sent_of}
-use Rattle.report_text.specs.declared.kept.Origin.{Origin}
+use Rattle.history_text.specs.Origins.{origin_cmp, origin_of}
 
 -- ---- where entries stand
-
--- entries stand by their numbers, and those of one number by their places
-abbrev pub origin_cmp : Origin → Origin → Ordering
-origin_cmp a b = ordering_then (nat_cmp a.stamp b.stamp) (ordering_then (nat_cmp a.kind b.kind) (nat_cmp a.number b.number))
-
-abbrev pub origin : ℕ → Place → Origin
-origin stamp from = record { stamp = stamp; kind = (rank from).0; number = (rank from).1 }
 
 -- entries that sent something, each with its place among all, counted from 0
 abbrev pub Index : Type 0
 Index = List (Origin × ℕ)
 
 abbrev pub place_of : Index → ℕ → Place → Option ℕ
-place_of index stamp from = lookup (is_at (origin_cmp (origin stamp from))) index
+place_of index stamp from = lookup (is_at (origin_cmp (origin_of stamp from))) index
 
 abbrev pub with_place : Option Sent → Origin → ℕ → Index → Index
 with_place None o k index = index
@@ -39,7 +31,7 @@ with_place (Some sent) o k index = insert_entry origin_cmp index o k
 
 -- the index with the k-th entry
 abbrev pub with_entry : Index → ℕ → Entry → Index
-with_entry index k e = with_place e.sent (origin e.stamp e.place) k index
+with_entry index k e = with_place e.sent (origin_of e.stamp e.place) k index
 
 -- ---- what they sent
 

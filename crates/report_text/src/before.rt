@@ -40,7 +40,8 @@ impl Before {
 
     /// Whether entries over it are so few that a report counts them, which does so in 32 bits for each node.
     pub fn counts(&self, history: &[Entry]) -> bool
-        ensures counted { result ≡ true → (s : ScenarioValue) (past : Past) → IsRead s self.now past →
+        ensures counted { result ≡ true → (s : ScenarioValue) (past : Past) →
+            IsRead s self.now past →
             AreCounted s past history.now }
         ensures full { result ≡ false → 2 ^ 32 ≤ most_acts self.now + length history.now + 1 }
     {

@@ -58,7 +58,9 @@ impl CoordinatorLeft {
         next: &Entry,
         heard: Option<&Note>,
     ) -> Result<(), NoMemory>
-        ensures { OnOk result (self.new ≡ session_taken (session_made next.entry.now (option_copied heard.entry)) next.entry.now.act self.old) }
+        ensures { OnOk result (self.new ≡
+            session_taken
+            (session_made next.entry.now (option_copied heard.entry)) next.entry.now.act self.old) }
     {
         match &next.act {
             Act::Durable(done) => {
@@ -123,7 +125,8 @@ impl CoordinatorLeft {
 
     // The manager of a transaction, or the call of a branch, is found by its number from now on.
     fn count(&mut self, item: &SessionRecord) -> Result<(), NoMemory>
-        ensures managers { OnOk result (self.new.managers ≡ with_manager item.now self.old.managers) }
+        ensures managers { OnOk result (self.new.managers ≡
+            with_manager item.now self.old.managers) }
         ensures calls { OnOk result (self.new.calls ≡ with_call item.now self.old.calls) }
         ensures known { self.new.known ≡ self.old.known }
         ensures flight { self.new.flight ≡ self.old.flight }
@@ -202,7 +205,8 @@ fn granted(
     heard: Option<&Note>,
     resource: Option<u16>,
 ) -> Result<Option<SessionRecord>, NoMemory>
-    ensures { IfOk result (λ made. made ≡ granted_from xid branch (option_copied heard.entry) resource) }
+    ensures { IfOk result (λ made. made ≡
+        granted_from xid branch (option_copied heard.entry) resource) }
 {
     match (heard, resource) {
         (
@@ -239,7 +243,8 @@ fn session_record(
     heard: Option<&Note>,
     done: Durable,
 ) -> Result<Option<SessionRecord>, NoMemory>
-    ensures { IfOk result (λ made. made ≡ session_made next.entry.now (option_copied heard.entry) done) }
+    ensures { IfOk result (λ made. made ≡
+        session_made next.entry.now (option_copied heard.entry) done) }
 {
     match done {
         Durable::Begun { xid } => Ok(begun(xid, next.now, heard)),
@@ -269,7 +274,8 @@ fn asked_record(
     heard: Option<&Note>,
     at: Option<Durable>,
 ) -> Result<Option<SessionRecord>, NoMemory>
-    ensures { IfOk result (λ made. made ≡ option_and_then (session_made next.entry.now (option_copied heard.entry)) at) }
+    ensures { IfOk result (λ made. made ≡
+        option_and_then (session_made next.entry.now (option_copied heard.entry)) at) }
 {
     match at {
         Some(done) => session_record(alloc, next, heard, done),

@@ -70,7 +70,8 @@ impl Folded {
         next: &Entry,
     ) -> Result<(), NoMemory>
         requires { IsRunnable scenario.now }
-        ensures { OnOk result (self.new ≡ entry_step scenario.now names.now before.now next.entry.now self.old) }
+        ensures { OnOk result (self.new ≡
+            entry_step scenario.now names.now before.now next.entry.now self.old) }
     {
         match next.place {
             Place::Tc => self.take_session(alloc, before, next)?,
@@ -104,7 +105,8 @@ impl Folded {
         next: &Entry,
     ) -> Result<(), NoMemory>
         requires { IsRunnable scenario.now }
-        ensures { OnOk result (self.new ≡ resource_step scenario.now names.now n next.entry.now self.old) }
+        ensures { OnOk result (self.new ≡
+            resource_step scenario.now names.now n next.entry.now self.old) }
     {
         if n == 0 || n as usize > self.resources.len() {
             return Ok(());
@@ -149,7 +151,9 @@ fn run_by<'a>(
     done: Durable,
 ) -> Option<&'a List<Stmt>>
     requires { IsRunnable scenario.now }
-    ensures { AreFound (option_copied result) (run_by scenario.now (number_at coordinator.now.managers) (number_at coordinator.now.calls) n done) }
+    ensures { AreFound (option_copied result)
+        (run_by scenario.now (number_at coordinator.now.managers)
+        (number_at coordinator.now.calls) n done) }
 {
     match done {
         Durable::Confirmed { xid, branch } => {
@@ -181,7 +185,9 @@ fn statements<'a>(
     next: &Entry,
 ) -> Option<&'a List<Stmt>>
     requires { IsRunnable scenario.now }
-    ensures { AreFound (option_copied result) (run_for scenario.now (number_at coordinator.now.managers) (number_at coordinator.now.calls) n next.entry.now.cause next.entry.now.act) }
+    ensures { AreFound (option_copied result)
+        (run_for scenario.now (number_at coordinator.now.managers)
+        (number_at coordinator.now.calls) n next.entry.now.cause next.entry.now.act) }
 {
     match &next.act {
         Act::Opened { call, .. } => {
@@ -197,7 +203,8 @@ fn statements<'a>(
 // The statements of the Try that an entry opens a ticket for.
 fn tries<'a>(scenario: &'a Scenario, next: &Entry) -> Option<&'a List<Stmt>>
     requires { IsRunnable scenario.now }
-    ensures { AreFound (option_copied result) (tries_for scenario.now next.entry.now.cause next.entry.now.act) }
+    ensures { AreFound (option_copied result)
+        (tries_for scenario.now next.entry.now.cause next.entry.now.act) }
 {
     match &next.act {
         Act::Opened { call, .. } => scenarios::tries(scenario, sending_manager(&next.cause), *call),

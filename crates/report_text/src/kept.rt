@@ -1,14 +1,5 @@
-//! What is kept of entries and of open tickets, and the numbers of what stands.
+//! What is kept of open tickets, and the numbers of what stands.
 use seata_types::{Image, List, ReadRow, Stmt};
-
-/// Where an entry stands among all: entries rise by their numbers, and those of one number by the kinds of their places and
-/// the numbers of these.
-#[derive(Clone, Copy, PartialEq, Eq, PartialOrd, Ord)]
-pub struct Origin {
-    pub stamp: u32,
-    pub kind: u8,
-    pub number: u16,
-}
 
 /// What a local commit or a Try needs of its open ticket: the call, counted from 1, or 0 of a guarded local transaction; the
 /// statements of a Try; and what the statements of an AT call did and read, in order of keys.

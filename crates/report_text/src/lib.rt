@@ -19,6 +19,6 @@ mod sent;
 mod totals;
 
 pub use before::Before;
-pub use kept::{OpenWork, Origin, Totals};
+pub use kept::{OpenWork, Totals};
 pub use reports::{node_names, write_report, write_state};
 pub use totals::count_history;

@@ -43,7 +43,8 @@ pub(crate) fn effect_of(
     run: Option<&List<Stmt>>,
 ) -> Result<Effect, NoMemory>
     requires { AreFew (option_copied run) }
-    ensures { IfOk result (λ effect. effect ≡ effect_on tables.now (or_empty (option_copied run.entry))) }
+    ensures { IfOk result (λ effect. effect ≡
+        effect_on tables.now (or_empty (option_copied run.entry))) }
 {
     match run {
         Some(stmts) => effect_on(alloc, tables, stmts),

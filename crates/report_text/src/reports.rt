@@ -59,7 +59,8 @@ fn put(out: &mut String, text: &str) -> Result<(), NoMemory>
 
 /// The lines of the entries, behind their heading.
 fn put_entries(out: &mut String, history: &[Entry], names: &Names) -> Result<(), NoMemory>
-    ensures { OnOk result (string_bytes out.new ≡ string_bytes out.old ++ (report.line (codes "entries") ++ report.lines (entry_text names.now) history.now)) }
+    ensures { OnOk result (string_bytes out.new ≡ string_bytes out.old ++
+        (report.line (codes "entries") ++ report.lines (entry_text names.now) history.now)) }
 {
     put(out, "entries\n")?;
     match sections::put_entries(out, history, names) {
@@ -74,7 +75,10 @@ fn put_sessions(
     coordinator: &CoordinatorLeft,
     names: &Names,
 ) -> Result<(), NoMemory>
-    ensures { OnOk result (string_bytes out.new ≡ string_bytes out.old ++ (report.line (codes "sessions") ++ report.lines (report.session_text names.now) (map line_in coordinator.now.known.sessions))) }
+    ensures { OnOk result (string_bytes out.new ≡ string_bytes out.old ++
+        (report.line (codes "sessions") ++
+        report.lines (report.session_text names.now)
+        (map line_in coordinator.now.known.sessions))) }
 {
     put(out, "sessions\n")?;
     let sessions = coordinator.memory.snapshot().sessions.as_slice();
@@ -91,7 +95,9 @@ fn put_locks(
     coordinator: &CoordinatorLeft,
     names: &Names,
 ) -> Result<(), NoMemory>
-    ensures { OnOk result (string_bytes out.new ≡ string_bytes out.old ++ (report.line (codes "locks") ++ report.lines (report.holder_text names.now) (locks_in coordinator.now))) }
+    ensures { OnOk result (string_bytes out.new ≡ string_bytes out.old ++
+        (report.line (codes "locks") ++
+        report.lines (report.holder_text names.now) (locks_in coordinator.now))) }
 {
     put(out, "locks\n")?;
     let locks = coordinator.memory.locks().list(alloc)?;
@@ -108,7 +114,8 @@ fn put_rows(
     resource: &ResourceLeft,
     names: &Names,
 ) -> Result<(), NoMemory>
-    ensures { OnOk result (string_bytes out.new ≡ string_bytes out.old ++ report.lines (report.table_row_text names.now) (rows_in resource.now)) }
+    ensures { OnOk result (string_bytes out.new ≡ string_bytes out.old ++
+        report.lines (report.table_row_text names.now) (rows_in resource.now)) }
 {
     let tables = resource.memory.tables();
     let rows = tables.list(alloc)?;
@@ -126,7 +133,9 @@ fn put_tables(
     resources: &[ResourceLeft],
     names: &Names,
 ) -> Result<(), NoMemory>
-    ensures { OnOk result (string_bytes out.new ≡ string_bytes out.old ++ (report.line (codes "tables") ++ report.lines (report.table_row_text names.now) (rows_kept resources.now))) }
+    ensures { OnOk result (string_bytes out.new ≡ string_bytes out.old ++
+        (report.line (codes "tables") ++
+        report.lines (report.table_row_text names.now) (rows_kept resources.now))) }
 {
     put(out, "tables\n")?;
     for resource in resources {
@@ -142,7 +151,8 @@ fn put_resource_fences(
     resource: &ResourceLeft,
     names: &Names,
 ) -> Result<(), NoMemory>
-    ensures { OnOk result (string_bytes out.new ≡ string_bytes out.old ++ report.lines (report.fence_text names.now) (fences_in resource.now)) }
+    ensures { OnOk result (string_bytes out.new ≡ string_bytes out.old ++
+        report.lines (report.fence_text names.now) (fences_in resource.now)) }
 {
     let fences = resource.memory.fence().list(alloc)?;
     let number = resource.memory.tables().resource();
@@ -159,7 +169,9 @@ fn put_fences(
     resources: &[ResourceLeft],
     names: &Names,
 ) -> Result<(), NoMemory>
-    ensures { OnOk result (string_bytes out.new ≡ string_bytes out.old ++ (report.line (codes "fences") ++ report.lines (report.fence_text names.now) (fences_kept resources.now))) }
+    ensures { OnOk result (string_bytes out.new ≡ string_bytes out.old ++
+        (report.line (codes "fences") ++
+        report.lines (report.fence_text names.now) (fences_kept resources.now))) }
 {
     put(out, "fences\n")?;
     for resource in resources {
@@ -175,7 +187,8 @@ fn put_state(
     folded: &Folded,
     names: &Names,
 ) -> Result<(), NoMemory>
-    ensures { OnOk result (string_bytes out.new ≡ string_bytes out.old ++ state_kept names.now folded.now.coordinator folded.now.resources []) }
+    ensures { OnOk result (string_bytes out.new ≡ string_bytes out.old ++
+        state_kept names.now folded.now.coordinator folded.now.resources []) }
 {
     let resources = folded.resources.as_slice();
     put_sessions(out, &folded.coordinator, names)?;
@@ -194,7 +207,9 @@ fn put_report(
     folded: &Folded,
     names: &Names,
 ) -> Result<(), NoMemory>
-    ensures { OnOk result (string_bytes out.new ≡ string_bytes out.old ++ text_kept names.now history.now folded.now.coordinator folded.now.resources folded.now.reads) }
+    ensures { OnOk result (string_bytes out.new ≡ string_bytes out.old ++
+        text_kept names.now history.now
+        folded.now.coordinator folded.now.resources folded.now.reads) }
 {
     put_entries(out, history, names)?;
     put_state(alloc, out, folded, names)?;

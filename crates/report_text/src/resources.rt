@@ -52,8 +52,11 @@ impl ResourceLeft {
     ) -> Result<(), NoMemory>
         requires run { AreFew (option_copied run) }
         requires tries { AreFew (option_copied tries) }
-        ensures kept { OnOk result (self.new ≡ resource_taken (option_copied run.entry) (option_copied tries.entry) next.entry.now.act self.old) }
-        ensures reads { OnOk result (string_bytes reads.new ≡ string_bytes reads.old ++ reads_text names.now (standing (option_copied run.entry) next.entry.now.act self.old)) }
+        ensures kept { OnOk result (self.new ≡
+            resource_taken (option_copied run.entry)
+            (option_copied tries.entry) next.entry.now.act self.old) }
+        ensures reads { OnOk result (string_bytes reads.new ≡ string_bytes reads.old ++
+            reads_text names.now (standing (option_copied run.entry) next.entry.now.act self.old)) }
     {
         match &next.act {
             Act::Durable(done) => self.commit(alloc, *done, run, reads, names),
@@ -89,8 +92,12 @@ impl ResourceLeft {
         names: &Names,
     ) -> Result<(), NoMemory>
         requires { AreFew (option_copied run) }
-        ensures kept { OnOk result (self.new ≡ with_record (asked_now (option_copied run.entry) (landed None self.old) done) (less_open done (landed None self.old))) }
-        ensures reads { OnOk result (string_bytes reads.new ≡ string_bytes reads.old ++ reads_text names.now (asked_now (option_copied run.entry) (landed None self.old) done)) }
+        ensures kept { OnOk result (self.new ≡
+            with_record (asked_now (option_copied run.entry) (landed None self.old) done)
+            (less_open done (landed None self.old))) }
+        ensures reads { OnOk result (string_bytes reads.new ≡ string_bytes reads.old ++
+            reads_text names.now
+            (asked_now (option_copied run.entry) (landed None self.old) done)) }
     {
         self.land(alloc, None, reads, names)?;
         let made = self.record(alloc, run, done)?;
@@ -105,7 +112,8 @@ impl ResourceLeft {
         run: Option<&List<Stmt>>,
     ) -> Result<(), NoMemory>
         requires { AreFew (option_copied run) }
-        ensures { OnOk result (self.new ≡ fallen (option_and_then (asked_now (option_copied run.entry) self.old) at) self.old) }
+        ensures { OnOk result (self.new ≡
+            fallen (option_and_then (asked_now (option_copied run.entry) self.old) at) self.old) }
     {
         let made = match at {
             Some(done) => self.record(alloc, run, done)?,
@@ -125,7 +133,8 @@ impl ResourceLeft {
         names: &Names,
     ) -> Result<(), NoMemory>
         ensures kept { OnOk result (self.new ≡ landed kept self.old) }
-        ensures reads { OnOk result (string_bytes reads.new ≡ string_bytes reads.old ++ reads_text names.now (kept_part kept self.old.flight)) }
+        ensures reads { OnOk result (string_bytes reads.new ≡ string_bytes reads.old ++
+            reads_text names.now (kept_part kept self.old.flight)) }
     {
         let flight = mem::replace(&mut self.flight, None);
         if kept.is_some() {
@@ -144,7 +153,8 @@ impl ResourceLeft {
         names: &Names,
     ) -> Result<(), NoMemory>
         ensures kept { OnOk result (self.new ≡ with_record made self.old) }
-        ensures reads { OnOk result (string_bytes reads.new ≡ string_bytes reads.old ++ reads_text names.now made) }
+        ensures reads { OnOk result (string_bytes reads.new ≡ string_bytes reads.old ++
+            reads_text names.now made) }
     {
         match put_reads(reads, &made, names) {
             Ok(()) => self.put(alloc, made),
@@ -192,7 +202,8 @@ impl ResourceLeft {
     ) -> Result<(), NoMemory>
         requires run { AreFew (option_copied run) }
         requires tries { AreFew (option_copied tries) }
-        ensures { OnOk result (self.new ≡ with_open ticket call (option_copied run.entry) (option_copied tries.entry) self.old) }
+        ensures { OnOk result (self.new ≡
+            with_open ticket call (option_copied run.entry) (option_copied tries.entry) self.old) }
     {
         let tries = copied(alloc, tries)?;
         let effect = effect_of(alloc, self.memory.tables(), run)?;
@@ -221,7 +232,8 @@ impl ResourceLeft {
         done: Durable,
     ) -> Result<Option<ResourceRecord>, NoMemory>
         requires { AreFew (option_copied run) }
-        ensures made { IfOk result (λ made. made ≡ asked_now (option_copied run.entry) self.old done) }
+        ensures made { IfOk result (λ made. made ≡
+            asked_now (option_copied run.entry) self.old done) }
         ensures left { OnOk result (self.new ≡ less_open done self.old) }
     {
         match done {

@@ -21,7 +21,8 @@ pub(crate) fn put_entries(
     entries: &[Entry],
     names: &Names,
 ) -> Result<(), AllocError>
-    ensures { OnOk result (string_bytes out.new ≡ string_bytes out.old ++ report.lines (entry_text names.now) entries.now) }
+    ensures { OnOk result (string_bytes out.new ≡ string_bytes out.old ++
+        report.lines (entry_text names.now) entries.now) }
 {
     for entry in entries {
         add_entry(out, entry, names)?;
@@ -58,7 +59,8 @@ fn status_name(status: GlobalStatus) -> &'static str
 
 /// The branch and the statement at which a session failed.
 fn put_failed(out: &mut String, failed: Option<(BranchId, u16)>) -> Result<(), AllocError>
-    ensures { OnOk result (string_bytes out.new ≡ string_bytes out.old ++ report.failed_text (option_map failed_at failed)) }
+    ensures { OnOk result (string_bytes out.new ≡ string_bytes out.old ++
+        report.failed_text (option_map failed_at failed)) }
 {
     match failed {
         Some((branch, stmt)) => write!(out, " b{} stmt {stmt}", branch.0),
@@ -68,7 +70,8 @@ fn put_failed(out: &mut String, failed: Option<(BranchId, u16)>) -> Result<(), A
 
 /// The line of a session.
 fn put_session(out: &mut String, of: &SessionEntry, names: &Names) -> Result<(), AllocError>
-    ensures { OnOk result (string_bytes out.new ≡ string_bytes out.old ++ report.line (report.session_text names.now (line_in of.now))) }
+    ensures { OnOk result (string_bytes out.new ≡ string_bytes out.old ++
+        report.line (report.session_text names.now (line_in of.now))) }
 {
     write!(out, "tc:{} ", of.xid.0)?;
     add_place(out, Place::Man(of.session.manager), names)?;
@@ -84,7 +87,8 @@ pub(crate) fn put_sessions(
     sessions: &[SessionEntry],
     names: &Names,
 ) -> Result<(), AllocError>
-    ensures { OnOk result (string_bytes out.new ≡ string_bytes out.old ++ report.lines (report.session_text names.now) (map line_in sessions.now)) }
+    ensures { OnOk result (string_bytes out.new ≡ string_bytes out.old ++
+        report.lines (report.session_text names.now) (map line_in sessions.now)) }
 {
     for session in sessions {
         put_session(out, session, names)?;
@@ -94,7 +98,8 @@ pub(crate) fn put_sessions(
 
 /// The line of a row that is held.
 fn put_lock(out: &mut String, key: &RowKey, holder: Xid, names: &Names) -> Result<(), AllocError>
-    ensures { OnOk result (string_bytes out.new ≡ string_bytes out.old ++ report.line (report.holder_text names.now (key.now, holder.0))) }
+    ensures { OnOk result (string_bytes out.new ≡ string_bytes out.old ++
+        report.line (report.holder_text names.now (key.now, holder.0))) }
 {
     add_key(out, key, names)?;
     write!(out, " tc:{}\n", holder.0)
@@ -106,7 +111,8 @@ pub(crate) fn put_locks(
     locks: &[(RowKey, Xid)],
     names: &Names,
 ) -> Result<(), AllocError>
-    ensures { OnOk result (string_bytes out.new ≡ string_bytes out.old ++ report.lines (report.holder_text names.now) (map holder_in locks.now)) }
+    ensures { OnOk result (string_bytes out.new ≡ string_bytes out.old ++
+        report.lines (report.holder_text names.now) (map holder_in locks.now)) }
 {
     for (key, holder) in locks {
         put_lock(out, key, *holder, names)?;
@@ -118,7 +124,8 @@ pub(crate) fn put_locks(
 
 /// A row behind its resource and its table.
 fn put_table_row(out: &mut String, key: &RowKey, row: &Row, names: &Names) -> Result<(), AllocError>
-    ensures { OnOk result (string_bytes out.new ≡ string_bytes out.old ++ report.line (report.table_row_text names.now (key.now, row.now))) }
+    ensures { OnOk result (string_bytes out.new ≡ string_bytes out.old ++
+        report.line (report.table_row_text names.now (key.now, row.now))) }
 {
     add_place(out, Place::Res(key.resource), names)?;
     write!(out, ".{} ", key.table.as_str())?;
@@ -141,7 +148,9 @@ fn put_table(
     rows: &[(RowKey, Row)],
     names: &Names,
 ) -> Result<(), AllocError>
-    ensures { OnOk result (string_bytes out.new ≡ string_bytes out.old ++ report.lines (report.table_row_text names.now) (filter (λ e. is_in resource def.now e.0) rows.now)) }
+    ensures { OnOk result (string_bytes out.new ≡ string_bytes out.old ++
+        report.lines (report.table_row_text names.now)
+        (filter (λ e. is_in resource def.now e.0) rows.now)) }
 {
     for (key, row) in rows {
         if is_in(resource, def, key) {
@@ -159,7 +168,9 @@ pub(crate) fn put_tables(
     rows: &[(RowKey, Row)],
     names: &Names,
 ) -> Result<(), AllocError>
-    ensures { OnOk result (string_bytes out.new ≡ string_bytes out.old ++ report.lines (report.table_row_text names.now) (rows_of_tables resource rows.now defs.now)) }
+    ensures { OnOk result (string_bytes out.new ≡ string_bytes out.old ++
+        report.lines (report.table_row_text names.now)
+        (rows_of_tables resource rows.now defs.now)) }
 {
     for def in defs {
         put_table(out, resource, def, rows, names)?;
@@ -187,7 +198,8 @@ fn put_fence(
     status: FenceStatus,
     names: &Names,
 ) -> Result<(), AllocError>
-    ensures { OnOk result (string_bytes out.new ≡ string_bytes out.old ++ report.line (report.fence_text names.now (resource, entry_of (leg, status)))) }
+    ensures { OnOk result (string_bytes out.new ≡ string_bytes out.old ++
+        report.line (report.fence_text names.now (resource, entry_of (leg, status)))) }
 {
     add_place(out, Place::Res(resource), names)?;
     write!(
@@ -206,7 +218,8 @@ pub(crate) fn put_fences(
     fences: &[(Leg, FenceStatus)],
     names: &Names,
 ) -> Result<(), AllocError>
-    ensures { OnOk result (string_bytes out.new ≡ string_bytes out.old ++ report.lines (report.fence_text names.now) (map (λ f. (resource, entry_of f)) fences.now)) }
+    ensures { OnOk result (string_bytes out.new ≡ string_bytes out.old ++
+        report.lines (report.fence_text names.now) (map (λ f. (resource, entry_of f)) fences.now)) }
 {
     for (leg, status) in fences {
         put_fence(out, resource, *leg, *status, names)?;
@@ -224,7 +237,8 @@ fn put_read(
     read: &ReadRow,
     names: &Names,
 ) -> Result<(), AllocError>
-    ensures { OnOk result (string_bytes out.new ≡ string_bytes out.old ++ report.line (report.read_text names.now (read_line xid.0 branch.0 read.now))) }
+    ensures { OnOk result (string_bytes out.new ≡ string_bytes out.old ++
+        report.line (report.read_text names.now (read_line xid.0 branch.0 read.now))) }
 {
     write!(out, "tc:{} b{} ", xid.0, branch.0)?;
     put_table_row(out, &read.key, &read.row, names)
@@ -238,7 +252,8 @@ fn put_commit_reads(
     reads: &[ReadRow],
     names: &Names,
 ) -> Result<(), AllocError>
-    ensures { OnOk result (string_bytes out.new ≡ string_bytes out.old ++ report.lines (report.read_text names.now) (map (read_line xid.0 branch.0) reads.now)) }
+    ensures { OnOk result (string_bytes out.new ≡ string_bytes out.old ++
+        report.lines (report.read_text names.now) (map (read_line xid.0 branch.0) reads.now)) }
 {
     for read in reads {
         put_read(out, xid, branch, read, names)?;
@@ -252,7 +267,8 @@ pub(crate) fn put_reads(
     made: &Option<ResourceRecord>,
     names: &Names,
 ) -> Result<(), AllocError>
-    ensures { OnOk result (string_bytes out.new ≡ string_bytes out.old ++ reads_text names.now made.now) }
+    ensures { OnOk result (string_bytes out.new ≡ string_bytes out.old ++
+        reads_text names.now made.now) }
 {
     match made {
         Some(

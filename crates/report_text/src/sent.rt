@@ -1,11 +1,9 @@
 //! Where the entries stand that sent a message.
 ghost use Rattle.std.specs.Prelude.{◌≡◌, option_map};
 ghost use Rattle.std.specs.Option.{option_copied};
-ghost use Rattle.history_rules.specs.Histories.{rank};
-ghost use Rattle.report_text.specs.SentIndex.{origin, note_in, sent_in};
+ghost use Rattle.report_text.specs.SentIndex.{note_in, sent_in};
 
-use crate::kept::Origin;
-use history_text::{Cause, Entry, Note};
+use history_text::{Cause, Entry, Note, Origin, origin_of};
 use seata_types::{NoMemory, Place};
 use std::alloc::Global;
 use std::collections::BTreeMap;
@@ -23,29 +21,6 @@ impl Model for SentIndex {
     ghost Value = { Index };
 
     ghost view = { λ s. s.places.entries };
-}
-
-/// The order of places: the network, the coordinator, resources, managers.
-fn rank(place: Place) -> (u8, u16)
-    ensures { result ≡ rank place }
-{
-    match place {
-        Place::Net => (0, 0),
-        Place::Tc => (1, 0),
-        Place::Res(n) => (2, n),
-        Place::Man(n) => (3, n),
-    }
-}
-
-fn origin(stamp: u32, place: Place) -> Origin
-    ensures { result ≡ origin stamp place }
-{
-    let (kind, number) = rank(place);
-    Origin {
-        stamp,
-        kind,
-        number,
-    }
 }
 
 impl SentIndex {
@@ -67,7 +42,7 @@ impl SentIndex {
         ensures { OnOk result (self.new ≡ with_entry self.old at next.entry.now) }
     {
         if next.sent.is_some() {
-            let origin = origin(next.stamp, next.place);
+            let origin = origin_of(next.stamp, next.place);
             self.places.insert(origin, at)?;
         }
         Ok(())
@@ -77,7 +52,7 @@ impl SentIndex {
     fn place(&self, stamp: u32, from: Place) -> Option<usize>
         ensures { result ≡ place_of self.now stamp from }
     {
-        self.places.get(&origin(stamp, from)).copied()
+        self.places.get(&origin_of(stamp, from)).copied()
     }
 
     /// The note of the message that a cause delivers, of these entries; takes no memory.

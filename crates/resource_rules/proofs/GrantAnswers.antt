@@ -1,7 +1,7 @@
 -- The coordinator's answers for open tickets of calls: by what was looked up they are the rules'.
 use Rattle.std.proofs.Common.{◌≡◌, ◌∙◌, ◌==◌, ◌+◌, ◌-◌, ◌<◌, ◌^◌, ℕ, Bool, true, false, List, Option, Some, None, option_map, is_none, Result, Ok, Err, refl, sym, ap, subst, arith}
 use Rattle.std.specs.Prelude.{nat_le, min, if◌then◌else◌, IfOk}
-use Rattle.std.proofs.lemmas.Bool.{and_from, leb-true, le-leb}
+use Rattle.std.proofs.lemmas.Bool.{and_from}
 use Rattle.std.proofs.lemmas.Bool.Decides.{nat_tests}
 use Rattle.seata_types.specs.declared.acts.Act.TheVariants as act
 use Rattle.seata_types.specs.declared.acts.Durable.TheVariants as durable
@@ -48,15 +48,16 @@ use Rattle.resource_log.specs.Records.{leg_of}
 use Rattle.resource_memory.specs.Changes.{runs}
 use Rattle.resource_memory.specs.Known.{Known}
 use Rattle.resource_rules.specs.Answers.{Answers, GrantPlaces, Hears, IsOpenFor, IsOpenOn, Shows, ignored}
+use Rattle.resource_rules.specs.Owned.{call_by, of_call}
 use Rattle.resource_rules.specs.Ready.{AreStmtsWithin, IsCallWithin, IsOwnedWithin, IsReady, ServesWithin}
-use Rattle.resource_rules.specs.Grants.{IsCountedTry, answered, at_granted, conflicted, counts, dropped, granted, tcc_granted, try_meant, try_touched}
+use Rattle.resource_rules.specs.Grants.{IsCountedTry, answered, at_granted, conflicted, dropped, granted, met_with, tcc_granted, try_meant, try_touched}
 use Rattle.resource_rules.specs.declared.answers.Answer.{Answer}
 use Rattle.resource_rules.specs.declared.answers.Change.TheVariants as change
 use Rattle.resource_rules.specs.declared.setups.Setup.{Setup as TheSetup}
 use Rattle.resource_rules.proofs.AnswerLaws.{Framed, rests, asks}
 use Rattle.resource_rules.proofs.Ends.{finished_by, none_by, normal_by}
 use Rattle.resource_rules.proofs.FramingLaws.{IsCause, call_of_ticket, done_told, failed_told, fault_cause, told_framed, untouched_cause}
-use Rattle.resource_rules.proofs.Owners.{owner_is, owner_none}
+use Rattle.resource_rules.proofs.Owners.{owner_is}
 use Rattle.resource_rules.proofs.ReadyLaws.{branch_granted, holder_of, open_within, tables_within}
 use Rattle.resource_rules.proofs.Seen.{entry_seen, fence_seen, opens_seen, tables_seen}
 use Rattle.resource_rules.proofs.TccEnds.{images_fit}
@@ -73,21 +74,28 @@ counted_try db txn one open_on (work.At stmts) e = tt
 counted_try db txn one open_on (work.Tcc action) e =
     subst (IsOpenFor db (open_of txn)) (owner_is txn.xid.0 txn.manager txn.call txn.work one ∙ ap (OfCall txn.manager txn.xid.0 txn.call) e) open_on
 
--- the count of a ticket that waits on is exact, and it has tries left
-not_last : (tries n : ℕ) → tries < 2 ^ 32 → nat_le tries (min (n + 1) (2 ^ 32 - 1)) ≡ false → (min (n + 1) (2 ^ 32 - 1) ≡ n + 1) × (nat_le tries (n + 1) ≡ false)
-not_last tries n small e =
-    let least : min (n + 1) (2 ^ 32 - 1) < tries = grind (arith, nat_tests) in
-    let exact : min (n + 1) (2 ^ 32 - 1) ≡ n + 1 = omega (arith, small, least) in
-    (exact, ap (nat_le tries) (sym exact) ∙ e)
-
-last_too : (tries n : ℕ) → nat_le tries (min (n + 1) (2 ^ 32 - 1)) ≡ true → nat_le tries (n + 1) ≡ true
-last_too tries n e = let most = leb-true tries (min (n + 1) (2 ^ 32 - 1)) e in le-leb tries (n + 1) (omega (arith, most))
+-- the count of a ticket that waits on is exact
+exact : (tries n : ℕ) → tries < 2 ^ 32 → nat_le tries (n + 1) ≡ false → min (n + 1) (2 ^ 32 - 1) ≡ n + 1
+exact tries n small e = let left : n + 1 < tries = grind (arith, nat_tests) in omega (arith, small, left)
 
 module _ (is : TheSetup) (k : Known) (ts : Tickets) (t : Ticket) (xid : Xid) (from : Place) where
-  -- the ticket isn't open
-  pub unopened : (answer : Registered) → open_at ts.opens t ≡ None → (a : Answer) → a ≡ ignored → Answers is k ts (answer_input t xid from answer) a
+  of_no_call : (s : Setup) (m : Memory) (o : Open) (w : Owner) → call_by o w ≡ None → (answer : Registered)
+      → still act.Ignored ≡ rules.ticket_answer s m.left.records m.opens (next_ticket m) o w answer
+  of_no_call s m o (OfLocal n) e (registered.Granted b) = refl
+  of_no_call s m o (OfLocal n) e (registered.Conflict key holder rolling) = refl
+  of_no_call s m o (OfLocal n) e (registered.Closed status) = refl
+  of_no_call s m o (OfLocal n) e registered.Late = refl
+  of_no_call s m o (OfCall manager x c w) e answer = absurd cc
+
+  no_call : (s : Setup) (m : Memory) (found : Option Open) → of_call found ≡ None → (answer : Registered)
+      → still act.Ignored ≡ rules.on_registered s m.left.records m.opens (next_ticket m) found answer
+  no_call s m None e answer = refl
+  no_call s m (Some o) e answer = of_no_call s m o o.owner e answer
+
+  -- no call has the ticket open
+  pub unopened : (answer : Registered) → of_call (open_at ts.opens t) ≡ None → (a : Answer) → a ≡ ignored → Answers is k ts (answer_input t xid from answer) a
   unopened answer none = rests change.Stays tt _
-      (λ s m sh. sym (ap (λ (p : Option Open). rules.on_registered s m.left.records m.opens (next_ticket m) p answer) (ap (λ (os : List Open). open_at os t) (sym (opens_seen s m sh)) ∙ none)))
+      (λ s m sh. no_call s m (open_at ts.opens t) none answer ∙ ap (λ (os : List Open). rules.on_registered s m.left.records m.opens (next_ticket m) (open_at os t) answer) (opens_seen s m sh))
       (λ s m. refl) (λ s m now sh. refl) (λ ready served. (tt, tt))
 
   module _ (txn : OpenTxn) (here : open_at ts.opens t ≡ Some (open_of txn)) where
@@ -103,18 +111,6 @@ module _ (is : TheSetup) (k : Known) (ts : Tickets) (t : Ticket) (xid : Xid) (fr
     ticket_is w owner answer s m sh =
         sym (ap (λ (p : Option Open). rules.on_registered s m.left.records m.opens (next_ticket m) p answer) (here_at s m sh)
         ∙ ap (λ (v : Owner). rules.ticket_answer s m.left.records m.opens (next_ticket m) (open_of txn) v answer) owner)
-
-    -- it is of no call
-    of_local : (answer : Registered) (s : Setup) (m : Memory) (n : ℕ) → still act.Ignored ≡ rules.ticket_answer s m.left.records m.opens (next_ticket m) (open_of txn) (OfLocal n) answer
-    of_local (registered.Granted b) s m n = refl
-    of_local (registered.Conflict key holder rolling) s m n = refl
-    of_local (registered.Closed status) s m n = refl
-    of_local registered.Late s m n = refl
-
-    pub of_none : (answer : Registered) → (txn.xid.0 == 0) ≡ true → (a : Answer) → a ≡ ignored → Answers is k ts (answer_input t xid from answer) a
-    of_none answer e = rests change.Stays tt _
-        (λ s m sh. of_local answer s m txn.call ∙ ticket_is (OfLocal txn.call) (owner_none txn.xid.0 txn.manager txn.call txn.work e) answer s m sh)
-        (λ s m. refl) (λ s m now sh. refl) (λ ready served. (tt, tt))
 
     module _ (one : (txn.xid.0 == 0) ≡ false) where
       owner : (w : Work) → txn.work ≡ w → (open_of txn).owner ≡ OfCall txn.manager txn.xid.0 txn.call w
@@ -146,18 +142,17 @@ module _ (is : TheSetup) (k : Known) (ts : Tickets) (t : Ticket) (xid : Xid) (fr
         meets b e s m sh =
             ap (λ (c : Bool). if c then (dropped txn why.Tries).step else still (act.Conflicted txn.ticket (txn.conflicts + 1))) (sym e ∙ ap (λ (n : ℕ). nat_le n (txn.conflicts + 1)) (sym sh.setup.tries))
 
-        counts_as : (b : Bool) → nat_le is.tries (raised (open_of txn)) ≡ b → (a : Answer) → a ≡ (if b then dropped txn why.Tries else counts txn) → Answers is k ts (answer_input t xid from (registered.Conflict key holder false)) a
-        counts_as true e = drops (registered.Conflict key holder false) why.Tries (λ ready served. record { layout = tt; limits = tt }) (meets true (last_too is.tries txn.conflicts e))
-        counts_as false e =
-            let left = not_last is.tries txn.conflicts small e in
+        met_as : (b : Bool) → nat_le is.tries (txn.conflicts + 1) ≡ b → (a : Answer) → a ≡ met_with txn (if b then Some why.Tries else None) → Answers is k ts (answer_input t xid from (registered.Conflict key holder false)) a
+        met_as true e = drops (registered.Conflict key holder false) why.Tries (λ ready served. record { layout = tt; limits = tt }) (meets true e)
+        met_as false e =
             rests (change.Counts txn.ticket) tt _
-            (λ s m sh. ap (λ (n : ℕ). still (act.Conflicted txn.ticket n)) left.0 ∙ meets false left.1 s m sh ∙ answers_as (registered.Conflict key holder false) s m sh)
+            (λ s m sh. ap (λ (n : ℕ). still (act.Conflicted txn.ticket n)) (exact is.tries txn.conflicts small e) ∙ meets false e s m sh ∙ answers_as (registered.Conflict key holder false) s m sh)
             (λ s m. refl)
             (λ s m now sh. ap (λ (o : Option Open). record m { opens = counted o txn.ticket m.opens }) (sym (own_at s m sh))) (λ ready served. (tt, tt))
 
         pub conflicts : (rolling : Bool) (a : Answer) → a ≡ conflicted is.tries txn holder rolling → Answers is k ts (answer_input t xid from (registered.Conflict key holder rolling)) a
         conflicts true = drops (registered.Conflict key holder true) (why.Rolling holder) (λ ready served. record { layout = holder_of t xid key holder true served; limits = tt }) (λ s m sh. refl)
-        conflicts false = counts_as (nat_le is.tries (raised (open_of txn))) refl
+        conflicts false = met_as (nat_le is.tries (txn.conflicts + 1)) refl
 
       -- ---- a grant
 

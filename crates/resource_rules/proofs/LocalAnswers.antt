@@ -29,7 +29,8 @@ use Rattle.history_rules.specs.ResourceRules as rules
 use Rattle.history_rules.specs.ResourceRules.{requests, resource_answer}
 use Rattle.resource_memory.specs.Known.{Known}
 use Rattle.resource_rules.specs.Answers.{Answers, Hears, IsOpenFor, IsOpenOn, LocalPlace, Shows, answer, ignored}
-use Rattle.resource_rules.specs.Apart.{WritesWith}
+use Rattle.resource_rules.specs.Apart.{WritesWith, writes_on}
+use Rattle.resource_rules.specs.Owned.{local_by, of_local}
 use Rattle.resource_rules.specs.Ready.{IsReady, IsTicketWithin, ServesWithin}
 use Rattle.resource_rules.specs.Locals.{local_free, local_meant, lock_answered, opening, outside_free, outside_meant}
 use Rattle.resource_rules.specs.declared.answers.Answer.{Answer}
@@ -38,7 +39,7 @@ use Rattle.resource_rules.specs.declared.setups.Setup.{Setup as TheSetup}
 use Rattle.resource_rules.proofs.AnswerLaws.{rests, asks}
 use Rattle.resource_rules.proofs.CallAnswers.{found_none, found_open, some_ticket}
 use Rattle.resource_rules.proofs.FramingLaws.{request_framed}
-use Rattle.resource_rules.proofs.Owners.{owner_is, owner_none}
+use Rattle.resource_rules.proofs.Owners.{owner_none}
 use Rattle.resource_rules.proofs.ReadyLaws.{local_within, rows_of_effect, tables_within}
 use Rattle.resource_rules.proofs.Seen.{local_seen, next_seen, opens_seen, tables_seen}
 use Rattle.resource_rules.proofs.TccEnds.{fit_alone, images_fit}
@@ -52,9 +53,18 @@ module _ (is : TheSetup) (k : Known) (ts : Tickets) (t : Ticket) (from : Place) 
   abbrev lock_input : Input
   lock_input = input.Message from (message.LockAnswer t held)
 
-  pub lock_unopened : open_at ts.opens t ≡ None → (a : Answer) → a ≡ ignored → Answers is k ts lock_input a
+  of_no_local : (s : Setup) (m : Memory) (o : Open) (w : Owner) → local_by o w ≡ None → still act.Ignored ≡ rules.lock_answer s m.left.records m.opens (next_ticket m) o w held
+  of_no_local s m o (OfCall manager x c w) e = refl
+  of_no_local s m o (OfLocal n) e = absurd cc
+
+  no_local : (s : Setup) (m : Memory) (found : Option Open) → of_local found ≡ None → still act.Ignored ≡ rules.on_lock_answer s m.left.records m.opens (next_ticket m) found held
+  no_local s m None e = refl
+  no_local s m (Some o) e = of_no_local s m o o.owner e
+
+  -- no guarded local transaction has the ticket open
+  pub lock_unopened : of_local (open_at ts.opens t) ≡ None → (a : Answer) → a ≡ ignored → Answers is k ts lock_input a
   lock_unopened none = rests change.Stays tt _
-      (λ s m sh. sym (ap (λ (p : Option Open). rules.on_lock_answer s m.left.records m.opens (next_ticket m) p held) (ap (λ (os : List Open). open_at os t) (sym (opens_seen s m sh)) ∙ none)))
+      (λ s m sh. no_local s m (open_at ts.opens t) none ∙ ap (λ (os : List Open). rules.on_lock_answer s m.left.records m.opens (next_ticket m) (open_at os t) held) (opens_seen s m sh))
       (λ s m. refl) (λ s m now sh. refl) (λ ready served. (tt, tt))
 
   module _ (txn : OpenTxn) (here : open_at ts.opens t ≡ Some (open_of txn)) where
@@ -63,10 +73,6 @@ module _ (is : TheSetup) (k : Known) (ts : Tickets) (t : Ticket) (from : Place) 
     lock_as w owner s m sh =
         sym (ap (λ (p : Option Open). rules.on_lock_answer s m.left.records m.opens (next_ticket m) p held) (ap (λ (os : List Open). open_at os t) (sym (opens_seen s m sh)) ∙ here)
         ∙ ap (λ (v : Owner). rules.lock_answer s m.left.records m.opens (next_ticket m) (open_of txn) v held) owner)
-
-    pub lock_of_call : (txn.xid.0 == 0) ≡ false → (a : Answer) → a ≡ ignored → Answers is k ts lock_input a
-    lock_of_call e = rests change.Stays tt _
-        (λ s m sh. lock_as (OfCall txn.manager txn.xid.0 txn.call txn.work) (owner_is txn.xid.0 txn.manager txn.call txn.work e) s m sh) (λ s m. refl) (λ s m now sh. refl) (λ ready served. (tt, tt))
 
 module _ (is : TheSetup) (k : Known) (ts : Tickets) (t : Ticket) (from : Place) (txn : OpenTxn) (here : open_at ts.opens t ≡ Some (open_of txn)) (none : (txn.xid.0 == 0) ≡ true) where
   owner : (open_of txn).owner ≡ OfLocal txn.call
@@ -131,6 +137,11 @@ pub outside_ok : (k : Known) (opens : List Open) (n : ℕ) (stmts : List Stmt) (
 outside_ok k opens n stmts db rows small same (Ok a) given = λ is ts here at.
     outsides is k ts n stmts here rows small (effect k.tables stmts) refl a (given ∙ ap₂ (λ (t : Database) (os : List Open). outside_meant os n (effect t stmts)) same (sym at))
 outside_ok k opens n stmts db rows small same (Err e) given = tt
+
+pub outside_known : (k : Known) (opens : List Open) (n : ℕ) (stmts : List Stmt) (db : Database) → db ≡ k.tables
+    → (result : Result Answer NoMemory) → IfOk result (λ a. a ≡ outside_meant opens n (effect db stmts)) → IfOk result (λ a. a ≡ writes_on k opens n stmts)
+outside_known k opens n stmts db same (Ok a) given = given ∙ ap (λ (t : Database). outside_meant opens n (effect t stmts)) same
+outside_known k opens n stmts db same (Err e) given = tt
 
 -- ---- openings
 

@@ -16,6 +16,7 @@ use Rattle.history_rules.specs.ResourceMemory.{action_in, local_in}
 use Rattle.resource_memory.specs.Known.{Known}
 use Rattle.resource_rules.specs.Answers.{Answers, Hears}
 use Rattle.resource_rules.specs.Ends.{tcc_commit, tcc_rollback}
+use Rattle.resource_rules.specs.Locals.{outside_meant}
 use Rattle.resource_rules.specs.Setups.{actions_of}
 use Rattle.resource_rules.specs.declared.answers.Answer.{Answer}
 use Rattle.resource_rules.specs.declared.setups.Setup.{Setup as TheSetup}
@@ -45,3 +46,7 @@ cancels_on k leg stmts = tcc_rollback leg (effect k.tables stmts) (on_cancel (fe
 abbrev pub WritesWith : Known → List Open → (number : ℕ) → List Stmt → Answer → Type 0
 WritesWith k opens number stmts a = (is : TheSetup) (ts : Tickets) → local_in number is.locals ≡ Some stmts → ts.opens ≡ opens
     → Answers is k ts (input.Outside number) a
+
+-- the same by what is known
+abbrev pub writes_on : Known → List Open → (number : ℕ) → List Stmt → Answer
+writes_on k opens number stmts = outside_meant opens number (effect k.tables stmts)

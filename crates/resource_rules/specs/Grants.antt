@@ -1,5 +1,5 @@
 -- The coordinator's answers for the ticket of a call, by what was looked up.
-use Rattle.std.specs.Prelude.{ℕ, nat_le, Bool, true, false, if◌then◌else◌, List, ◌≤◌, length, Option, Some, None, Result, Ok, Err}
+use Rattle.std.specs.Prelude.{ℕ, ◌+◌, nat_le, Bool, true, false, if◌then◌else◌, List, ◌≤◌, length, Option, Some, None, Result, Ok, Err}
 use Rattle.seata_types.specs.declared.acts.Act.TheVariants as act
 use Rattle.seata_types.specs.declared.acts.Durable.{Durable}
 use Rattle.seata_types.specs.declared.acts.Durable.TheVariants as durable
@@ -89,10 +89,18 @@ granted k txn leg (work.Tcc action) = tcc_granted txn leg (effect k.tables actio
 abbrev pub counts : OpenTxn → Answer
 counts txn = record { step = still (act.Conflicted txn.ticket (raised (open_of txn))); asked = None; change = change.Counts txn.ticket }
 
--- a conflict: dropped where the holder rolls back, dropped at the last try, else counted
+-- why a ticket that met so many gives up at one more: the holder rolls back, or it was the last try
+abbrev pub why_last : (tries conflicts : ℕ) → Xid → (rolling : Bool) → Option Why
+why_last tries n holder true = Some (why.Rolling holder)
+why_last tries n holder false = if nat_le tries (n + 1) then Some why.Tries else None
+
+-- a conflict: dropped where there is a cause, else counted
+abbrev pub met_with : OpenTxn → Option Why → Answer
+met_with txn (Some cause) = dropped txn cause
+met_with txn None = counts txn
+
 abbrev pub conflicted : (tries : ℕ) → OpenTxn → Xid → (rolling : Bool) → Answer
-conflicted tries txn holder true = dropped txn (why.Rolling holder)
-conflicted tries txn holder false = if nat_le tries (raised (open_of txn)) then dropped txn why.Tries else counts txn
+conflicted tries txn holder rolling = met_with txn (why_last tries txn.conflicts holder rolling)
 
 abbrev pub answered : (tries : ℕ) → Known → OpenTxn → Registered → Answer
 answered tries k txn (registered.Granted b) = granted k txn (leg_of txn.xid b) txn.work

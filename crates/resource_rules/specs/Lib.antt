@@ -2,6 +2,7 @@ pub mod Setups
 pub mod Meanings
 pub mod Ready
 pub mod Answers
+pub mod Owned
 pub mod Ends
 pub mod Apart
 pub mod Grants

@@ -10,10 +10,10 @@ ghost use Rattle.resource_rules.specs.Answers.{AreOpenOn, Hears};
 ghost use Rattle.resource_rules.specs.Grants as looked;
 
 use crate::answers::{Answer, Change};
-use crate::lookups::entry;
+use crate::lookups::{call_at, entry};
 use crate::meanings::{meaning, untouched};
 use crate::setups::Setup;
-use crate::telling::{ignored, in_word, is_nobody, tells};
+use crate::telling::{ignored, in_word, tells};
 use durable_records::ResourceRecord;
 use local_tables::{Effect, Tables};
 use local_txn::{LocalTxns, OpenTxn};
@@ -39,12 +39,9 @@ pub(crate) fn registered(
     ensures { IfOk result (λ a. (xid : TheXid) →
         Hears setup.now memory.now txns.now (message.RegisterAnswer ticket xid answer.now) a) }
 {
-    let Some(txn) = txns.find(ticket) else {
+    let Some(txn) = call_at(txns, ticket) else {
         return Ok(ignored());
     };
-    if is_nobody(txn.xid) {
-        return Ok(ignored());
-    }
     in_word(setup.tries);
     let known = memory.kept();
     answered(alloc, known, setup.tries, txn, answer)
@@ -201,24 +198,40 @@ fn conflicted(
 ) -> Result<Answer, NoMemory>
     ensures { IfOk result (λ a. a ≡ looked.conflicted tries txn.now holder rolling) }
 {
+    match why_last(tries, txn.conflicts, holder, rolling) {
+        Some(cause) => dropped(alloc, txn, cause),
+        None => Ok(counted(txn)),
+    }
+}
+
+/// Why a ticket that met so many conflicts gives up at one more: another transaction that holds a row is rolled back, or it is the
+/// last of `tries`. Takes no memory.
+pub fn why_last(tries: u32, conflicts: u32, holder: Xid, rolling: bool) -> Option<Why>
+    ensures { result ≡ looked.why_last tries conflicts holder rolling }
+{
     if rolling {
-        return dropped(alloc, txn, Why::Rolling { holder });
+        return Some(Why::Rolling { holder });
     }
+    if conflicts.saturating_add(1) >= tries {
+        return Some(Why::Tries);
+    }
+    None
+}
+
+// A conflict of a ticket is counted.
+fn counted(txn: &OpenTxn) -> Answer
+    ensures { result ≡ looked.counts txn.now }
+{
+    let ticket = txn.ticket;
     let count = txn.conflicts.saturating_add(1);
-    if count >= tries {
-        return dropped(alloc, txn, Why::Tries);
-    }
-    Ok(Answer {
+    Answer {
         step: Step {
-            act: Act::Conflicted {
-                ticket: txn.ticket,
-                count,
-            },
+            act: Act::Conflicted { ticket, count },
             sent: None,
         },
         asked: None,
-        change: Change::Counts(txn.ticket),
-    })
+        change: Change::Counts(ticket),
+    }
 }
 
 // The ticket of a call is dropped.

@@ -5,15 +5,16 @@ ghost use Rattle.seata_types.specs.declared.messages.Input.TheVariants as input;
 ghost use Rattle.seata_types.specs.declared.messages.Message.TheVariants as message;
 ghost use Rattle.local_tables.specs.Calls.{effect};
 ghost use Rattle.resource_rules.specs.Answers.{Answers, AreCounted, AreOpenOn, Hears};
-ghost use Rattle.resource_rules.specs.Apart.{WritesWith};
+ghost use Rattle.resource_rules.specs.Apart.{WritesWith, writes_on};
 ghost use Rattle.resource_rules.specs.Locals as looked;
 ghost use Rattle.resource_rules.specs.declared.setups.Setup.{Setup as TheSetup};
 
 use crate::answers::{Answer, Change};
+use crate::lookups::local_at;
 use crate::meanings::meaning;
 use crate::requests::request;
 use crate::setups::{Setup, local_of};
-use crate::telling::{ignored, in_ticket, is_nobody, rests};
+use crate::telling::{ignored, in_ticket, rests};
 use durable_records::ResourceRecord;
 use local_tables::{Effect, Tables};
 use local_txn::{LocalTxns, OpenTxn};
@@ -131,17 +132,15 @@ pub(crate) fn lock_answered(
     ensures { IfOk result (λ a. (is : TheSetup) →
         Hears is memory.now txns.now (message.LockAnswer ticket held.now) a) }
 {
-    let Some(txn) = txns.find(ticket) else {
-        return Ok(ignored());
-    };
-    if is_nobody(txn.xid) {
-        return local_answered(alloc, txn, held);
+    match local_at(txns, ticket) {
+        Some(txn) => local_answered(alloc, txn, held),
+        None => Ok(ignored()),
     }
-    Ok(ignored())
 }
 
-// The same for an open ticket of a guarded local transaction.
-fn local_answered(
+/// What the coordinator says of the rows of a guarded local transaction, whose ticket is open: it commits, or is dropped where one
+/// of them is held.
+pub fn local_answered(
     alloc: Global,
     txn: &OpenTxn,
     held: &Option<(RowKey, Xid)>,
@@ -217,7 +216,8 @@ pub fn outside_for(
     stmts: &[Stmt],
 ) -> Result<Answer, NoMemory>
     requires { length stmts.now ≤ FIELD_ITEMS }
-    ensures { IfOk result (WritesWith memory.now txns.now.opens number stmts.now) }
+    ensures rules { IfOk result (WritesWith memory.now txns.now.opens number stmts.now) }
+    ensures known { IfOk result (λ a. a ≡ writes_on memory.now txns.now.opens number stmts.now) }
 {
     let known = memory.kept();
     outside_meant(alloc, known.tables(), txns, number, stmts)

@@ -9,7 +9,7 @@ use std::cmp::Reverse;
 use std::collections::{BTreeMap, BinaryHeap};
 
 /// Moments with their transactions, of which the least comes first.
-pub(crate) type Queue = BinaryHeap<Reverse<(u64, u64)>>;
+pub(crate) type Queue = BinaryHeap<Reverse<(u128, u64)>>;
 
 /// Makes room for all plans and one more, and for as many that don't stand any longer: so a queue is made anew only after
 /// as many changes as there are plans.
@@ -25,7 +25,7 @@ pub(crate) fn make_room(queue: &mut Queue, plans: usize) -> Result<(), NoMemory>
 }
 
 /// Puts a transaction that was planned into the queue of the other plans.
-pub(crate) fn put(queue: &mut Queue, moments: &BTreeMap<u64, u64>, number: u64, at: u64)
+pub(crate) fn put(queue: &mut Queue, moments: &BTreeMap<u64, u128>, number: u64, at: u128)
     requires { Awaits moments.now.entries number at (heap_items queue.old) (heap_capacity queue.old) }
     ensures { IsQueueOf moments.now.entries (heap_items queue.new) (heap_capacity queue.new) }
 {
@@ -34,7 +34,7 @@ pub(crate) fn put(queue: &mut Queue, moments: &BTreeMap<u64, u64>, number: u64, 
 }
 
 // Room may be missing only for what doesn't stand any longer.
-fn add(queue: &mut Queue, moments: &BTreeMap<u64, u64>, number: u64, at: u64)
+fn add(queue: &mut Queue, moments: &BTreeMap<u64, u128>, number: u64, at: u128)
     requires { Awaits moments.now.entries number at (heap_items queue.old) (heap_capacity queue.old) }
     ensures { Keeps moments.now.entries (heap_items queue.new) (heap_capacity queue.new) }
 {
@@ -47,7 +47,7 @@ fn add(queue: &mut Queue, moments: &BTreeMap<u64, u64>, number: u64, at: u64)
 }
 
 /// Makes the queue anew of the plans that stand.
-fn fill(queue: &mut Queue, moments: &BTreeMap<u64, u64>)
+fn fill(queue: &mut Queue, moments: &BTreeMap<u64, u128>)
     requires { length moments.now.entries ≤ heap_capacity queue.old }
     ensures { Keeps moments.now.entries (heap_items queue.new) (heap_capacity queue.new) }
 {
@@ -60,7 +60,7 @@ fn fill(queue: &mut Queue, moments: &BTreeMap<u64, u64>)
 }
 
 /// Whether a transaction is planned for this moment.
-fn stands(moments: &BTreeMap<u64, u64>, number: u64, at: u64) -> bool
+fn stands(moments: &BTreeMap<u64, u128>, number: u64, at: u128) -> bool
     ensures { IsTrue result ↔ (moment_of moments.now.entries number ≡ Some at) }
 {
     match moments.get(&number) {
@@ -70,7 +70,7 @@ fn stands(moments: &BTreeMap<u64, u64>, number: u64, at: u64) -> bool
 }
 
 /// Drops the first ones until a plan that stands comes first.
-pub(crate) fn settle(queue: &mut Queue, moments: &BTreeMap<u64, u64>)
+pub(crate) fn settle(queue: &mut Queue, moments: &BTreeMap<u64, u128>)
     requires { Keeps moments.now.entries (heap_items queue.old) (heap_capacity queue.old) }
     ensures { IsQueueOf moments.now.entries (heap_items queue.new) (heap_capacity queue.new) }
 {
@@ -83,7 +83,7 @@ pub(crate) fn settle(queue: &mut Queue, moments: &BTreeMap<u64, u64>)
 }
 
 /// The moment and the transaction that come first.
-pub(crate) fn first(queue: &Queue) -> Option<(u64, u64)>
+pub(crate) fn first(queue: &Queue) -> Option<(u128, u64)>
     ensures first { result ≡ first_of (heap_items queue.now) }
     ensures least { IfSome result (λ p. IsInOrder (heap_items queue.now) → IsLeast p (heap_items queue.now)) }
 {

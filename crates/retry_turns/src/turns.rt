@@ -1,5 +1,5 @@
 //! The plans, each a transaction with the moment at which it is due.
-ghost use Rattle.std.specs.Prelude.{◌≡◌, [], OnOk, OnErr, IsTrue, IsOk};
+ghost use Rattle.std.specs.Prelude.{◌≡◌, ◌+◌, [], OnOk, OnErr, IsTrue, IsOk};
 ghost use Rattle.retry_turns.specs.Plans.{TellsDue, moment_of, is_planned, with_plan, without_plan};
 
 use crate::queue;
@@ -9,14 +9,14 @@ use std::alloc::Global;
 use std::collections::{BTreeMap, BinaryHeap};
 use std::marker::Model;
 
-/// The transactions that are planned, each for one moment in ticks. Contracts see each with its moment, in order of their
-/// numbers.
+/// The transactions that are planned, each for one moment in ticks, which may lie behind all moments of 64 bits. Contracts see each
+/// with its moment, in order of their numbers.
 ///
 /// Asking takes one look. Planning and forgetting take, over many calls, a logarithm of the plans: a plan that was changed
 /// or forgotten may stay in the queue until it comes first, or until the queue is full and is made anew of the plans alone.
 #[derive(Drop)]
 pub struct Turns {
-    moments: BTreeMap<u64, u64>,
+    moments: BTreeMap<u64, u128>,
     queue: Queue,
 }
 
@@ -50,6 +50,24 @@ impl Turns {
         ensures refused { OnErr result (self.new ≡ self.old) }
         ensures again { IsTrue (is_planned self.old xid.0) → IsOk result }
     {
+        self.put(xid, at as u128)
+    }
+
+    /// The same for the moment so many ticks after another one.
+    pub fn plan_after(&mut self, xid: Xid, moment: u64, ticks: u64) -> Result<(), NoMemory>
+        ensures planned { OnOk result (self.new ≡ with_plan self.old xid.0 (moment + ticks)) }
+        ensures refused { OnErr result (self.new ≡ self.old) }
+        ensures again { IsTrue (is_planned self.old xid.0) → IsOk result }
+    {
+        self.put(xid, moment as u128 + ticks as u128)
+    }
+
+    // Plans a transaction for a moment.
+    fn put(&mut self, xid: Xid, at: u128) -> Result<(), NoMemory>
+        ensures planned { OnOk result (self.new ≡ with_plan self.old xid.0 at) }
+        ensures refused { OnErr result (self.new ≡ self.old) }
+        ensures again { IsTrue (is_planned self.old xid.0) → IsOk result }
+    {
         if !self.moments.contains_key(&xid.0) {
             queue::make_room(&mut self.queue, self.moments.len())?;
         }
@@ -67,7 +85,7 @@ impl Turns {
     }
 
     /// The moment for which a transaction is planned, where it is; takes no memory.
-    pub fn moment(&self, xid: Xid) -> Option<u64>
+    pub fn moment(&self, xid: Xid) -> Option<u128>
         ensures { result ≡ moment_of self.now xid.0 }
     {
         self.moments.get(&xid.0).copied()
@@ -79,7 +97,7 @@ impl Turns {
         ensures { TellsDue self.now now result }
     {
         match queue::first(&self.queue) {
-            Some((at, number)) if at <= now => Some(Xid(number)),
+            Some((at, number)) if at <= now as u128 => Some(Xid(number)),
             _ => None,
         }
     }

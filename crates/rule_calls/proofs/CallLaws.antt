@@ -20,7 +20,7 @@ use Rattle.resource_store.specs.declared.store.Store.{Store}
 use Rattle.resource_store.specs.Answers.{Does, Gives, Leaves, outcome}
 use Rattle.resource_store.specs.Keeping.{Changes, IsTaken, KeepsRecords, has_failed, is_down, known, setting_of}
 use Rattle.resource_store.proofs.AnswerLaws.{gives_nothing}
-use Rattle.rule_calls.specs.Calls.{GivesAs, act_of, memory_of, numbered, resource_of, viewed}
+use Rattle.rule_calls.specs.Calls.{GivesAs, act_of, memory_of, numbered, resource_of, told_of, viewed}
 
 module _ {D : Type 0} (state : D → DiskState) where
   -- ---- calls that came to the same
@@ -51,6 +51,14 @@ module _ {D : Type 0} (state : D → DiskState) where
 
     pub does_err : (o : Option ResourceRecord) (e : StoreError) → Does {A = A} state o (Err e) old new → Does {A = B} state o (Err e) old new
     does_err o e = does_as {A = A} {B = B} o (Err e) (Err e) old new refl
+
+  -- the call tells what is read off the act, or the record isn't made
+  module _ {A : Type 0} (view : Act → A) (a : Ruling) (old new : Store D) where
+    pub reads_ok : (act : Act) (r : A) → r ≡ view act → Gives state (act_of a) (Ok act) old new → Gives state (told_of view a) (Ok r) old new
+    reads_ok act r reads gives = record { told = reads ∙ ap view gives.told; does = does_ok Act A old new a.asked act r gives.does }
+
+    pub reads_err : (e : StoreError) → Gives {A = Act} state (act_of a) (Err e) old new → Gives {A = A} state (told_of view a) (Err e) old new
+    reads_err e gives = record { told = tt; does = does_err Act A old new a.asked e gives.does }
 
   -- memory was wanting before
   pub wants : {A : Type 0} (view : Act → A) (is : TheSetup) (given : Input) (opens : List Open) (s : Store D) → is_down s ≡ false → GivesAs state view is given opens (Err store_error.NoMemory) s s

@@ -21,6 +21,10 @@ use Rattle.resource_store.specs.Meaning.{Setting}
 abbrev pub act_of : Ruling → Answer Act
 act_of a = record { told = a.step.act; made = a.asked }
 
+-- what is read off the act of such an answer, with its record
+abbrev pub told_of : {A : Type 0} → (Act → A) → Ruling → Answer A
+told_of view a = record { told = view a.step.act; made = a.asked }
+
 -- ---- the resource of a store
 
 -- with no actions and no local transactions

@@ -81,13 +81,6 @@ impl<K: RunName> Ended<K> {
         self.place
     }
 
-    /// The fault of its seat.
-    pub fn fault(&self) -> Option<RunFault>
-        ensures { result ≡ self.now.fault }
-    {
-        self.fault
-    }
-
     /// Gives its trace away.
     pub(crate) fn into_trace(self) -> List<Entry>
         ensures { result ≡ self.trace }

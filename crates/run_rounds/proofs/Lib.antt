@@ -1,3 +1,4 @@
 mod Ended
 mod Passes
 pub mod Places
+mod Sendable

@@ -6,10 +6,12 @@ pub mod Passing
 pub mod StepLaws
 pub mod MayLaws
 pub mod GrantLaws
+pub mod GrantParts
 pub mod HolderLaws
 pub mod LookupLaws
 pub mod KeptLaws
 pub mod OwnerLaws
+pub mod EndsLaws
 mod TicketLaws
 pub mod PlaceLaws
 mod SearchLaws

@@ -1,5 +1,5 @@
--- A search among transactions whose numbers rise.
-use Rattle.std.proofs.Common.{◌≡◌, ◌<◌, ◌≤◌, ℕ, zero, suc, Bool, true, false, cond, List, [], ◌∷◌, length, Some, None, option_map, Less, Equal, Greater, refl, sym, ap, ◌∙◌, arith}
+-- A search among transactions, or branches, whose numbers rise.
+use Rattle.std.proofs.Common.{◌≡◌, ◌==◌, ◌<◌, ◌≤◌, ℕ, zero, suc, Bool, true, false, cond, List, [], ◌∷◌, length, Some, None, option_map, Less, Equal, Greater, refl, sym, ap, ◌∙◌, arith}
 use Rattle.std.specs.Prelude.{find, nat_lt}
 use Rattle.std.proofs.Math.ListN.{get_or}
 use Rattle.std.specs.List.{position, position_or_len, HoldsAt}
@@ -8,7 +8,6 @@ use Rattle.std.specs.Ordering.{nat_cmp, ordering_index}
 use Rattle.std.proofs.lemmas.List.Sums.{position_or_len_is}
 use Rattle.std.proofs.lemmas.Bool.Decides.{nat_tests}
 use Rattle.session_log.specs.declared.sessions.SessionEntry.{SessionEntry}
-use Rattle.session_log.specs.Soundness.{entry_xid}
 use Rattle.session_memory.specs.Lookups.{has_xid, session_of}
 use Rattle.session_memory.specs.Order.{AreAbove, AreRising, Each}
 use Rattle.session_memory.proofs.Small.{nat_differs, nat_same, cmp_is}
@@ -16,16 +15,20 @@ use Rattle.session_memory.proofs.PlaceLaws.{IsFirst, first_place, no_place}
 
 -- ---- numbers that rise
 
-above_at : (n : ℕ) (es : List SessionEntry) → AreAbove entry_xid n es → (k : ℕ) (d : SessionEntry) → k < length es → n < entry_xid (get_or es k d)
-above_at n [] a k d lt = absurd (omega (arith, lt))
-above_at n (e ∷ es) a zero d lt = a.0
-above_at n (e ∷ es) a (suc k) d lt = above_at n es a.1 k d (omega (arith, lt))
+module _ {X : Type 0} (number : X → ℕ) where
+  abbrev pub has : ℕ → X → Bool
+  has x e = number e == x
 
-rises : (es : List SessionEntry) → AreRising entry_xid es → (i j : ℕ) (d : SessionEntry) → i < j → j < length es → entry_xid (get_or es i d) < entry_xid (get_or es j d)
-rises [] r i j d lt in_range = absurd (omega (arith, in_range))
-rises (e ∷ es) r i zero d lt in_range = absurd (omega (arith, lt))
-rises (e ∷ es) r zero (suc j) d lt in_range = above_at (entry_xid e) es r.0 j d (omega (arith, in_range))
-rises (e ∷ es) r (suc i) (suc j) d lt in_range = rises es r.1 i j d (omega (arith, lt)) (omega (arith, in_range))
+  above_at : (n : ℕ) (es : List X) → AreAbove number n es → (k : ℕ) (d : X) → k < length es → n < number (get_or es k d)
+  above_at n [] a k d lt = absurd (omega (arith, lt))
+  above_at n (e ∷ es) a zero d lt = a.0
+  above_at n (e ∷ es) a (suc k) d lt = above_at n es a.1 k d (omega (arith, lt))
+
+  rises : (es : List X) → AreRising number es → (i j : ℕ) (d : X) → i < j → j < length es → number (get_or es i d) < number (get_or es j d)
+  rises [] r i j d lt in_range = absurd (omega (arith, in_range))
+  rises (e ∷ es) r i zero d lt in_range = absurd (omega (arith, lt))
+  rises (e ∷ es) r zero (suc j) d lt in_range = above_at (number e) es r.0 j d (omega (arith, in_range))
+  rises (e ∷ es) r (suc i) (suc j) d lt in_range = rises es r.1 i j d (omega (arith, lt)) (omega (arith, in_range))
 
 -- ---- a place
 
@@ -35,45 +38,46 @@ placed n at len e lt = let t : nat_lt n len ≡ true = grind (arith, nat_tests) 
 missing : (n len : ℕ) → n ≡ len → None ≡ cond (nat_lt n len) (Some n) None
 missing n len e = let t : nat_lt n len ≡ false = grind (arith, nat_tests) in sym (ap (λ b. cond b (Some n) None) t)
 
-module _ (es : List SessionEntry) (x : ℕ) (rising : AreRising entry_xid es) where
-  rises_to : (i j : ℕ) (d : SessionEntry) → i ≤ j → j < length es → entry_xid (get_or es i d) ≤ entry_xid (get_or es j d)
-  rises_to i j d le in_range = grind (arith, rises es rising i j d, λ (same : i ≡ j). ap (λ n. entry_xid (get_or es n d)) same)
+module _ {X : Type 0} (number : X → ℕ) (es : List X) (x : ℕ) (rising : AreRising number es) where
+  rises_to : (i j : ℕ) (d : X) → i ≤ j → j < length es → number (get_or es i d) ≤ number (get_or es j d)
+  rises_to i j d le in_range = grind (arith, rises number es rising i j d, λ (same : i ≡ j). ap (λ n. number (get_or es n d)) same)
 
-  comparisons_rise : IsNonDecreasingBy (λ e. ordering_index (nat_cmp (entry_xid e) x)) es
+  comparisons_rise : IsNonDecreasingBy (λ e. ordering_index (nat_cmp (number e) x)) es
   comparisons_rise i j d le in_range = let up = rises_to i j d le in_range in grind (arith, nat_tests)
 
-  found_at : (at : ℕ) (d : SessionEntry) → at < length es → nat_cmp (entry_xid (get_or es at d)) x ≡ Equal → Some at ≡ position (has_xid x) es
+  found_at : (at : ℕ) (d : X) → at < length es → nat_cmp (number (get_or es at d)) x ≡ Equal → Some at ≡ position (has number x) es
   found_at at d lt equal =
-      let here : entry_xid (get_or es at d) ≡ x = cmp_is (entry_xid (get_or es at d)) x Equal equal in
-      placed (position_or_len (has_xid x) es) at (length es)
-      (position_or_len_is (has_xid x) es at d (omega (arith, lt))
-      (λ k below. nat_differs (entry_xid (get_or es k d)) x (λ same. let up = rises es rising k at d below lt in omega (arith, up, here, same)))
-      (λ within. nat_same (entry_xid (get_or es at d)) x here)) lt
+      let here : number (get_or es at d) ≡ x = cmp_is (number (get_or es at d)) x Equal equal in
+      placed (position_or_len (has number x) es) at (length es)
+      (position_or_len_is (has number x) es at d (omega (arith, lt))
+      (λ k below. nat_differs (number (get_or es k d)) x (λ same. let up = rises number es rising k at d below lt in omega (arith, up, here, same)))
+      (λ within. nat_same (number (get_or es at d)) x here)) lt
 
-  nowhere : (at : ℕ) (d : SessionEntry) → (IsNonDecreasingBy (λ e. ordering_index (nat_cmp (entry_xid e) x)) es
-      → IsPartitionPoint (λ e. nat_cmp (entry_xid e) x ≡ Less) (λ e. nat_cmp (entry_xid e) x ≡ Greater) es at) → None ≡ position (has_xid x) es
+  nowhere : (at : ℕ) (d : X) → (IsNonDecreasingBy (λ e. ordering_index (nat_cmp (number e) x)) es
+      → IsPartitionPoint (λ e. nat_cmp (number e) x ≡ Less) (λ e. nat_cmp (number e) x ≡ Greater) es at) → None ≡ position (has number x) es
   nowhere at d parted =
-      missing (position_or_len (has_xid x) es) (length es)
-      (position_or_len_is (has_xid x) es (length es) d (omega arith) (λ k lt. differs k lt (nat_lt k at) refl) (λ lt. absurd (omega (arith, lt))))
+      missing (position_or_len (has number x) es) (length es)
+      (position_or_len_is (has number x) es (length es) d (omega arith) (λ k lt. differs k lt (nat_lt k at) refl) (λ lt. absurd (omega (arith, lt))))
     where
-      differs : (k : ℕ) → k < length es → (b : Bool) → nat_lt k at ≡ b → has_xid x (get_or es k d) ≡ false
+      differs : (k : ℕ) → k < length es → (b : Bool) → nat_lt k at ≡ b → has number x (get_or es k d) ≡ false
       differs k lt true e =
-          let below : entry_xid (get_or es k d) < x = cmp_is (entry_xid (get_or es k d)) x Less ((parted comparisons_rise).0 k d (omega arith) (grind (arith, nat_tests))) in
-          nat_differs (entry_xid (get_or es k d)) x (λ same. omega (arith, below, same))
+          let below : number (get_or es k d) < x = cmp_is (number (get_or es k d)) x Less ((parted comparisons_rise).0 k d (omega arith) (grind (arith, nat_tests))) in
+          nat_differs (number (get_or es k d)) x (λ same. omega (arith, below, same))
       differs k lt false e =
-          let above : x < entry_xid (get_or es k d) = cmp_is (entry_xid (get_or es k d)) x Greater ((parted comparisons_rise).1 k d (grind (arith, nat_tests)) lt) in
-          nat_differs (entry_xid (get_or es k d)) x (λ same. omega (arith, above, same))
+          let above : x < number (get_or es k d) = cmp_is (number (get_or es k d)) x Greater ((parted comparisons_rise).1 k d (grind (arith, nat_tests)) lt) in
+          nat_differs (number (get_or es k d)) x (λ same. omega (arith, above, same))
 
 -- what the search answers is the place
-pub found_in : (es : List SessionEntry) (x : ℕ) → AreRising entry_xid es → (at : ℕ) → at < length es → HoldsAt (λ e. nat_cmp (entry_xid e) x ≡ Equal) es at → Some at ≡ position (has_xid x) es
-found_in [] x rising at lt equal = absurd (omega (arith, lt))
-found_in (e ∷ es) x rising at lt equal = found_at (e ∷ es) x rising at e lt (equal e)
+module _ {X : Type 0} (number : X → ℕ) where
+  pub found_in : (es : List X) (x : ℕ) → AreRising number es → (at : ℕ) → at < length es → HoldsAt (λ e. nat_cmp (number e) x ≡ Equal) es at → Some at ≡ position (has number x) es
+  found_in [] x rising at lt equal = absurd (omega (arith, lt))
+  found_in (e ∷ es) x rising at lt equal = found_at number (e ∷ es) x rising at e lt (equal e)
 
--- and it answers none where there is none
-pub nowhere_in : (es : List SessionEntry) (x : ℕ) → AreRising entry_xid es → (at : ℕ)
-    → (IsNonDecreasingBy (λ e. ordering_index (nat_cmp (entry_xid e) x)) es → IsPartitionPoint (λ e. nat_cmp (entry_xid e) x ≡ Less) (λ e. nat_cmp (entry_xid e) x ≡ Greater) es at) → None ≡ position (has_xid x) es
-nowhere_in [] x rising at parted = missing 0 0 refl
-nowhere_in (e ∷ es) x rising at parted = nowhere (e ∷ es) x rising at e parted
+  -- and it answers none where there is none
+  pub nowhere_in : (es : List X) (x : ℕ) → AreRising number es → (at : ℕ)
+      → (IsNonDecreasingBy (λ e. ordering_index (nat_cmp (number e) x)) es → IsPartitionPoint (λ e. nat_cmp (number e) x ≡ Less) (λ e. nat_cmp (number e) x ≡ Greater) es at) → None ≡ position (has number x) es
+  nowhere_in [] x rising at parted = missing 0 0 refl
+  nowhere_in (e ∷ es) x rising at parted = nowhere number (e ∷ es) x rising at e parted
 
 -- ---- the transaction at a place
 

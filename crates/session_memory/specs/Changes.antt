@@ -198,6 +198,11 @@ after r s = with_turned r s
 abbrev pub granted_record : Xid → ℕ → RegisterPlace → List RowKey → SessionRecord
 granted_record xid branch place hold = log.Granted xid (record { 0 = branch }) place.resource place.call place.ticket place.kind hold
 
+-- the rows that a record's branch takes
+abbrev pub taken_rows : SessionRecord → List RowKey
+taken_rows (log.Granted xid branch resource call ticket kind hold) = hold
+taken_rows _ = []
+
 -- a record on a transaction that it neither begins nor forgets, and that registers no branch
 abbrev pub turns : SessionRecord → Bool
 turns (log.Begun xid manager begun timeout) = false

@@ -3,7 +3,7 @@ pub mod Holding
 pub mod Changes
 pub mod Order
 pub mod Owners
-pub mod Answers
+pub mod Ends
 pub mod Laws
 pub mod Loading
 pub mod Writing

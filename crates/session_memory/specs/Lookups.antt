@@ -1,5 +1,5 @@
 -- What a snapshot says of a transaction, of a manager and of a branch.
-use Rattle.std.specs.Prelude.{ℕ, ◌==◌, ◌&&◌, nat_lt, Bool, not, List, [], ◌∷◌, find, Option, Some, None, option_map}
+use Rattle.std.specs.Prelude.{ℕ, ◌==◌, ◌&&◌, nat_lt, Bool, true, false, if◌then◌else◌, not, List, [], ◌∷◌, find, Option, Some, None, option_map}
 use Rattle.seata_types.specs.declared.ids.Xid.{Xid}
 use Rattle.seata_types.specs.declared.ids.Leg.{Leg}
 use Rattle.seata_types.specs.declared.ids.Ticket.{Ticket}
@@ -11,6 +11,7 @@ use Rattle.session_log.specs.declared.sessions.Session.{Session}
 use Rattle.session_log.specs.declared.sessions.SessionEntry.{SessionEntry}
 use Rattle.session_log.specs.declared.sessions.Forgotten.{Forgotten}
 use Rattle.session_log.specs.declared.sessions.Snapshot.{Snapshot}
+use Rattle.session_log.specs.Soundness.{is_open_branch}
 use Rattle.session_memory.specs.declared.sought.Sought.{Sought}
 use Rattle.session_memory.specs.declared.sought.Sought.TheVariants as sought
 
@@ -106,3 +107,18 @@ ticket_leg s resource ticket = first_leg (has_ticket resource ticket) s.sessions
 -- the TCC branch that was registered for a call of x at a resource
 abbrev pub call_leg : Snapshot → Xid → (resource call : ℕ) → Option Leg
 call_leg s x resource call = leg_with (has_call resource call) x (branches_in s x.0)
+
+-- ---- open branches
+
+abbrev pub if_open : Branch → Option Branch
+if_open b = if is_open_branch b then Some b else None
+
+-- the last branch that isn't ended
+abbrev pub last_open : List Branch → Option Branch
+last_open [] = None
+last_open (b ∷ bs) = or_else (last_open bs) (if_open b)
+
+-- the branch that is asked next: after a commit the first one that isn't ended, else the last one
+abbrev pub next_open : Bool → List Branch → Option Branch
+next_open true bs = find is_open_branch bs
+next_open false bs = last_open bs

@@ -25,6 +25,10 @@ AreRising number (x ∷ xs) = AreAbove number (number x) xs × AreRising number 
 abbrev pub branch_number : Branch → ℕ
 branch_number b = b.id.0
 
+-- the numbers of its branches rise
+abbrev pub HasRising : SessionEntry → Type 0
+HasRising e = AreRising branch_number e.session.branches
+
 abbrev pub IsGranted : ℕ → Branch → Type 0
 IsGranted granted b = b.id.0 ≤ granted
 

@@ -3,7 +3,9 @@
 #![tactic(auto)]
 
 mod allowing;
+mod ends;
 mod errors;
+mod grants;
 pub mod laws;
 mod loading;
 mod lookups;
@@ -16,4 +18,5 @@ pub mod statuses;
 pub mod uncounted;
 
 pub use errors::LoadError;
+pub use grants::granted;
 pub use memory::Memory;

@@ -2,9 +2,9 @@
 ghost use Rattle.std.specs.Prelude.{◌≡◌, ◌≤◌, ◌+◌, ◌&&◌, find, map, length, option_map, IfOk};
 ghost use Rattle.std.specs.List.{list_all, list_any, position};
 ghost use Rattle.std.specs.Option.{option_copied};
-ghost use Rattle.session_log.specs.Soundness.{entry_xid, is_at_branch, is_ended_branch, is_open_with};
-ghost use Rattle.session_memory.specs.Lookups.{has_xid, session_of, has_manager, was_of_manager, xid_of, forgotten_xid, has_ticket, has_call, is_sought, leg_with};
-ghost use Rattle.session_memory.specs.Order.{AreRising};
+ghost use Rattle.session_log.specs.Soundness.{entry_xid, is_at_branch, is_open_with};
+ghost use Rattle.session_memory.specs.Lookups.{has_number, has_xid, session_of, has_manager, was_of_manager, xid_of, forgotten_xid, has_ticket, has_call, is_sought, leg_with};
+ghost use Rattle.session_memory.specs.Order.{AreRising, branch_number};
 ghost use Rattle.durable_records.specs.Branches.{is_at, same_ticket};
 
 use crate::sought::Sought;
@@ -122,20 +122,26 @@ pub(crate) fn are_at(branches: &[Branch]) -> bool
     branches.iter().all(|branch| is_at(branch))
 }
 
-/// Whether all branches are ended.
-pub(crate) fn are_ended(branches: &[Branch]) -> bool
-    ensures { result ≡ list_all is_ended_branch branches.now }
+/// Where a branch stands, by a search: the numbers rise.
+pub(crate) fn branch_place(branches: &[Branch], id: BranchId) -> Option<usize>
+    requires rising { AreRising branch_number branches.now }
+    ensures { result ≡ position (has_number id.0) branches.now }
 {
-    branches.iter().all(|branch| branch.ended)
+    match branches.binary_search_by_key(&id.0, |branch| branch.id.0) {
+        Ok(at) => Some(at),
+        Err(_) => None,
+    }
 }
 
 /// Whether this is a branch that isn't ended.
 pub(crate) fn has_open(branches: &[Branch], id: BranchId) -> bool
+    requires rising { AreRising branch_number branches.now }
     ensures { result ≡ list_any (is_open_with id.0) branches.now }
 {
-    branches
-        .iter()
-        .any(|branch| branch.id.0 == id.0 && !branch.ended)
+    match branch_place(branches, id) {
+        Some(at) => !branches[at].ended,
+        None => false,
+    }
 }
 
 /// The numbers of these transactions, in their order.

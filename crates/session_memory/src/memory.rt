@@ -1,23 +1,24 @@
 //! The memory of a coordinator.
-ghost use Rattle.std.specs.Prelude.{◌≡◌, ◌<◌, ◌≤◌, ◌+◌, ◌*◌, ◌^◌, ◌&&◌, [], map, length, is_none, true, IfOk, OnOk, OnErr, Some, None, Err, Ok};
+ghost use Rattle.std.specs.Prelude.{◌≡◌, ◌<◌, ◌≤◌, ◌+◌, ◌++◌, ◌^◌, [], map, length, is_none, true, IfOk, OnOk, OnErr, Some, None, Err, Ok};
+ghost use Rattle.std.specs.List.{list_all, list_any};
 ghost use Rattle.std.specs.Option.{option_copied};
 ghost use Rattle.durable_records.specs.declared.coordinators.SessionRecord.TheVariants as log;
 ghost use Rattle.lock_table.specs.Locks.{locks, TakesAtMost};
 ghost use Rattle.lock_table.specs.Answers.{FindsConflict};
 ghost use Rattle.session_log.specs.SnapshotOf.{snapshot_of};
-ghost use Rattle.session_log.specs.Soundness.{all_differ, same_ticket_key, tickets};
-ghost use Rattle.session_memory.specs.Lookups.{session_in, status_in, xid_for, ticket_leg, call_leg, branches_in, leg_with, is_sought, xid_of};
+ghost use Rattle.session_log.specs.Soundness.{all_differ, is_ended_branch, is_open_with, same_ticket_key, tickets};
+ghost use Rattle.session_memory.specs.Lookups.{session_in, status_in, xid_for, ticket_leg, call_leg, branches_in, leg_with, next_open, is_sought, xid_of};
 ghost use Rattle.session_memory.specs.Holding.{held_in};
-ghost use Rattle.session_memory.specs.Changes.{is_begin, is_new, is_open, may_come, after, granted_record, turns, MayTake, TakesIn};
+ghost use Rattle.session_memory.specs.Changes.{is_new, is_open, may_come, after, granted_record, taken_rows, turns, MayTake, TakesIn};
 ghost use Rattle.session_memory.specs.Order.{IsCounted};
-ghost use Rattle.session_memory.specs.Answers.{Grants};
 ghost use Rattle.session_memory.specs.Loading.{LoadsSnapshot};
 ghost use Rattle.session_memory.specs.Owners.{most_branches};
 
+use crate::ends::Ends;
 use crate::errors::LoadError;
 use crate::owners::TicketOwners;
 use crate::sought::Sought;
-use crate::{allowing, loading, lookups, sessions, snapshots, statuses};
+use crate::{allowing, grants, loading, lookups, snapshots, statuses};
 use durable_records::SessionRecord;
 use lock_table::{HoldError, LockTable, Steps};
 use seata_types::{BranchId, BranchKind, GlobalStatus, Leg, List, NoMemory, RowKey, Ticket, Xid};
@@ -28,24 +29,26 @@ use std::sync::ledger::Ledger;
 
 /// All that a coordinator knows of its transactions: contracts see the snapshot of its records. The table of global locks
 /// beside it has the rows that the snapshot's branches hold, and each AT branch's ticket tells its transaction, so that the
-/// branch of a ticket is looked for in one transaction.
+/// branch of a ticket is looked for in one transaction. An open branch is looked for behind those that are known to be ended.
 #[derive(Drop)]
 pub struct Memory {
     snapshot: Snapshot,
     locks: LockTable,
     owners: TicketOwners,
+    ends: Ends,
 }
 
 impl Model for Memory {
     ghost use Rattle.session_log.specs.declared.sessions.Snapshot.{Snapshot as Known};
     ghost use Rattle.session_memory.specs.Order.{IsKept};
     ghost use Rattle.session_memory.specs.Owners.{AreOwned};
+    ghost use Rattle.session_memory.specs.Ends.{AreSpans};
 
     ghost Value = { Known };
 
     ghost view = { λ m. m.snapshot };
 
-    ghost invariant = { λ m. IsKept m.snapshot m.locks × AreOwned m.owners m.snapshot.sessions };
+    ghost invariant = { λ m. IsKept m.snapshot m.locks × AreOwned m.owners m.snapshot.sessions × AreSpans m.ends m.snapshot.sessions };
 }
 
 impl Memory {
@@ -64,6 +67,7 @@ impl Memory {
             snapshot,
             locks: LockTable::new(alloc),
             owners: TicketOwners::new(alloc),
+            ends: Ends::new(alloc),
         }
     }
 
@@ -81,12 +85,14 @@ impl Memory {
             drop(snapshot);
             return Err(LoadError::NoMemory);
         };
+        let ends = Ends::of(alloc, snapshot.sessions.as_slice());
         let mut locks = LockTable::new(alloc);
         match loading::take_all(alloc, &mut locks, snapshot.sessions.as_slice(), steps) {
             Ok(()) => Ok(Memory {
                 snapshot,
                 locks,
                 owners,
+                ends,
             }),
             Err(error) => {
                 drop(snapshot);
@@ -114,6 +120,19 @@ impl Memory {
         ensures { option_copied result ≡ session_in self.now xid.0 }
     {
         lookups::session(self.snapshot.sessions.as_slice(), xid)
+    }
+
+    /// The branch of a transaction that is asked next: after a commit the first one that isn't ended, else the last one. Branches that
+    /// ended in this order aren't passed again. Takes no memory.
+    pub fn next_open(&self, xid: Xid, commit: bool) -> Option<&Branch>
+        ensures { option_copied result ≡ next_open commit (branches_in self.now xid.0) }
+    {
+        match self.find(xid) {
+            Some(session) => self
+                .ends
+                .next_open(xid, session.branches.as_slice(), commit),
+            None => None,
+        }
     }
 
     /// The status of a transaction: Finished where it isn't known. Takes no memory.
@@ -180,19 +199,22 @@ impl Memory {
         self.leg_in(xid, Sought::Call { resource, call }, steps)
     }
 
-    /// Whether another transaction holds one of these rows, and the first one, as an error. A step is a comparison of two
-    /// keys.
+    /// Whether another transaction holds a row, and the first one, of those to hold and then those to check, as an error. A step is a
+    /// comparison of two keys.
     pub fn conflict<L: Ledger>(
         &self,
         alloc: Global,
         xid: Xid,
-        rows: &[RowKey],
+        hold: &[RowKey],
+        check: &[RowKey],
         steps: &mut Steps<L>,
     ) -> Result<(), HoldError>
-        ensures found { FindsConflict (locks (held_in self.now)) xid rows.now result }
-        ensures cost { TakesAtMost (length rows.now) (length (locks (held_in self.now))) steps.old steps.new }
+        ensures found { FindsConflict (locks (held_in self.now)) xid
+            (hold.now ++ check.now) result }
+        ensures cost { TakesAtMost (length hold.now + length check.now)
+            (length (locks (held_in self.now))) steps.old steps.new }
     {
-        self.locks.conflict(alloc, xid, rows, steps)
+        self.locks.conflict(alloc, xid, hold, check, steps)
     }
 
     /// The numbers of the transactions that are known, in rising order.
@@ -275,11 +297,14 @@ impl Memory {
     fn is_open(&self, xid: Xid, branch: BranchId) -> bool
         ensures { result ≡ is_open self.now xid.0 branch.0 }
     {
-        match self.find(xid) {
-            Some(session) => {
-                statuses::is_going(session.status)
-                    && lookups::has_open(session.branches.as_slice(), branch)
-            }
+        statuses::is_going(self.status(xid)) && self.has_open(xid, branch)
+    }
+
+    fn has_open(&self, xid: Xid, branch: BranchId) -> bool
+        ensures { result ≡ list_any (is_open_with branch.0) (branches_in self.now xid.0) }
+    {
+        match lookups::session(self.snapshot.sessions.as_slice(), xid) {
+            Some(session) => lookups::has_open(session.branches.as_slice(), branch),
             None => false,
         }
     }
@@ -288,16 +313,17 @@ impl Memory {
     fn may_finish(&self, xid: Xid) -> bool
         ensures { result ≡ may_come self.now (log.Finished xid) }
     {
-        match self.find(xid) {
-            Some(session) => {
-                statuses::is_going(session.status)
-                    && lookups::are_ended(session.branches.as_slice())
-            }
-            None => false,
-        }
+        statuses::is_going(self.status(xid)) && self.are_ended(xid)
     }
 
-    /// Takes in one more record that may come. After an error all is as before. A step is a comparison of two keys.
+    fn are_ended(&self, xid: Xid) -> bool
+        ensures { result ≡ list_all is_ended_branch (branches_in self.now xid.0) }
+    {
+        self.next_open(xid, true).is_none()
+    }
+
+    /// Takes in one more record that may come. After an error all is as before. A step is a comparison of two keys: those of rows
+    /// that a branch takes, which aren't searched again.
     pub fn apply<L: Ledger>(
         &mut self,
         alloc: Global,
@@ -308,6 +334,8 @@ impl Memory {
         requires room { self.old.acts + 1 < 2 ^ 32 }
         ensures ok { OnOk result (self.new ≡ after item.now self.old) }
         ensures err { OnErr result (self.new ≡ self.old) }
+        ensures cost { TakesAtMost (length (taken_rows item.now))
+            (length (locks (held_in self.old)) + length (taken_rows item.now)) steps.old steps.new }
     {
         match item {
             SessionRecord::Begun {
@@ -342,45 +370,6 @@ impl Memory {
         }
     }
 
-    /// Registers a branch of an undecided transaction under the next number, for which nothing is registered, unless another
-    /// transaction holds one of the rows to hold or to check. After an error all is as before. A step is a comparison of two keys.
-    pub fn register<L: Ledger>(
-        &mut self,
-        alloc: Global,
-        xid: Xid,
-        place: RegisterPlace,
-        hold: &[RowKey],
-        check: &[RowKey],
-        steps: &mut Steps<L>,
-    ) -> Result<(), HoldError>
-        requires begin { is_begin (status_in self.old xid.0) ≡ true }
-        requires new { is_new self.old xid place.resource place.call place.ticket place.kind ≡ true }
-        requires room { self.old.acts + 1 < 2 ^ 32 }
-        ensures granted { Grants (granted_record xid (self.old.granted + 1) place hold.now) xid hold.now check.now self.old result self.new }
-        ensures cost { TakesAtMost (2 * length hold.now + length check.now) (length (locks (held_in self.old)) + length hold.now) steps.old steps.new }
-    {
-        let leg = Leg {
-            xid,
-            branch: self.next_branch(),
-        };
-        let Ok(rows) = sessions::copies(alloc, hold) else {
-            return Err(HoldError::NoMemory);
-        };
-        self.locks.try_hold(alloc, leg, hold, check, steps)?;
-        let branch = Branch {
-            id: leg.branch,
-            place,
-            hold: rows,
-            ended: false,
-        };
-        let owners = &mut self.owners;
-        if snapshots::register(alloc, &mut self.snapshot, owners, xid, branch).is_err() {
-            self.locks.release(leg);
-            return Err(HoldError::NoMemory);
-        }
-        Ok(())
-    }
-
     // Registers a branch whose rows are free.
     fn grant<L: Ledger>(
         &mut self,
@@ -392,12 +381,27 @@ impl Memory {
         steps: &mut Steps<L>,
     ) -> Result<(), NoMemory>
         requires { MayTake self.old (granted_record xid branch.0 place hold.now) }
-        ensures { TakesIn (granted_record xid branch.0 place hold.now) result self.old self.new }
+        ensures taken { TakesIn (granted_record xid branch.0 place hold.now)
+            result self.old self.new }
+        ensures cost { TakesAtMost (length hold.now)
+            (length (locks (held_in self.old)) + length hold.now) steps.old steps.new }
     {
-        match self.register(alloc, xid, place, hold, &[], steps) {
-            Ok(()) => Ok(()),
-            Err(_) => Err(NoMemory),
+        let rows = grants::copies(alloc, hold)?;
+        let leg = Leg { xid, branch };
+        self.locks.hold(alloc, leg, hold, steps)?;
+        let branch = Branch {
+            id: branch,
+            place,
+            hold: rows,
+            ended: false,
+        };
+        let owners = &mut self.owners;
+        if snapshots::register(alloc, &mut self.snapshot, owners, xid, branch).is_err() {
+            self.locks.release(leg);
+            return Err(NoMemory);
         }
+        self.ends.forget(xid);
+        Ok(())
     }
 
     // A transaction begins under the next number.
@@ -424,6 +428,7 @@ impl Memory {
     {
         snapshots::forget(alloc, &mut self.snapshot, &mut self.owners, xid)?;
         self.locks.release_all(xid);
+        self.ends.forget(xid);
         Ok(())
     }
 
@@ -435,6 +440,7 @@ impl Memory {
     {
         snapshots::turn(alloc, &mut self.snapshot, item);
         allowing::give_back(&mut self.locks, item);
+        self.ends.note(self.snapshot.sessions.as_slice(), item);
         Ok(())
     }
 }

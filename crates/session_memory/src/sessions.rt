@@ -1,16 +1,16 @@
 //! Changes of transactions and their branches.
-ghost use Rattle.std.specs.Prelude.{◌≡◌, [], IfOk, OnOk, OnErr, find, option_map};
+ghost use Rattle.std.specs.Prelude.{◌≡◌, [], OnOk, OnErr, find, option_map};
 ghost use Rattle.std.specs.List.{position};
 ghost use Rattle.session_log.specs.Soundness.{entry_xid};
-ghost use Rattle.session_memory.specs.Order.{AreRising};
-ghost use Rattle.session_memory.specs.Lookups.{has_xid, session_of, has_number, is_later};
+ghost use Rattle.session_memory.specs.Order.{AreRising, Each, HasRising, branch_number};
+ghost use Rattle.session_memory.specs.Lookups.{has_xid, session_of, is_later};
 ghost use Rattle.session_memory.specs.Changes.{with_ended, turned, changed, with_branch, without, with_forgotten, forgotten_as, xid_in};
 ghost use Rattle.session_memory.specs.Owners.{OthersStay};
 
 use crate::owners::TicketOwners;
 use crate::{lookups, statuses};
 use durable_records::SessionRecord;
-use seata_types::{BranchId, Duplicate, List, NoMemory, RowKey, Xid};
+use seata_types::{BranchId, List, NoMemory, Xid};
 use session_log::{Branch, Forgotten, Session, SessionEntry};
 use std::alloc::Global;
 use std::mem;
@@ -23,22 +23,18 @@ pub(crate) fn take_items<T>(alloc: Global, list: &mut List<T>) -> Vec<T>
     mem::replace(list, List::of(Vec::new(alloc))).into_vec()
 }
 
-fn branch_place(branches: &[Branch], id: BranchId) -> Option<usize>
-    ensures { result ≡ position (has_number id.0) branches.now }
-{
-    branches.iter().position(|branch| branch.id.0 == id.0)
-}
-
 fn end_branch(branches: &mut [Branch], id: BranchId)
+    requires rising { AreRising branch_number branches.old }
     ensures { branches.new ≡ with_ended id.0 branches.old }
 {
-    if let Some(at) = branch_place(branches, id) {
+    if let Some(at) = lookups::branch_place(branches, id) {
         branches[at].ended = true;
     }
 }
 
 /// Changes a transaction by a record on it that registers no branch.
 pub(crate) fn turn(alloc: Global, session: &mut Session, item: &SessionRecord)
+    requires rising { AreRising branch_number session.old.branches }
     ensures { session.new ≡ turned item.now session.old }
 {
     match item {
@@ -79,6 +75,7 @@ pub(crate) fn xid_of(item: &SessionRecord) -> Xid
 /// Changes the transaction of a record that registers no branch.
 pub(crate) fn turn_one(alloc: Global, sessions: &mut [SessionEntry], item: &SessionRecord)
     requires rising { AreRising entry_xid sessions.old }
+    requires branches { Each HasRising sessions.old }
     ensures { sessions.new ≡ changed (xid_in item.now) (turned item.now) sessions.old }
 {
     if let Some(at) = lookups::place(sessions, xid_of(item)) {
@@ -159,15 +156,4 @@ pub(crate) fn add_branch(
         Some(at) => push_branch(alloc, &mut sessions[at].session, branch),
         None => Ok(()),
     }
-}
-
-/// Copies of these rows.
-pub(crate) fn copies(alloc: Global, rows: &[RowKey]) -> Result<List<RowKey>, NoMemory>
-    ensures { IfOk result (λ copied. copied ≡ rows.now) }
-{
-    let mut copied = Vec::new(alloc);
-    for row in rows {
-        copied.push(row.copy(alloc)?)?;
-    }
-    Ok(List::of(copied))
 }

@@ -2,7 +2,7 @@
 ghost use Rattle.std.specs.Prelude.{◌≡◌, ◌<◌, ◌+◌, ◌^◌, OnOk, OnErr};
 ghost use Rattle.durable_records.specs.declared.coordinators.SessionRecord.TheVariants as log;
 ghost use Rattle.session_log.specs.Soundness.{entry_xid};
-ghost use Rattle.session_memory.specs.Order.{AreRising};
+ghost use Rattle.session_memory.specs.Order.{AreRising, Each, HasRising};
 ghost use Rattle.session_memory.specs.Owners.{IsOwned, KeepsOthers, OthersStay};
 ghost use Rattle.session_memory.specs.Changes.{after, with_turned, with_registered};
 
@@ -103,6 +103,7 @@ pub(crate) fn forget(
 pub(crate) fn turn(alloc: Global, snapshot: &mut Snapshot, item: &SessionRecord)
     requires acts { snapshot.old.acts + 1 < 2 ^ 32 }
     requires rising { AreRising entry_xid snapshot.old.sessions }
+    requires branches { Each HasRising snapshot.old.sessions }
     ensures { snapshot.new ≡ with_turned item.now snapshot.old }
 {
     let mut entries = sessions::take_items(alloc, &mut snapshot.sessions);

@@ -1,5 +1,5 @@
 -- What the calls of a store say of lists of records.
-use Rattle.std.proofs.Common.{◌≡◌, ◌≢◌, ◌⊎◌, inl, inr, ◌==◌, ◌&&◌, ◌<◌, ◌+◌, ◌^◌, ℕ, Bool, true, false, if◌then◌else◌, List, [], ◌∷◌, ◌++◌, length, Option, Some, None, is_none, Result, Ok, Err, refl, sym, ap, subst, ◌∙◌, IsTrue, ◌↔◌, arith}
+use Rattle.std.proofs.Common.{◌≡◌, ◌⊎◌, inl, inr, ◌==◌, ◌&&◌, ◌<◌, ◌+◌, ◌^◌, ℕ, Bool, true, false, List, ◌∷◌, ◌++◌, length, Option, Some, None, is_none, Result, Ok, Err, refl, sym, ap, subst, ◌∙◌, IsTrue, ◌↔◌, arith}
 use Rattle.std.specs.Prelude.{OnOk}
 use Rattle.disk_model.specs.Disk.{DiskState}
 use Rattle.seata_types.specs.declared.errors.Full.{Full}
@@ -7,6 +7,7 @@ use Rattle.seata_types.specs.declared.errors.OpenError.{OpenError}
 use Rattle.seata_types.specs.declared.errors.OpenError.TheVariants as open_error
 use Rattle.seata_types.specs.declared.errors.StoreError.{StoreError}
 use Rattle.seata_types.specs.declared.errors.StoreError.TheVariants as store_error
+use Rattle.seata_types.specs.declared.ids.BranchId.{BranchId}
 use Rattle.seata_types.specs.declared.ids.Xid.{Xid}
 use Rattle.seata_types.specs.declared.rows.RowKey.{RowKey}
 use Rattle.journal_checkpoint.specs.declared.types.Found.{Found}
@@ -18,7 +19,7 @@ use Rattle.journal_checkpoint.proofs.Kept.{found_behind}
 use Rattle.memory_store.specs.Meanings.{Meaning}
 use Rattle.memory_store.specs.Holdings.{held_in as held_by_found, memory_on, second_in, on_disk, of_pair}
 use Rattle.memory_store.specs.Settling.{IsWritable, settled, GoesOn, StandsOrSettled}
-use Rattle.memory_store.specs.Keeping.{Keeps, Takes, Falls, HasRoomFor, HasRoomIfTaken, IsFullFor, ChangesMemory, IsDamage, IsRead, IsOf, IsBack, IsTold, machine_of, with_memory, found_of as store_found_of}
+use Rattle.memory_store.specs.Keeping.{Keeps, Takes, Falls, HasRoomFor, HasRoomIfTaken, IsFullFor, ChangesMemory, IsDamage, IsRead, IsOf, IsBack, IsTold, machine_of, found_of as store_found_of}
 use Rattle.memory_store.proofs.Replaying.{few_acts, rows_are_long}
 use Rattle.memory_store.proofs.TwinFacts.{end_is_small, pairs_weaker}
 use Rattle.durable_records.specs.declared.coordinators.SessionRecord.{SessionRecord}
@@ -30,26 +31,24 @@ use Rattle.session_log.specs.declared.sessions.Snapshot.{Snapshot}
 use Rattle.session_log.specs.Records.{FitsRecord, record_of, record_bytes}
 use Rattle.session_log.specs.SnapshotOf.{snapshot_of}
 use Rattle.session_log.proofs.SnapshotLaws.{snapshots_are_of_layouts}
-use Rattle.lock_table.specs.Locks.{Locks, locks, locked, if_other, first_locked, first_held}
+use Rattle.lock_table.specs.Locks.{locks, first_held}
 use Rattle.lock_table.specs.Answers.{FindsConflict}
 use Rattle.lock_table.specs.declared.errors.HoldError.{HoldError}
 use Rattle.lock_table.specs.declared.errors.HoldError.TheVariants as hold_error
-use Rattle.lock_table.proofs.Firsts.{found_first, none_first}
-use Rattle.session_memory.specs.Answers.{Grants}
+use Rattle.lock_table.proofs.Firsts.{free_first}
 use Rattle.session_memory.specs.Holding.{held_in}
 use Rattle.session_memory.specs.Lookups.{status_in}
-use Rattle.session_memory.specs.Changes.{is_begin, is_new, are_free, after, may_come, granted_record}
+use Rattle.session_memory.specs.Changes.{is_begin, is_new, are_free, after, may_come}
 use Rattle.session_memory.proofs.Small.{and_both, nat_same}
 use Rattle.session_memory.proofs.StepLaws.{snapshot_after}
 use Rattle.session_memory.proofs.WritingLaws.{snapshot_written}
-use Rattle.session_store.specs.declared.errors.RegisterError.{RegisterError}
 use Rattle.session_store.specs.declared.errors.RegisterError.TheVariants as register_error
 use Rattle.session_store.specs.declared.machine.SessionMachine.{SessionMachine}
 use Rattle.session_store.specs.declared.sessions.Sessions.{Sessions}
 use Rattle.session_store.specs.Refusals.{of_hold}
 use Rattle.session_store.specs.Meaning.{acts_of, meaning_of, lawful}
 use Rattle.session_store.specs.Standing.{IsListOf, StandsForSessions}
-use Rattle.session_store.specs.Keeping.{managers_of, resources_of, known, twin, is_down, meaning, StandsFor, SameOpening, KeepsRecords, StandsAt, AtOrBehind, HasRoom, Adds, Loses, Makes, register_record, AreFree, Registers, IsRefused, IsNoDamage, GoesOnAs, BringsBack}
+use Rattle.session_store.specs.Keeping.{managers_of, resources_of, known, twin, is_down, meaning, StandsFor, SameOpening, KeepsRecords, StandsAt, AtOrBehind, HasRoom, Adds, Loses, Makes, register_record, registered, AreFree, Registers, IsNoDamage, GoesOnAs, BringsBack}
 use Rattle.session_store.proofs.ListLaws.{held_of_list, list_more, written_back}
 
 -- ---- small
@@ -196,19 +195,6 @@ module _ {D : Type 0} (state : D → DiskState) (old new : Sessions D) (r : Sess
 
 -- ---- registrations
 
--- of rows to hold and rows to check, where all are free the first ones are
-free_first_by : (ls : Locks) (x : Xid) (k : RowKey) (o : Option Xid) (all rest : Option (RowKey × Xid)) → if_other k x o all ≡ None → (all ≡ None → rest ≡ None) → if_other k x o rest ≡ None
-free_first_by ls x k None all rest e below = below e
-free_first_by ls x k (Some y) all rest e below = by (y.0 == x.0) e
-  where
-    by : (b : Bool) → (if b then all else Some (k, y)) ≡ None → (if b then rest else Some (k, y)) ≡ None
-    by true e = below e
-    by false e = e
-
-free_first : (ls : Locks) (x : Xid) (hold check : List RowKey) → first_locked ls x (hold ++ check) ≡ None → first_locked ls x hold ≡ None
-free_first ls x [] check e = refl
-free_first ls x (k ∷ ks) check e = free_first_by ls x k (locked ls k) (first_locked ls x (ks ++ check)) (first_locked ls x ks) e (free_first ls x ks check)
-
 -- a registration whose rows are free may come
 pub may_register : (s : Snapshot) (x : Xid) (place : RegisterPlace) (hold check : List RowKey) → is_begin (status_in s x.0) ≡ true → is_new s x place.resource place.call place.ticket place.kind ≡ true →
     first_held (held_in s) x (hold ++ check) ≡ None → may_come s (register_record s x place hold) ≡ true
@@ -217,70 +203,21 @@ may_register s x place hold check begin new free =
     (and_both (s.granted + 1 == s.granted + 1) (is_new s x place.resource place.call place.ticket place.kind && are_free s x hold) (nat_same (s.granted + 1) (s.granted + 1) refl)
     (and_both (is_new s x place.resource place.call place.ticket place.kind) (are_free s x hold) new (ap is_none (free_first (locks (held_in s)) x hold check free))))
 
--- the rows are taken, and the record of the branch goes to the disks
-module _ {D : Type 0} (state : D → DiskState) (old new : Sessions D) (x : Xid) (place : RegisterPlace) (hold check : List RowKey) (branch : ℕ) (body : List ℕ) (taken : Snapshot)
-    (numbered : branch ≡ (known old).granted + 1) (fits : FitsRecord (granted_record x branch place hold)) (is : body ≡ record_bytes (granted_record x branch place hold))
-    (begin : is_begin (status_in (known old) x.0) ≡ true) (fresh : is_new (known old) x place.resource place.call place.ticket place.kind ≡ true)
-    (within : is_within (managers_of old) (resources_of old) (register_record (known old) x place hold) ≡ true)
-    (grants : Grants (register_record (known old) x place hold) x hold check (known old) (Ok tt) taken) (now : known new ≡ taken)
-    (room : HasRoomFor state (length body) old.store) (machine : machine_of new.store ≡ machine_of old.store) (opened : store_found_of new.store ≡ store_found_of old.store)
-    (any_moment : (found : Found) → KeepsPair state found (twin old) → LeavesPairs (disks state (twin old)) (disks state (twin new)) (Either found (with_record found body)))
-    (not_begun : (found : Found) → KeepsPair state found (twin old) → (calls : ℕ) → (state (active_disk (twin old))).counts.left ≡ Some calls → calls < 2 →
-    LeavesPairs (disks state (twin old)) (disks state (twin new)) (PairStandsFor found)) where
-  same_record : granted_record x branch place hold ≡ register_record (known old) x place hold
-  same_record = ap (λ (n : ℕ). granted_record x n place hold) numbered
-
-  next_fits : FitsRecord (register_record (known old) x place hold)
-  next_fits = subst (λ (r : SessionRecord). FitsRecord r) same_record fits
-
-  next_is : body ≡ record_bytes (register_record (known old) x place hold)
-  next_is = is ∙ ap (λ (r : SessionRecord). record_bytes r) same_record
-
-  may : may_come (known old) (register_record (known old) x place hold) ≡ true
-  may = may_register (known old) x place hold check begin fresh grants.0
-
-  pub branch_added : ((found : Found) → KeepsPair state found (twin old) → KeepsPair state (with_record found body) (twin new)) → Takes state (twin old) (twin new) → twin_extent (twin new) ≡ longer (length body) (twin_extent (twin old)) → is_down new ≡ false →
-      AreFree old x (hold ++ check) × Adds state (register_record (known old) x place hold) old new
-  branch_added kept took extent up =
-      (grants.0, adds state old new (register_record (known old) x place hold) body next_fits next_is may within machine opened any_moment not_begun room (λ found keeps. kept found keeps.pair) (now ∙ grants.1) took extent up)
-
-  pub branch_lost : Falls state (twin old) (twin new) → is_down new ≡ true →
-      (store_error.Failed ≢ store_error.NoMemory → AreFree old x (hold ++ check)) × Loses state (register_record (known old) x place hold) old new
-  branch_lost falls down =
-      (λ other. grants.0, loses state old new (register_record (known old) x place hold) body next_fits next_is may within machine opened any_moment not_begun room (now ∙ grants.1) falls down)
+-- a record of a branch whose rows are free is added or isn't
+pub registers_by : {D X : Type 0} (state : D → DiskState) (old new : Sessions D) (r : SessionRecord) (x : Xid) (rows : List RowKey) (branch : BranchId) → AreFree old x rows
+    → (result : Result X StoreError) → Makes state r result old new → Registers state r x rows (registered branch result) old new
+registers_by state old new r x rows branch free (Ok done) made = (free, made)
+registers_by state old new r x rows branch free (Err error) made = (λ other. free, made)
 
 -- nothing changed
 module _ {D : Type 0} (state : D → DiskState) (s : Sessions D) (r : SessionRecord) (x : Xid) (rows : List RowKey) where
   pub no_memory : Registers state r x rows (Err (register_error.Store store_error.NoMemory)) s s
   no_memory = (λ other. absurd (other refl), refl)
 
-  pub refused : (body : List ℕ) (full : Full) (e : RegisterError) → body ≡ record_bytes r → ((found : Found) → Keeps state (meaning s) found s.store → IsFullFor state (length body) s.store full) →
-      IsRefused (known s) x rows full e → Registers state r x rows (Err e) s s
-  refused body full (register_error.Held key by) is exact why = (why, refl)
-  refused body full (register_error.Store (store_error.Full other)) is exact why =
-      (λ some. why.0, (refl, λ found kept. subst (λ (f : Full). IsFullFor state (length (record_bytes r)) s.store f) (sym why.1) (subst (λ (bytes : List ℕ). IsFullFor state (length bytes) s.store full) is (exact found kept))))
-  refused body full (register_error.Store store_error.NoMemory) is exact why = no_memory
-  refused body full (register_error.Store store_error.Failed) is exact why = absurd why
-
--- rows of which another transaction holds one, or that can't be looked up
-pub first_refused : (s : Snapshot) (x : Xid) (hold check : List RowKey) (full : Full) (e : HoldError) → FindsConflict (locks (held_in s)) x hold (Err e) → IsRefused s x (hold ++ check) full (of_hold e)
-first_refused s x hold check full (hold_error.Held key by) found = found_first (locks (held_in s)) x hold check (key, by) found
-first_refused s x hold check full hold_error.NoMemory found = tt
-
-pub then_refused : (s : Snapshot) (x : Xid) (hold check : List RowKey) (full : Full) (e : HoldError) → first_held (held_in s) x hold ≡ None → FindsConflict (locks (held_in s)) x check (Err e) → IsRefused s x (hold ++ check) full (of_hold e)
-then_refused s x hold check full (hold_error.Held key by) none found = none_first (locks (held_in s)) x hold check none ∙ found
-then_refused s x hold check full hold_error.NoMemory none found = tt
-
--- a branch that isn't granted changes nothing
-with_same : {D : Type 0} (s : Sessions D) (k : Snapshot) → k ≡ known s → s ≡ record { store = with_memory s.store k }
-with_same s k same = ap (λ (q : Snapshot). record { store = with_memory s.store q }) (sym same)
-
-pub not_granted : {D : Type 0} (state : D → DiskState) (s : Sessions D) (r : SessionRecord) (x : Xid) (hold check : List RowKey) (e : HoldError) (k : Snapshot) → Grants r x hold check (known s) (Err e) k →
-    Registers state r x (hold ++ check) (Err (of_hold e)) s (record { store = with_memory s.store k })
-not_granted state s r x hold check (hold_error.Held key by) k grants =
-    subst (Registers state r x (hold ++ check) (Err (register_error.Held key by)) s) (with_same s k grants.1) (grants.0, refl)
-not_granted state s r x hold check hold_error.NoMemory k grants =
-    subst (Registers state r x (hold ++ check) (Err (register_error.Store store_error.NoMemory)) s) (with_same s k grants) (no_memory state s r x (hold ++ check))
+  -- a row is held, or memory was refused
+  pub conflict_refuses : (e : HoldError) → FindsConflict (locks (held_in (known s))) x rows (Err e) → Registers state r x rows (Err (of_hold e)) s s
+  conflict_refuses (hold_error.Held key by) found = (found, refl)
+  conflict_refuses hold_error.NoMemory found = no_memory
 
 -- ---- openings
 

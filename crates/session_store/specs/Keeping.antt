@@ -24,9 +24,9 @@ use Rattle.session_log.specs.declared.sessions.RegisterPlace.{RegisterPlace}
 use Rattle.session_log.specs.declared.sessions.Snapshot.{Snapshot}
 use Rattle.session_log.specs.Records.{record_bytes}
 use Rattle.session_log.specs.SnapshotOf.{snapshot_of}
-use Rattle.lock_table.specs.Locks.{first_held}
+use Rattle.lock_table.specs.Locks.{first_held, locks, TakesAtMost}
 use Rattle.session_memory.specs.Holding.{held_in}
-use Rattle.session_memory.specs.Changes.{after, granted_record}
+use Rattle.session_memory.specs.Changes.{after, granted_record, taken_rows}
 use Rattle.session_store.specs.declared.errors.RegisterError.{RegisterError}
 use Rattle.session_store.specs.declared.errors.RegisterError.TheVariants as register_error
 use Rattle.session_store.specs.declared.machine.SessionMachine.{SessionMachine}
@@ -163,6 +163,11 @@ register_record s xid place hold = granted_record xid (s.granted + 1) place hold
 abbrev pub AreFree : {D : Type 0} → Sessions D → Xid → List RowKey → Type 0
 AreFree s x rows = first_held (held_in (known s)) x rows ≡ None
 
+-- the answer of a branch whose record is made
+abbrev pub registered : {X : Type 0} → BranchId → Result X StoreError → Result BranchId RegisterError
+registered branch (Ok done) = Ok branch
+registered branch (Err error) = Err (register_error.Store error)
+
 -- What a registration does: the branch is registered where no other transaction holds a row to hold or to check. Else the first
 -- such row and its holder are answered, and nothing changes.
 abbrev pub Registers : {D : Type 0} → (D → DiskState) → SessionRecord → Xid → (rows : List RowKey) → Result BranchId RegisterError → Sessions D → Sessions D → Type 0
@@ -170,13 +175,14 @@ Registers state r x rows (Ok branch) old new = AreFree old x rows × Adds state 
 Registers state r x rows (Err (register_error.Held key by)) old new = (first_held (held_in (known old)) x rows ≡ Some (key, by)) × (new ≡ old)
 Registers state r x rows (Err (register_error.Store error)) old new = (error ≢ store_error.NoMemory → AreFree old x rows) × Fails state r error old new
 
--- why a registration that doesn't fit is refused: by the first row that another transaction holds, or else since it is full;
--- want of memory alone is free
-abbrev pub IsRefused : Snapshot → Xid → List RowKey → Full → RegisterError → Type 0
-IsRefused s x rows full (register_error.Held key by) = first_held (held_in s) x rows ≡ Some (key, by)
-IsRefused s x rows full (register_error.Store (store_error.Full other)) = (first_held (held_in s) x rows ≡ None) × (other ≡ full)
-IsRefused s x rows full (register_error.Store store_error.NoMemory) = Unit {0}
-IsRefused s x rows full (register_error.Store store_error.Failed) = ⊥
+-- how many rows are held
+abbrev pub held_rows : {D : Type 0} → Sessions D → ℕ
+held_rows s = length (locks (held_in (known s)))
+
+-- The steps by which a record takes its rows: for each binary digit of the number of rows that are held or to be held, one comparison
+-- for each row.
+abbrev pub TakesSteps : {D : Type 0} → SessionRecord → Sessions D → (old new : ℕ) → Type 0
+TakesSteps r s old new = TakesAtMost (length (taken_rows r)) (held_rows s + length (taken_rows r)) old new
 
 -- ---- openings and restarts
 

@@ -24,7 +24,8 @@ fn have_resources(resources: u16, rows: &[RowKey]) -> bool
 
 // Whether a branch may hold these rows.
 fn may_hold(resources: u16, rows: &[RowKey]) -> bool
-    ensures { result ≡ (list_all (has_resource resources) rows.now && nat_le (length rows.now) CALL_ROWS) }
+    ensures { result ≡
+        (list_all (has_resource resources) rows.now && nat_le (length rows.now) CALL_ROWS) }
 {
     have_resources(resources, rows) && rows.len() <= CALL_ROWS
 }

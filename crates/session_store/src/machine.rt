@@ -51,7 +51,8 @@ fn read_snapshot(
     resources: u16,
     bytes: &[u8],
 ) -> Result<Memory, ReadError>
-    ensures { Reads (if_held_once (if_sound managers resources (snapshot_in_bytes bytes.now))) result }
+    ensures { Reads (if_held_once (if_sound managers resources (snapshot_in_bytes bytes.now)))
+        result }
 {
     match session_log::read_snapshot(alloc, bytes, managers, resources) {
         Ok(snapshot) => match uncounted::load(alloc, snapshot) {

@@ -47,7 +47,8 @@ impl<D: Disk> Sessions<D> {
         // It keeps each list of records that the bytes stand for, and bytes that stand for records are never damaged.
         ensures stands { KeepsEach D.state managers resources first second result }
         // The damage is where the bytes, a record or the order of records has it.
-        ensures reads { ReadsDisks D.state (meaning_of managers resources) store_of first second result }
+        ensures reads { ReadsDisks D.state (meaning_of managers resources) store_of
+            first second result }
     {
         let machine = SessionMachine {
             managers,
@@ -73,7 +74,8 @@ impl<D: Disk> Sessions<D> {
 
         ensures stands { KeepsEach D.state managers resources first second result }
         // A crash after it, however it ended, leaves what stands for the same records.
-        ensures opens { OpensDisks D.state (meaning_of managers resources) store_of (GoesOnAs managers resources) first second result }
+        ensures opens { OpensDisks D.state (meaning_of managers resources) store_of
+            (GoesOnAs managers resources) first second result }
     {
         let machine = SessionMachine {
             managers,
@@ -128,7 +130,8 @@ impl<D: Disk> Sessions<D> {
         requires manager { is_counted (managers_of self.old) manager ≡ true }
         requires new { xid_for (known self.old) manager ≡ None }
         ensures xid { IfOk result (λ xid. xid.0 ≡ (known self.old).begun + 1) }
-        ensures made { Makes D.state (begun_record (known self.old) manager now timeout) result self.old self.new }
+        ensures made { Makes D.state (begun_record (known self.old) manager now timeout) result
+            self.old self.new }
     {
         let xid = self.store.memory().next_xid();
         let item = SessionRecord::Begun {
@@ -235,10 +238,13 @@ impl<D: Disk> Sessions<D> {
         requires { pick ≤ LAST_PICK }
 
         // It keeps each list of records that the pair of images that came back stands for.
-        ensures back { OnOk result (IsTold (D.state (first_disk (twin self.old))) → IsTold (D.state (second_disk (twin self.old))) →
+        ensures back { OnOk result (IsTold (D.state (first_disk (twin self.old))) →
+            IsTold (D.state (second_disk (twin self.old))) →
             BringsBack D.state pick self.old self.new) }
         // A crash after it, however it ended, leaves what stands for the same records as a pair of images from before.
-        ensures comes { ComesBack D.state (meaning_of (managers_of self.old) (resources_of self.old)) twin (GoesOnAs (managers_of self.old) (resources_of self.old)) pick self.old self.new result }
+        ensures comes { ComesBack D.state
+            (meaning_of (managers_of self.old) (resources_of self.old)) twin
+            (GoesOnAs (managers_of self.old) (resources_of self.old)) pick self.old self.new result }
         ensures knows { OnErr result (known self.new ≡ known self.old) }
         ensures opening { SameOpening self.old self.new }
     {

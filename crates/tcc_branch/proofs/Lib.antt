@@ -1,5 +1,3 @@
-pub mod FenceLaws
 pub mod GrantLaws
-pub mod StayLaws
-pub mod StepLaws
+pub mod TryLaws
 pub mod EndLaws

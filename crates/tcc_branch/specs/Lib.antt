@@ -1,3 +1,2 @@
 pub mod Tries
 pub mod SecondPhase
-pub mod Steps

@@ -14,10 +14,13 @@ use Rattle.seata_types.specs.declared.messages.Message.TheVariants as message
 use Rattle.seata_types.specs.declared.statements.Action.{Action}
 use Rattle.seata_types.specs.declared.statements.Stmt.{Stmt}
 use Rattle.seata_types.specs.declared.statuses.BranchKind.TheVariants as kind
+use Rattle.local_tables.specs.Rows.{Database}
+use Rattle.durable_records.specs.declared.resources.ResourceRecord.TheVariants as log
 use Rattle.resource_memory.specs.Known.{Known}
 use Rattle.resource_rules.specs.Apart.{confirms_on, cancels_on}
 use Rattle.resource_rules.specs.declared.setups.Setup.{Setup as TheSetup}
 use Rattle.resource_store.specs.declared.store.Store.{Store}
+use Rattle.resource_store.specs.Answers.{HasPlaces}
 use Rattle.rule_calls.specs.Calls.{GivesAs}
 use Rattle.tcc_branch.specs.declared.answers.TccAnswer.{TccAnswer}
 use Rattle.tcc_branch.specs.declared.answers.TccAnswer.TheVariants as tcc
@@ -34,6 +37,13 @@ confirming leg = input.Message place.Tc (message.BranchCommit leg.xid leg.branch
 
 abbrev pub cancelling : Leg → Input
 cancelling leg = input.Message place.Tc (message.BranchRollback leg.xid leg.branch kind.Tcc 1 1)
+
+-- where the statements of its Confirm, or of its Cancel, have an effect on these tables, its record has a place in a journal
+abbrev pub HasConfirmPlaces : Database → Leg → Action → Type 0
+HasConfirmPlaces db leg action = HasPlaces db action.confirms (log.Confirmed leg.xid leg.branch)
+
+abbrev pub HasCancelPlaces : Database → Leg → Action → Type 0
+HasCancelPlaces db leg action = HasPlaces db action.cancels (log.Cancelled leg.xid leg.branch)
 
 -- ---- what is told
 

@@ -1,50 +1,70 @@
--- What a grant does to a TCC branch: whether its Try runs, by the records, the tables and the open tickets.
-use Rattle.std.specs.Prelude.{◌≡◌, ℕ, ◌≤◌, Bool, true, false, List, length, Option, Some, None, Result, Ok, Err}
+-- What a grant does to a TCC branch: what it asks of a resource, and what the act that it answers by its rules tells.
+use Rattle.std.specs.Prelude.{◌≡◌, ◌≤◌, Bool, true, false, List, [], ◌∷◌, length, Option, Some, None, Result, Ok, Err}
+use Rattle.disk_model.specs.Disk.{DiskState}
 use Rattle.seata_types.specs.declared.limits.TheConstants.{FIELD_ITEMS}
 use Rattle.seata_types.specs.declared.acts.Act.{Act}
 use Rattle.seata_types.specs.declared.acts.Act.TheVariants as act
-use Rattle.seata_types.specs.declared.errors.StmtError.{StmtError}
 use Rattle.seata_types.specs.declared.errors.StoreError.{StoreError}
-use Rattle.seata_types.specs.declared.errors.Why.TheVariants as why
 use Rattle.seata_types.specs.declared.ids.Leg.{Leg}
+use Rattle.seata_types.specs.declared.ids.Place.TheVariants as place
 use Rattle.seata_types.specs.declared.ids.Ticket.{Ticket}
+use Rattle.seata_types.specs.declared.ids.Xid.{Xid}
+use Rattle.seata_types.specs.declared.messages.Input.{Input}
+use Rattle.seata_types.specs.declared.messages.Input.TheVariants as input
+use Rattle.seata_types.specs.declared.messages.Message.TheVariants as message
+use Rattle.seata_types.specs.declared.messages.Registered.TheVariants as registered
 use Rattle.seata_types.specs.declared.statements.Work.TheVariants as work
-use Rattle.local_tables.specs.Calls.{effect}
 use Rattle.local_tables.specs.Rows.{Database}
-use Rattle.local_tables.specs.declared.schemas.Effect.{Effect}
-use Rattle.durable_records.specs.declared.resources.ResourceRecord.{ResourceRecord}
 use Rattle.durable_records.specs.declared.resources.ResourceRecord.TheVariants as log
-use Rattle.durable_records.specs.Fences.{FenceAnswer, Runs, fence, on_try}
-use Rattle.tcc_fence.specs.Meanings.{fence_at}
-use Rattle.local_txn.specs.OpenTickets.{Owner, OfCall, OfLocal, Open, without}
-use Rattle.local_txn.specs.Answers.{Tickets, with_opens}
+use Rattle.local_txn.specs.OpenTickets.{Owner, OfCall, OfLocal, Open, open_at, without}
+use Rattle.local_txn.specs.Answers.{Tickets, open_of, with_opens}
+use Rattle.local_txn.specs.declared.transactions.OpenTxn.{OpenTxn}
 use Rattle.history_rules.specs.ResourceMemory.{call_of, tries_of}
-use Rattle.history_rules.specs.ResourceRules.{untouched}
 use Rattle.resource_memory.specs.Known.{Known}
+use Rattle.resource_rules.specs.Grants.{granted}
 use Rattle.resource_store.specs.declared.store.Store.{Store}
-use Rattle.resource_store.specs.Answers.{Answer, only, making, HasPlaces}
+use Rattle.resource_store.specs.Answers.{HasPlaces}
+use Rattle.rule_calls.specs.Calls.{GivesAs, bare}
 use Rattle.tcc_branch.specs.declared.answers.TryAnswer.{TryAnswer}
 use Rattle.tcc_branch.specs.declared.answers.TryAnswer.TheVariants as tries
 
--- refused where a statement touched no row, else it ran
-abbrev pub try_touched : Leg → (call : ℕ) → Effect → Option ℕ → Answer TryAnswer
-try_touched leg call e (Some index) = only (tries.Refused (why.NoRow index))
-try_touched leg call e None = making (log.Tried leg.xid leg.branch call e.images) tries.Tried
+-- ---- what is asked
 
--- refused where a statement has no meaning
-abbrev pub try_meant : Leg → (call : ℕ) → Result Effect (ℕ × StmtError) → Answer TryAnswer
-try_meant leg call (Err (index, error)) = only (tries.Refused (why.Stmt index error))
-try_meant leg call (Ok e) = try_touched leg call e (untouched 1 e.touched)
+-- the coordinator grants a ticket this branch
+abbrev pub granting : Ticket → Leg → Input
+granting t leg = input.Message place.Tc (message.RegisterAnswer t leg.xid (registered.Granted leg.branch))
 
--- refused where the fence refuses, else the Try runs
-abbrev pub tcc_granted : Leg → (call : ℕ) → Result Effect (ℕ × StmtError) → FenceAnswer → Answer TryAnswer
-tcc_granted leg call meaning Runs = try_meant leg call meaning
-tcc_granted leg call meaning _ = only (tries.Refused why.Fence)
+-- a ticket as that of a call of this transaction, which the rules take the branch to be of
+abbrev pub owner_in : Xid → Owner → Owner
+owner_in x (OfCall m y c w) = OfCall m x.0 c w
+owner_in x (OfLocal k) = OfLocal k
 
--- a grant for a ticket that isn't open is ignored
-abbrev pub granted : Leg → Option Open → Database → List ResourceRecord → Answer TryAnswer
-granted leg None db rs = only tries.NotOpen
-granted leg (Some o) db rs = tcc_granted leg (call_of o.owner) (effect db (tries_of o.owner)) (on_try (fence rs leg.xid.0 leg.branch.0))
+abbrev pub ticket_in : Xid → Open → Open
+ticket_in x o = record o { owner = owner_in x o.owner }
+
+-- where it is open, and no other one is
+abbrev pub opens_in : Xid → Option Open → List Open
+opens_in x None = []
+opens_in x (Some o) = ticket_in x o ∷ []
+
+-- ---- what is told
+
+-- tried where the act is durable, refused where the ticket is dropped, else not open
+abbrev pub tried_by : Act → TryAnswer
+tried_by (act.Durable done) = tries.Tried
+tried_by (act.Dropped xid call t cause) = tries.Refused cause
+tried_by _ = tries.NotOpen
+
+-- the same by what is known, whatever the disks keep
+abbrev pub TellsOn : Known → Leg → Option Open → TryAnswer → Type 0
+TellsOn k leg None told = told ≡ tries.NotOpen
+TellsOn k leg (Some o) told = (txn : OpenTxn) → open_of txn ≡ o → told ≡ tried_by (granted k txn leg txn.work).step.act
+
+-- ---- what is given, by the records that are kept
+
+-- where one of these open tickets is granted this branch
+abbrev pub Grants : {D : Type 0} → (D → DiskState) → List Open → Ticket → Leg → Result TryAnswer StoreError → Store D → Store D → Type 0
+Grants state opens t leg result old new = GivesAs state tried_by bare (granting t leg) (opens_in leg.xid (open_at opens t)) result old new
 
 -- the ticket is open no longer where its Try ran
 abbrev pub tickets_after : Ticket → Result TryAnswer StoreError → Tickets → Tickets
@@ -52,6 +72,15 @@ tickets_after t (Ok tries.Tried) old = with_opens old (without old.opens t)
 tickets_after t (Ok (tries.Refused cause)) old = old
 tickets_after t (Ok tries.NotOpen) old = old
 tickets_after t (Err e) old = old
+
+-- a grant after which no Try ran left its store as it was
+abbrev pub StaysUnlessTried : {D : Type 0} → Result TryAnswer StoreError → Store D → Store D → Type 0
+StaysUnlessTried (Ok tries.Tried) old new = Unit {0}
+StaysUnlessTried (Ok (tries.Refused cause)) old new = new ≡ old
+StaysUnlessTried (Ok tries.NotOpen) old new = new ≡ old
+StaysUnlessTried (Err e) old new = Unit {0}
+
+-- ---- what is asked for
 
 abbrev pub is_tcc_call : Owner → Bool
 is_tcc_call (OfCall m x c (work.Tcc action)) = true
@@ -63,25 +92,3 @@ pub record MayTry (db : Database) (leg : Leg) (o : Open) : Type 0 where
   pub of_kind : is_tcc_call o.owner ≡ true
   pub statements : length (tries_of o.owner) ≤ FIELD_ITEMS
   pub places : HasPlaces db (tries_of o.owner) (log.Tried leg.xid leg.branch (call_of o.owner))
-
--- a grant after which no Try ran left its store as it was
-abbrev pub StaysUnlessTried : {D : Type 0} → Result TryAnswer StoreError → Store D → Store D → Type 0
-StaysUnlessTried (Ok tries.Tried) old new = Unit {0}
-StaysUnlessTried (Ok (tries.Refused cause)) old new = new ≡ old
-StaysUnlessTried (Ok tries.NotOpen) old new = new ≡ old
-StaysUnlessTried (Err e) old new = Unit {0}
-
--- what the act of a resource's rules tells: tried, refused, else not open
-abbrev pub tried_by : Act → TryAnswer
-tried_by (act.Durable done) = tries.Tried
-tried_by (act.Dropped xid call t cause) = tries.Refused cause
-tried_by _ = tries.NotOpen
-
--- ---- the same by what is known
-
-abbrev pub granted_on : Known → Leg → Open → Answer TryAnswer
-granted_on k leg o = tcc_granted leg (call_of o.owner) (effect k.tables (tries_of o.owner)) (on_try (fence_at k.fences leg))
-
-abbrev pub told_on : Known → Leg → Option Open → TryAnswer
-told_on k leg None = tries.NotOpen
-told_on k leg (Some o) = (granted_on k leg o).told

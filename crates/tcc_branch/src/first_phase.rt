@@ -1,12 +1,13 @@
 //! The first phase of TCC branches.
 ghost use Rattle.std.specs.Prelude.{◌≡◌, ◌<◌, ◌^◌, ◌-◌, false, Ok, IfSome, IfOk};
-ghost use Rattle.seata_types.specs.declared.statements.Work.TheVariants as work;
+ghost use Rattle.seata_types.specs.declared.statements.Work.TheVariants.{Tcc};
 ghost use Rattle.local_txn.specs.OpenTickets.{open_at};
 ghost use Rattle.local_txn.specs.Answers.{open_of, owner_by, Prepares};
+ghost use Rattle.resource_rules.specs.Grants as looked;
 ghost use Rattle.resource_store.specs.Keeping.{known, is_down};
-ghost use Rattle.resource_store.specs.Answers.{Gives, GivesBy, Leaves};
-ghost use Rattle.tcc_branch.specs.Tries as looked;
-ghost use Rattle.tcc_branch.specs.Tries.{StaysUnlessTried, tickets_after, MayTry, granted_on, told_on, tried_by};
+ghost use Rattle.resource_store.specs.Answers.{Gives, Leaves};
+ghost use Rattle.rule_calls.specs.Calls.{told_of};
+ghost use Rattle.tcc_branch.specs.Tries.{tried_by, tickets_after, Grants, MayTry, StaysUnlessTried, TellsOn};
 
 use crate::answers::TryAnswer;
 use disk_model::Disk;
@@ -27,7 +28,7 @@ pub fn prepare(
     action: &Shared<Action>,
 ) -> Result<Ticket, NoMemory>
     requires { txns.old.opened < 2 ^ 32 - 1 }
-    ensures { Prepares txns.old (owner_by xid.0 manager call (work.Tcc action.now)) result txns.new }
+    ensures { Prepares txns.old (owner_by xid.0 manager call (Tcc action.now)) result txns.new }
 {
     txns.prepare(alloc, xid, call, manager, action)
 }
@@ -43,8 +44,8 @@ pub fn on_grant<D: Disk>(
 ) -> Result<TryAnswer, StoreError>
     requires up { is_down store.old ≡ false }
     requires may { IfSome (open_at txns.old.opens ticket) (MayTry (known store.old).tables leg) }
-    ensures answer { GivesBy D.state (looked.granted leg (open_at txns.old.opens ticket)) result store.old store.new }
-    ensures told { IfOk result (λ a. a ≡ told_on (known store.old) leg (open_at txns.old.opens ticket)) }
+    ensures answer { Grants D.state txns.old.opens ticket leg result store.old store.new }
+    ensures told { IfOk result (TellsOn (known store.old) leg (open_at txns.old.opens ticket)) }
     ensures leaves { Leaves D.state result store.old store.new }
     ensures stays { StaysUnlessTried result store.old store.new }
     ensures tickets { txns.new ≡ tickets_after ticket result txns.old }
@@ -81,7 +82,7 @@ fn grant<D: Disk>(
 ) -> Result<TryAnswer, StoreError>
     requires up { is_down store.old ≡ false }
     requires may { MayTry (known store.old).tables leg (open_of txn.now) }
-    ensures gives { Gives D.state (granted_on (known store.old) leg (open_of txn.now)) result store.old store.new }
+    ensures gives { Gives D.state (told_of tried_by (looked.granted (known store.old) txn.now leg txn.now.work)) result store.old store.new }
     ensures leaves { Leaves D.state result store.old store.new }
     ensures stays { StaysUnlessTried result store.old store.new }
 {

@@ -4,7 +4,6 @@
 
 pub mod answers;
 mod first_phase;
-pub mod laws;
 mod second_phase;
 
 pub use answers::{TccAnswer, TryAnswer};

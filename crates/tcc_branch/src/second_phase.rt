@@ -1,10 +1,10 @@
 //! The second phase of TCC branches.
 ghost use Rattle.std.specs.Prelude.{◌≡◌, ◌≤◌, false, length, IfOk};
 ghost use Rattle.seata_types.specs.declared.limits.TheConstants.{FIELD_ITEMS};
-ghost use Rattle.durable_records.specs.declared.resources.ResourceRecord.TheVariants as log;
-ghost use Rattle.resource_store.specs.Answers.{HasPlaces, Leaves};
+ghost use Rattle.resource_store.specs.Answers.{Leaves};
 ghost use Rattle.resource_store.specs.Keeping.{known, is_down};
 ghost use Rattle.tcc_branch.specs.SecondPhase.{Confirms, Cancels, confirmed_on, cancelled_on, ended_by};
+ghost use Rattle.tcc_branch.specs.SecondPhase.{HasConfirmPlaces, HasCancelPlaces};
 
 use crate::answers::TccAnswer;
 use disk_model::Disk;
@@ -23,7 +23,7 @@ pub fn confirm<D: Disk>(
 ) -> Result<TccAnswer, StoreError>
     requires up { is_down store.old ≡ false }
     requires statements { length action.now.confirms ≤ FIELD_ITEMS }
-    requires places { HasPlaces (known store.old).tables action.now.confirms (log.Confirmed leg.xid leg.branch) }
+    requires places { HasConfirmPlaces (known store.old).tables leg action.now }
     ensures answer { Confirms D.state leg action.now result store.old store.new }
     ensures told { IfOk result (λ a. a ≡ confirmed_on (known store.old) leg action.now.confirms) }
     ensures leaves { Leaves D.state result store.old store.new }
@@ -47,7 +47,7 @@ pub fn cancel<D: Disk>(
 ) -> Result<TccAnswer, StoreError>
     requires up { is_down store.old ≡ false }
     requires statements { length action.now.cancels ≤ FIELD_ITEMS }
-    requires places { HasPlaces (known store.old).tables action.now.cancels (log.Cancelled leg.xid leg.branch) }
+    requires places { HasCancelPlaces (known store.old).tables leg action.now }
     ensures answer { Cancels D.state leg action.now result store.old store.new }
     ensures told { IfOk result (λ a. a ≡ cancelled_on (known store.old) leg action.now.cancels) }
     ensures leaves { Leaves D.state result store.old store.new }

@@ -1,48 +1,47 @@
-use Rattle.std.proofs.Common.{◌∙◌, Ok, sym, refl, subst}
-use Rattle.durable_records.specs.declared.resources.ResourceRecord.TheVariants as log
+use Rattle.std.proofs.Common.{◌∙◌, Ok, Err, ap, refl, subst}
+use Rattle.resource_memory.specs.Known.{Known}
+use Rattle.resource_rules.specs.Grants as looked
+use Rattle.resource_rules.specs.declared.answers.Answer.{Answer as Ruling}
 use Rattle.resource_store.specs.Answers.{Gives}
-use Rattle.resource_store.proofs.AnswerLaws.{gives_only}
-use Rattle.resource_store.proofs.LeftLaws.{leaves_all, leaves_made}
-use Rattle.local_txn.specs.Answers.{open_of}
-use Rattle.at_branch.specs.UndoEntries.{grant_at}
-use Rattle.at_branch.specs.declared.answers.Granted.TheVariants as grant
-use Rattle.at_branch.specs.declared.standing.Standing.{Standing}
-use Rattle.at_branch.proofs.EntryLaws.{commit_taken, commit_gives}
+use Rattle.resource_store.specs.Keeping.{known}
+use Rattle.resource_store.proofs.AnswerLaws.{gives_nothing}
+use Rattle.resource_store.proofs.LeftLaws.{leaves_all}
+use Rattle.rule_calls.specs.Calls.{told_of}
+use Rattle.rule_calls.proofs.CallLaws.{leaves_err, leaves_ok, reads_err, reads_ok}
+use Rattle.at_branch.specs.Grants.{granted_by}
+use Rattle.at_branch.proofs.GrantLaws.{counted_try, grant_takes}
 use Rattle.at_branch.proofs.first_phase.grant.Goals as goal
 
-pub commit_at-requires-clause-taken : goal.commit_at-requires-clause-taken
-commit_at-requires-clause-taken g c = commit_taken c.args.store.now c.args.leg c.args.txn.now (sym c.in-Nothing.is ∙ c.standing.ensures) c.requires.may
+pub granted-requires : goal.granted-requires
+granted-requires g c = counted_try c.args.txn.now c.requires.may.of_kind
 
-pub returns-in-Record-clause-gives : goal.returns-in-Record-clause-gives
-returns-in-Record-clause-gives g c =
-    subst (λ (s : Standing). Gives g.D.Disk.state (grant_at c.args.leg (open_of c.args.txn.now) s) (Ok grant.NotOpen) c.args.store.now c.args.store.now) (sym c.in-Record.is ∙ c.standing.ensures)
-    (gives_only g.D.Disk.state c.args.store.now grant.NotOpen)
+pub carry_out-requires-clause-taken : goal.carry_out-requires-clause-taken
+carry_out-requires-clause-taken g c =
+    grant_takes c.args.txn.now c.requires.may.of_kind c.args.store.now c.args.leg c.requires.may _ c.memory.ensures.known c.in-Ok.answer c.in-Ok.ensures
 
-pub returns-in-Record-clause-leaves : goal.returns-in-Record-clause-leaves
-returns-in-Record-clause-leaves g c = leaves_all g.D.Disk.state c.args.store.now _ c.requires.up refl
+pub returns-in-Ok-carry_out-clause-gives : goal.returns-in-Ok-carry_out-clause-gives
+returns-in-Ok-carry_out-clause-gives g c =
+    subst (λ (a : Ruling). Gives g.D.Disk.state (told_of granted_by a) (Ok c.granted_by.result) c.args.store.now c.carry_out.new.store)
+    (c.in-Ok.ensures ∙ ap (λ (k : Known). looked.granted k c.args.txn.now c.args.leg c.args.txn.now.work) c.memory.ensures.known)
+    (reads_ok g.D.Disk.state granted_by c.in-Ok.answer c.args.store.now c.carry_out.new.store c.in-Ok-carry_out.act c.granted_by.result c.granted_by.ensures c.in-Ok-carry_out.ensures.gives)
 
-pub returns-in-Marker-clause-gives : goal.returns-in-Marker-clause-gives
-returns-in-Marker-clause-gives g c =
-    subst (λ (s : Standing). Gives g.D.Disk.state (grant_at c.args.leg (open_of c.args.txn.now) s) (Ok grant.Marker) c.args.store.now c.args.store.now) (sym c.in-Marker.is ∙ c.standing.ensures)
-    (gives_only g.D.Disk.state c.args.store.now grant.Marker)
+pub returns-in-Ok-carry_out-clause-leaves : goal.returns-in-Ok-carry_out-clause-leaves
+returns-in-Ok-carry_out-clause-leaves g c =
+    leaves_ok g.D.Disk.state _ _ c.args.store.now c.carry_out.new.store c.in-Ok-carry_out.act c.granted_by.result c.in-Ok-carry_out.ensures.leaves
 
-pub returns-in-Marker-clause-leaves : goal.returns-in-Marker-clause-leaves
-returns-in-Marker-clause-leaves g c = leaves_all g.D.Disk.state c.args.store.now _ c.requires.up refl
+pub returns-in-Err-carry_out-clause-gives : goal.returns-in-Err-carry_out-clause-gives
+returns-in-Err-carry_out-clause-gives g c =
+    subst (λ (a : Ruling). Gives g.D.Disk.state (told_of granted_by a) (Err c.in-Err-carry_out.error) c.args.store.now c.carry_out.new.store)
+    (c.in-Ok.ensures ∙ ap (λ (k : Known). looked.granted k c.args.txn.now c.args.leg c.args.txn.now.work) c.memory.ensures.known)
+    (reads_err g.D.Disk.state granted_by c.in-Ok.answer c.args.store.now c.carry_out.new.store c.in-Err-carry_out.error c.in-Err-carry_out.ensures.gives)
 
-pub returns-in-Ok-clause-gives : goal.returns-in-Ok-clause-gives
-returns-in-Ok-clause-gives g c =
-    commit_gives g.D.Disk.state c.args.store.now c.commit_at.new.self c.args.leg c.args.txn.now _ c.requires.may.of_kind (sym c.in-Nothing.is ∙ c.standing.ensures) refl c.in-Ok.ensures
-
-pub returns-in-Ok-clause-leaves : goal.returns-in-Ok-clause-leaves
-returns-in-Ok-clause-leaves g c =
-    leaves_made g.D.Disk.state (log.Committed c.args.leg.xid c.args.leg.branch c.args.txn.now.call c.args.txn.now.images c.args.txn.now.reads) _ c.args.store.now c.commit_at.new.self
-    (commit_taken c.args.store.now c.args.leg c.args.txn.now (sym c.in-Nothing.is ∙ c.standing.ensures) c.requires.may) c.in-Ok.ensures
+pub returns-in-Err-carry_out-clause-leaves : goal.returns-in-Err-carry_out-clause-leaves
+returns-in-Err-carry_out-clause-leaves g c =
+    leaves_err g.D.Disk.state _ _ c.args.store.now c.carry_out.new.store c.in-Err-carry_out.error c.in-Err-carry_out.ensures.leaves
 
 pub returns-in-Err-clause-gives : goal.returns-in-Err-clause-gives
 returns-in-Err-clause-gives g c =
-    commit_gives g.D.Disk.state c.args.store.now c.commit_at.new.self c.args.leg c.args.txn.now _ c.requires.may.of_kind (sym c.in-Nothing.is ∙ c.standing.ensures) tt c.in-Err.ensures
+    gives_nothing g.D.Disk.state c.args.store.now (told_of granted_by (looked.granted (known c.args.store.now) c.args.txn.now c.args.leg c.args.txn.now.work)) c.requires.up
 
 pub returns-in-Err-clause-leaves : goal.returns-in-Err-clause-leaves
-returns-in-Err-clause-leaves g c =
-    leaves_made g.D.Disk.state (log.Committed c.args.leg.xid c.args.leg.branch c.args.txn.now.call c.args.txn.now.images c.args.txn.now.reads) _ c.args.store.now c.commit_at.new.self
-    (commit_taken c.args.store.now c.args.leg c.args.txn.now (sym c.in-Nothing.is ∙ c.standing.ensures) c.requires.may) c.in-Err.ensures
+returns-in-Err-clause-leaves g c = leaves_all g.D.Disk.state c.args.store.now _ c.requires.up refl

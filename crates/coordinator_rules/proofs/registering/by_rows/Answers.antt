@@ -15,8 +15,8 @@ returns-in-Ok-clause-value g c = granted_rows c.args.memory.now c.args.xid c.arg
 pub returns-in-Ok-clause-sent : goal.returns-in-Ok-clause-sent
 returns-in-Ok-clause-sent g c = granted_sent c.args.memory.now c.args.xid c.args.place c.args.hold.now c.args.check.now c.grant.result c.grant.ensures.framable c.grant.ensures.named
 
-pub returns-in-Ok-conflict-clause-sent : goal.returns-in-Ok-conflict-clause-sent
-returns-in-Ok-conflict-clause-sent g c = λ from.
+pub returns-in-Ok-tell_conflict-clause-sent : goal.returns-in-Ok-tell_conflict-clause-sent
+returns-in-Ok-tell_conflict-clause-sent g c = λ from.
     let found = subst (λ (e : HoldError). FindsConflict (locks (held_in c.args.memory.now)) c.args.xid (c.args.hold.now ++ c.args.check.now) (Err e)) c.in-Err-Held.field-0-is c.in-Err-Held.ensures.found in
     conflict_sent c.args.memory.now from c.args.xid c.args.place c.args.hold.now c.args.check.now c.in-Err-Held.key c.in-Err-Held.by (is_rolling (status_in c.args.memory.now c.in-Err-Held.by.0))
-    c.in-Ok-conflict.step found c.in-Ok-conflict.ensures.value c.in-Ok-conflict.ensures.framable
+    c.in-Ok-tell_conflict.step found c.in-Ok-tell_conflict.ensures.value c.in-Ok-tell_conflict.ensures.framable

@@ -1,12 +1,7 @@
-use Rattle.std.proofs.Common.{subst}
-use Rattle.seata_types.specs.declared.messages.Input.{Input}
-use Rattle.coordinator_rules.specs.Answers.{Answers, ComesInTime}
+use Rattle.coordinator_rules.specs.Answers.{Answers}
 use Rattle.coordinator_rules.specs.Knowledge.{knows, waits}
 use Rattle.coordinator_rules.proofs.RulingLaws.{of_like, ok_as}
 use Rattle.coordinator_rules.proofs.ruling.answer.Goals as goal
-
-pub turn-requires : goal.turn-requires
-turn-requires g c = subst (λ (i : Input). ComesInTime i c.args.now) c.in-Turn.is c.requires
 
 pub returns-in-Turn-clause-answers : goal.returns-in-Turn-clause-answers
 returns-in-Turn-clause-answers g c = λ retry.

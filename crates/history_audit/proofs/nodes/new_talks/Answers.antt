@@ -4,9 +4,9 @@ use Rattle.scenario_form.specs.declared.scenarios.ManagerDef.{ManagerDef}
 use Rattle.history_text.specs.Worlds.{managers_from, settings_of}
 use Rattle.judged_talk.specs.Following.{Follows}
 use Rattle.judged_talk.specs.declared.talks.Talk.{Talk}
-use Rattle.history_audit.specs.Setups.{HasFewCalls}
+use Rattle.scenario_setups.specs.Setups.{HasFewCalls}
 use Rattle.history_audit.proofs.Served.{all_at}
-use Rattle.history_audit.proofs.SetupLaws.{few_calls}
+use Rattle.scenario_setups.proofs.Calls.{few_calls}
 use Rattle.history_audit.proofs.SoFar.{AreSoFar, all_talks, manager_at, none_so_far, one_so_far}
 use Rattle.history_audit.proofs.nodes.new_talks.Goals as goal
 

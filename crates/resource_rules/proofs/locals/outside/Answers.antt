@@ -21,4 +21,4 @@ pub returns : goal.returns
 returns c =
     ok_as c.outside_for.result
     (λ a all. all c.args.setup.now c.args.txns.now (sym c.local_of.ensures ∙ ap (λ (o : Option _). option_copied o) c.in-Some.is ∙ ap Some (sym (c.as_slice.ensures ∙ c.get.ensures))) refl)
-    c.outside_for.ensures
+    c.outside_for.ensures.rules

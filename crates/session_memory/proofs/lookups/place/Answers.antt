@@ -6,8 +6,8 @@ use Rattle.session_memory.proofs.lookups.place.Goals as goal
 
 pub returns-in-Ok : goal.returns-in-Ok
 returns-in-Ok c =
-    found_in c.args.sessions.now c.args.xid.0 c.requires.rising c.in-Ok.at c.in-Ok.ensures.bound (c.in-Ok.ensures.position entry_xid (answers_always _ _ _ (λ f a r g called. search rules)))
+    found_in entry_xid c.args.sessions.now c.args.xid.0 c.requires.rising c.in-Ok.at c.in-Ok.ensures.bound (c.in-Ok.ensures.position entry_xid (answers_always _ _ _ (λ f a r g called. search rules)))
 
 pub returns-in-Err : goal.returns-in-Err
 returns-in-Err c =
-    nowhere_in c.args.sessions.now c.args.xid.0 c.requires.rising c.in-Err.field-0 (c.in-Err.ensures.position entry_xid (answers_always _ _ _ (λ f a r g called. search rules)))
+    nowhere_in entry_xid c.args.sessions.now c.args.xid.0 c.requires.rising c.in-Err.field-0 (c.in-Err.ensures.position entry_xid (answers_always _ _ _ (λ f a r g called. search rules)))

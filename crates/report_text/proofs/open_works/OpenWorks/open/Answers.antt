@@ -1,7 +1,7 @@
 use Rattle.std.proofs.Common.{sym, subst}
 use Rattle.resource_memory.proofs.Maps.{all_insert}
 use Rattle.report_text.specs.Opens.{HasFew, HaveFew, ticket_cmp}
-use Rattle.report_text.proofs.Origins.{ticket_total, ticket_exact}
+use Rattle.report_text.proofs.Tickets.{ticket_total, ticket_exact}
 use Rattle.report_text.proofs.open_works.OpenWorks.open.Goals as goal
 
 pub invariant_of-self : goal.invariant_of-self

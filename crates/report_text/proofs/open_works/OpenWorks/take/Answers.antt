@@ -4,7 +4,7 @@ use Rattle.std.specs.Prelude.{IfSome}
 use Rattle.resource_memory.proofs.Maps.{all_remove}
 use Rattle.report_text.specs.Opens.{HasFew, HaveFew, ticket_cmp}
 use Rattle.report_text.proofs.FewLaws.{found_few}
-use Rattle.report_text.proofs.Origins.{ticket_total, ticket_exact}
+use Rattle.report_text.proofs.Tickets.{ticket_total, ticket_exact}
 use Rattle.report_text.proofs.open_works.OpenWorks.take.Goals as goal
 
 pub invariant_of-self : goal.invariant_of-self

@@ -7,12 +7,13 @@ use Rattle.session_memory.proofs.memory.Memory.load.Goals as goal
 
 pub invariant_of-result : goal.invariant_of-result
 invariant_of-result g c = (
-  loads_kept c.args.snapshot c.requires.counted c.new-locks.result c.take_all.new.locks c.as_slice-2.result.now c.new-locks.ensures c.as_slice-2.ensures c.in-Ok-take_all.ensures.1,
+  loads_kept c.args.snapshot c.requires.counted c.new-locks.result c.take_all.new.locks c.as_slice-3.result.now c.new-locks.ensures c.as_slice-3.ensures c.in-Ok-take_all.ensures.1,
   loaded_owned c.in-Ok.owners c.args.snapshot c.requires.tickets (subst (λ (es : List SessionEntry). Takes [] (first_owner es) c.in-Ok.owners) c.as_slice.ensures c.in-Ok.ensures),
+  rw c.as_slice-2.ensures at c.of-ends.ensures,
 )
 
 pub returns-in-Ok-take_all : goal.returns-in-Ok-take_all
-returns-in-Ok-take_all g c = (loads_once c.args.snapshot c.requires.counted c.new-locks.result c.take_all.new.locks c.as_slice-2.result.now c.new-locks.ensures c.as_slice-2.ensures c.in-Ok-take_all.ensures.0, refl)
+returns-in-Ok-take_all g c = (loads_once c.args.snapshot c.requires.counted c.new-locks.result c.take_all.new.locks c.as_slice-3.result.now c.new-locks.ensures c.as_slice-3.ensures c.in-Ok-take_all.ensures.0, refl)
 
 pub returns-in-Err : goal.returns-in-Err
-returns-in-Err g c = loads_not c.args.snapshot c.requires.counted c.new-locks.result c.take_all.new.locks c.as_slice-2.result.now c.new-locks.ensures c.as_slice-2.ensures c.in-Err.error c.in-Err.ensures
+returns-in-Err g c = loads_not c.args.snapshot c.requires.counted c.new-locks.result c.take_all.new.locks c.as_slice-3.result.now c.new-locks.ensures c.as_slice-3.ensures c.in-Err.error c.in-Err.ensures
