@@ -35,7 +35,8 @@ use Rattle.resource_store.specs.Answers.{Answer, Gives}
 use Rattle.resource_store.specs.Keeping.{IsTaken, known, setting_of}
 use Rattle.resource_store.proofs.AnswerLaws.{committed_taken, entry_of, gives_only}
 use Rattle.rule_calls.specs.Calls.{bare, memory_of, resource_of, told_of, viewed}
-use Rattle.at_branch.specs.Grants.{Grants, MayCommit, granted_by, granting, is_at_call, opens_in, owner_in, ticket_in}
+use Rattle.rule_calls.specs.Grants.{granting, opens_in, owner_in, ticket_in}
+use Rattle.at_branch.specs.Grants.{Grants, MayCommit, granted_by, is_at_call}
 use Rattle.at_branch.specs.declared.answers.Granted.{Granted}
 use Rattle.at_branch.specs.declared.answers.Granted.TheVariants as grant
 
@@ -102,7 +103,7 @@ module _ (txn : OpenTxn) (kind : is_at_call (open_of txn).owner ≡ true) where
     m = memory_of rs (it ∷ [])
 
     abbrev at_step : Option Undo → Bool → Step
-    at_step u marked = rules.at_granted s rs (it ∷ []) (next_ticket m) it txn.manager leg.xid.0 txn.call leg.branch.0 u marked
+    at_step u marked = rules.at_granted it txn.manager leg.xid.0 txn.call leg.branch.0 u marked
 
     here : open_at (it ∷ []) t ≡ Some it
     here = ap (λ (u : Ticket). open_at (it ∷ []) u) (sym named) ∙ own

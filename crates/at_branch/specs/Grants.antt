@@ -1,18 +1,12 @@
 -- What a call opens, and what a grant of the global lock does to it: what this asks of a resource, and what the act that it answers by
 -- its rules tells.
-use Rattle.std.specs.Prelude.{◌≡◌, ℕ, Bool, true, false, List, [], ◌∷◌, Option, Some, None, Result, Ok, Err}
+use Rattle.std.specs.Prelude.{◌≡◌, ℕ, Bool, true, false, List, Result, Ok, Err}
 use Rattle.disk_model.specs.Disk.{DiskState}
 use Rattle.seata_types.specs.declared.acts.Act.{Act}
 use Rattle.seata_types.specs.declared.acts.Act.TheVariants as act
 use Rattle.seata_types.specs.declared.errors.StoreError.{StoreError}
 use Rattle.seata_types.specs.declared.ids.Leg.{Leg}
-use Rattle.seata_types.specs.declared.ids.Place.TheVariants as place
 use Rattle.seata_types.specs.declared.ids.Ticket.{Ticket}
-use Rattle.seata_types.specs.declared.ids.Xid.{Xid}
-use Rattle.seata_types.specs.declared.messages.Input.{Input}
-use Rattle.seata_types.specs.declared.messages.Input.TheVariants as input
-use Rattle.seata_types.specs.declared.messages.Message.TheVariants as message
-use Rattle.seata_types.specs.declared.messages.Registered.TheVariants as registered
 use Rattle.seata_types.specs.declared.statements.Stmt.{Stmt}
 use Rattle.seata_types.specs.declared.statements.Work.TheVariants as work
 use Rattle.local_tables.specs.Calls.{effect}
@@ -24,6 +18,7 @@ use Rattle.history_rules.specs.ResourceMemory.{committed_of}
 use Rattle.resource_store.specs.declared.store.Store.{Store}
 use Rattle.resource_store.specs.Answers.{TakesRows}
 use Rattle.rule_calls.specs.Calls.{GivesAs, bare}
+use Rattle.rule_calls.specs.Grants.{granting, opens_in}
 use Rattle.at_branch.specs.declared.answers.Granted.{Granted}
 use Rattle.at_branch.specs.declared.answers.Granted.TheVariants as grant
 
@@ -32,23 +27,6 @@ abbrev pub OpensCall : Database → (manager xid call : ℕ) → List Stmt → R
 OpensCall db m x c stmts result old new = Executes old (owner_by x m c (work.At stmts)) (effect db stmts) result new
 
 -- ---- a grant
-
--- the coordinator grants a ticket this branch
-abbrev pub granting : Ticket → Leg → Input
-granting t leg = input.Message place.Tc (message.RegisterAnswer t leg.xid (registered.Granted leg.branch))
-
--- a ticket as that of a call of this transaction, which the rules take the branch to be of
-abbrev pub owner_in : Xid → Owner → Owner
-owner_in x (OfCall m y c w) = OfCall m x.0 c w
-owner_in x (OfLocal k) = OfLocal k
-
-abbrev pub ticket_in : Xid → Open → Open
-ticket_in x o = record o { owner = owner_in x o.owner }
-
--- where it is open, and no other one is
-abbrev pub opens_in : Xid → Option Open → List Open
-opens_in x None = []
-opens_in x (Some o) = ticket_in x o ∷ []
 
 -- a grant: committed where its act is durable, kept from it by the marker where the ticket is dropped, else ignored
 abbrev pub granted_by : Act → Granted

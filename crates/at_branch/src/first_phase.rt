@@ -1,19 +1,22 @@
 //! The first phase of AT branches.
 ghost use Rattle.std.specs.Prelude.{◌≡◌, ◌<◌, ◌≤◌, ◌^◌, ◌-◌, false, map, length, Some, Ok, IfSome};
 ghost use Rattle.seata_types.specs.declared.limits.TheConstants.{FIELD_ITEMS};
+ghost use Rattle.seata_types.specs.declared.statements.Work.TheVariants.{At};
+ghost use Rattle.local_tables.specs.Calls.{effect};
 ghost use Rattle.local_txn.specs.OpenTickets.{Open, open_at, without, counting};
 ghost use Rattle.local_txn.specs.Answers.{open_of, raised, with_opens};
 ghost use Rattle.resource_rules.specs.Grants as looked;
 ghost use Rattle.resource_store.specs.Keeping.{known, is_down};
 ghost use Rattle.resource_store.specs.Answers.{Gives, Leaves};
 ghost use Rattle.rule_calls.specs.Calls.{told_of};
+ghost use Rattle.rule_calls.specs.Openings.{TellsCall};
 ghost use Rattle.at_branch.specs.Grants.{granted_by, tickets_after, Grants, MayCommit, OpensCall};
 ghost use Rattle.at_branch.specs.Conflicts.{Counts, GivesUp, ConflictsAs, conflict_of, tickets_with};
 
 use crate::answers::{Conflicted, Granted};
 use disk_model::Disk;
 use local_txn::{ExecError, LocalTxns, OpenTxn};
-use resource_rules::{call_at, granted, why_last};
+use resource_rules::{call_at, conflict_act, granted};
 use resource_store::Store;
 use rule_calls::carry_out;
 use seata_types::{Act, Leg, List, NoMemory, Shared, Stmt, StoreError, Ticket, Why, Xid};
@@ -32,7 +35,9 @@ pub fn phase_one<D: Disk>(
 ) -> Result<Ticket, ExecError>
     requires statements { length stmts.now ≤ FIELD_ITEMS }
     requires tickets { txns.old.opened < 2 ^ 32 - 1 }
-    ensures { OpensCall (known store.now).tables manager xid.0 call stmts.now result txns.old txns.new }
+    ensures opens { OpensCall (known store.now).tables manager xid.0 call stmts.now result txns.old txns.new }
+    ensures rules { TellsCall txns.old manager xid.0 call (At stmts.now)
+        (effect (known store.now).tables stmts.now) result }
 {
     txns.execute(alloc, xid, call, manager, stmts, store.tables())
 }
@@ -123,9 +128,19 @@ pub fn on_conflict(
     let Some(txn) = call_at(txns, ticket) else {
         return Conflicted::NotOpen;
     };
-    match why_last(tries, txn.conflicts, holder, rolling) {
+    match cause_of(conflict_act(tries, txn, holder, rolling)) {
         Some(why) => give_up(txns, ticket, why),
         None => count(txns, ticket),
+    }
+}
+
+// Why the act that meets a conflict drops the ticket; none where it counts.
+fn cause_of(act: Act) -> Option<Why>
+    ensures { result ≡ looked.cause_of act }
+{
+    match act {
+        Act::Dropped { why, .. } => Some(why),
+        _ => None,
     }
 }
 

@@ -75,7 +75,11 @@ fn rolled_by(act: Act) -> Rolled
             after,
             now,
             ..
-        } => Rolled::Dirty { key, after, now },
+        } => Rolled::Dirty {
+            key: key.into_inner(),
+            after: after.into_inner(),
+            now: now.into_inner(),
+        },
         _ => Rolled::Again,
     }
 }

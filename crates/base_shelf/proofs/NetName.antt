@@ -79,7 +79,7 @@ module _ {D : Type 0} (state : D → DiskState) (s : Scenario) (IsItsName : List
   )
 
   pub hold_others : ((n : List ℕ) → IsOfOne (server_names s) n → ¬ IsItsName n) → HoldStill state s old new
-  hold_others away all held holds = (
+  hold_others away held holds = (
     holds_since state s _ old new (keeps.others coordinator_name (away coordinator_name (inl (inl refl)))) (keeps.others (second_name coordinator_name) (away (second_name coordinator_name) (inl (inr refl)))) holds.0,
     resources_hold held 1 s.resources (λ n its. away n (inr its)) holds.1,
   )

@@ -1,7 +1,7 @@
 -- The disk `net` of a shelf, which keeps the text of a scenario.
-use Rattle.std.specs.Prelude.{◌≡◌, ◌⊎◌, ◌≤◌, ℕ, false, IsTrue, List, Some, Result, Ok, Err, OnOk, IfErr, codes}
+use Rattle.std.specs.Prelude.{◌≡◌, ◌⊎◌, ◌≤◌, ℕ, false, IsSome, IsTrue, List, Some, Result, Ok, Err, OnOk, IfErr, codes}
 use Rattle.disk_model.specs.Disk.{DiskState, present}
-use Rattle.disk_model.specs.Shelf.{KeepsOthers, ShelfState, TakenAs}
+use Rattle.disk_model.specs.Shelf.{KeepsOthers, ShelfState}
 use Rattle.disk_journal.specs.Keeping.{Holds, IsDamageIn, StandsFor}
 use Rattle.disk_journal.specs.declared.errors.JournalError.TheVariants as why
 use Rattle.seata_types.specs.declared.ids.Place.TheVariants as place
@@ -13,7 +13,7 @@ use Rattle.base_disk.specs.Keeping.{HoldFirst, HoldOthers, IsOnTheWay, KeepsText
 use Rattle.node_seat.specs.declared.faults.RunFault.{RunFault}
 use Rattle.node_seat.specs.declared.faults.RunFault.TheVariants as fault
 use Rattle.scenario_nodes.specs.Opening.{IsShelfFault, IsUntouched}
-use Rattle.scenario_nodes.specs.Shelves.{AllTell, IsGivenIn, ReturnsAll}
+use Rattle.scenario_nodes.specs.Shelves.{IsGivenIn, IsNext, ReturnsAll}
 
 -- ---- what the disk holds
 
@@ -21,9 +21,9 @@ use Rattle.scenario_nodes.specs.Shelves.{AllTell, IsGivenIn, ReturnsAll}
 abbrev pub net_name : List ℕ
 net_name = codes "net"
 
--- the shelf gives it next with these bytes
+-- the shelf gives it next with these bytes, and it tells them
 abbrev pub NetIs : {D : Type 0} → (D → DiskState) → ShelfState D → List ℕ → Type 0
-NetIs state shelf bytes = TakenAs state (shelf.given_back net_name) SCENARIO_DISK bytes
+NetIs state shelf bytes = IsNext state shelf SCENARIO_DISK net_name bytes
 
 -- the shelf gives it next with bytes that stand for these records
 pub record HoldsBase {D : Type 0} (state : D → DiskState) (shelf : ShelfState D) (records : List (List ℕ)) : Type 0 where
@@ -51,8 +51,8 @@ TellsNet text bytes (Err fault.NoMemory) = Unit {0}
 
 -- the bytes that it had were left alone, where they aren't those of the text's first records
 abbrev pub LeavesNet : {D : Type 0} → (D → DiskState) → (old new : ShelfState D) → Result (Unit {0}) RunFault → Type 0
-LeavesNet state old new (Err fault.Other) = AllTell state → IsTrue old.tells → (bytes : List ℕ) → NetIs state old bytes → NetIs state new bytes
-LeavesNet state old new (Err (fault.Damaged at second offset)) = AllTell state → IsTrue old.tells → (bytes : List ℕ) → NetIs state old bytes → NetIs state new bytes
+LeavesNet state old new (Err fault.Other) = IsTrue old.tells → (bytes : List ℕ) → NetIs state old bytes → NetIs state new bytes
+LeavesNet state old new (Err (fault.Damaged at second offset)) = IsTrue old.tells → (bytes : List ℕ) → NetIs state old bytes → NetIs state new bytes
 LeavesNet state old new _ = Unit {0}
 
 -- What an answer tells of the records that it held: they are the first ones of the text, or at `Other` they aren't. Bytes that stand for
@@ -71,18 +71,20 @@ abbrev pub IsNetFault : {D : Type 0} → (D → DiskState) → (old : ShelfState
 IsNetFault state old text disk (fault.Store at) = (at ≡ place.Net) × (1 ≤ disk.counts.faults)
 IsNetFault state old text disk (fault.Full at full) = (at ≡ place.Net) × LacksRoom text SCENARIO_DISK full
 IsNetFault state old text disk (fault.Damaged at second offset) =
-    (at ≡ place.Net) × (second ≡ false) × (AllTell state → (bytes : List ℕ) → NetIs state old bytes → IsDamageIn 0 bytes (why.Damaged offset))
+    (at ≡ place.Net) × (second ≡ false) × ((bytes : List ℕ) → NetIs state old bytes → IsDamageIn 0 bytes (why.Damaged offset))
 IsNetFault state old text disk fault.Other = Unit {0}
 IsNetFault state old text disk fault.NoMemory = Unit {0}
 
--- The disk was taken and given back. Where the text is kept, each image of it stands for its records. However it ends: where disks tell their
--- bytes, and those that it had stood for records, each image stands for these, or for some of the text's missing ones besides.
+-- The disk was taken and given back. Where the text is kept, each image of it stands for its records; and where it tells its bytes and the
+-- shelf what was given back, it is next with them. However it ends: where it told bytes that stood for records, each image stands for these, or
+-- for some of the text's missing ones besides.
 pub record IsNetBack {D : Type 0} (state : D → DiskState) (text : List ℕ) (old new : ShelfState D) (result : Result (Unit {0}) RunFault) : Type 0 where
   pub disk : D
   pub back : IsGivenIn old new net_name disk
   pub sized : (state disk).size ≡ SCENARIO_DISK
   pub whole : OnOk result (Holds (state disk) 0 (records_of BODY_BYTES text))
-  pub images : AllTell state → (records : List (List ℕ)) → HoldsBase state old records → (c : List ℕ) → (state disk).may_leave c → IsOnTheWay text records c
+  pub kept : OnOk result (IsSome (state disk).content → IsTrue old.tells → HoldsBase state new (records_of BODY_BYTES text))
+  pub images : (records : List (List ℕ)) → HoldsBase state old records → (c : List ℕ) → (state disk).may_leave c → IsOnTheWay text records c
   pub cause : IfErr result (IsNetFault state old text (state disk))
 
 -- the disk wasn't had, and nothing was done under its name
@@ -92,15 +94,14 @@ pub record IsNoNet {D : Type 0} (old new : ShelfState D) (result : Result (Unit 
   pub cause : IsShelfFault place.Net old new missed
   pub same : IsUntouched old new net_name
 
--- The text of a scenario was to be kept on the disk `net` of a shelf. Where disks tell their bytes and the shelf tells what was given back: the
--- records of the text are there next, if the text is kept; else those that were there, or some of the missing ones besides. What the answer
--- tells of the bytes that were there holds of any, damaged ones too.
+-- The text of a scenario was to be kept on the disk `net` of a shelf. Where that told its bytes and the shelf tells what was given back, the
+-- records are there next that were, or some of the missing ones of the text besides. What the answer tells of the bytes that were there holds
+-- of any, damaged ones too.
 pub record KeepsBase {D : Type 0} (state : D → DiskState) (text : List ℕ) (old new : ShelfState D) (result : Result (Unit {0}) RunFault) : Type 0 where
   pub net : IsNetBack state text old new result ⊎ IsNoNet old new result
-  pub kept : OnOk result (AllTell state → IsTrue old.tells → HoldsBase state new (records_of BODY_BYTES text))
-  pub next : AllTell state → IsTrue old.tells → (records : List (List ℕ)) → HoldsBase state old records → HoldsMore state new text records
-  pub answers : AllTell state → (records : List (List ℕ)) → HoldsBase state old records → AnswersFor text records result
-  pub tells : AllTell state → (bytes : List ℕ) → NetIs state old bytes → TellsNet text bytes result
+  pub next : IsTrue old.tells → (records : List (List ℕ)) → HoldsBase state old records → HoldsMore state new text records
+  pub answers : (records : List (List ℕ)) → HoldsBase state old records → AnswersFor text records result
+  pub tells : (bytes : List ℕ) → NetIs state old bytes → TellsNet text bytes result
   pub left : LeavesNet state old new result
   pub keeps : KeepsOthers (λ n. n ≡ net_name) old new
   pub returned : ReturnsAll old new

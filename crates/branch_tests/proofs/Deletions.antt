@@ -1,28 +1,23 @@
 -- What statements that write no value do has places in each record, and so a store takes it.
-use Rattle.std.proofs.Common.{◌≡◌, ◌+◌, ◌≤◌, ℕ, true, cond, List, [], ◌∷◌, length, Some, Result, Ok, refl, sym, subst, arith}
+use Rattle.std.proofs.Common.{◌≡◌, ◌≤◌, ℕ, true, cond, List, ◌∷◌, length, Some, Result, Ok, refl, sym, subst, arith}
 use Rattle.std.specs.Prelude.{IfSome}
-use Rattle.std.specs.List.{list_all}
-use Rattle.std.proofs.lemmas.Bool.{and_from, and_parts, leb-true, le-leb}
 use Rattle.seata_types.specs.declared.errors.StmtError.{StmtError}
 use Rattle.seata_types.specs.declared.ids.Leg.{Leg}
 use Rattle.seata_types.specs.declared.ids.Ticket.{Ticket}
-use Rattle.seata_types.specs.declared.limits.TheConstants.{CALL_ROWS, FIELD_ITEMS}
-use Rattle.seata_types.specs.declared.rows.Image.{Image}
-use Rattle.seata_types.specs.declared.rows.ReadRow.{ReadRow}
+use Rattle.seata_types.specs.declared.limits.TheConstants.{FIELD_ITEMS}
 use Rattle.seata_types.specs.declared.statements.Action.{Action}
 use Rattle.seata_types.specs.declared.statements.Stmt.{Stmt}
 use Rattle.seata_types.specs.declared.statements.Work.TheVariants as work
 use Rattle.local_tables.specs.Calls.{effect}
-use Rattle.local_tables.specs.Fitting.{is_image, is_read}
 use Rattle.local_tables.specs.Rows.{Database}
 use Rattle.local_tables.specs.declared.schemas.Effect.{Effect}
 use Rattle.durable_records.specs.declared.resources.ResourceRecord.TheVariants as log
-use Rattle.durable_records.specs.ResourceOrder.{image_keys, read_keys, only_read}
 use Rattle.local_txn.specs.OpenTickets.{OfCall, OfLocal, Open, Owner, no_effect, open_at, opening_of}
 use Rattle.local_txn.specs.Answers.{Executed, Prepares, Tickets}
 use Rattle.local_txn.proofs.Tests.{ticket_itself}
-use Rattle.resource_memory.specs.Changes.{fit, rise}
+use Rattle.resource_memory.specs.Changes.{fit}
 use Rattle.resource_memory.proofs.EffectFits.{effects_fit}
+use Rattle.resource_memory.proofs.Fits.{fit_alone}
 use Rattle.record_places.specs.Laws.{HaveRecordsPlaces}
 use Rattle.record_places.specs.Within.{AreTablesWithin}
 use Rattle.record_places.proofs.EffectLaws.{effects_have_places}
@@ -58,17 +53,6 @@ pub prepared_has : (old new : Tickets) (owner : Owner) (t : Ticket) (P : Open �
 prepared_has old new owner t P x has = subst (λ (u : Tickets). IfSome (open_at u.opens t) P) (sym x.1) (has_it t owner no_effect old.opens P has)
 
 -- ---- what the store takes
-
--- images that fit without their reads
-fit_alone : (db : Database) (images : List Image) (reads : List ReadRow) → fit db images reads ≡ true → fit db images [] ≡ true
-fit_alone db images reads e =
-    let one = and_parts (list_all (is_image db.resource db.schema) images) _ e in
-    let two = and_parts (list_all (is_read db.resource db.schema) reads) _ one.1 in
-    let three = and_parts (rise (image_keys images)) _ two.1 in
-    let four = and_parts (rise (read_keys reads)) _ three.1 in
-    let all = leb-true (length images + length (only_read images reads)) CALL_ROWS four.1 in
-    let few : length images + 0 ≤ CALL_ROWS = omega (arith, all) in
-    and_from _ _ one.0 (and_from _ _ refl (and_from _ _ three.0 (and_from _ _ refl (le-leb (length images + 0) CALL_ROWS few))))
 
 module _ (db : Database) (within : AreTablesWithin db) where
   module _ (stmts : List Stmt) (is : IsDeletion stmts) where

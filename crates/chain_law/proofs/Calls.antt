@@ -19,7 +19,7 @@ use Rattle.history_text.specs.Worlds.{resources_from, resources_of, setup_of, wo
 use Rattle.node_seat.specs.declared.faults.RunFault.{RunFault}
 use Rattle.scenario_nodes.specs.Nodes.{Held, HoldAll, Holds, Server, resource_server, servers_of}
 use Rattle.scenario_nodes.specs.Reading.{GivesStill}
-use Rattle.scenario_nodes.specs.Shelves.{AllTell, pair_of, second_name}
+use Rattle.scenario_nodes.specs.Shelves.{BackTell, pair_of, second_name}
 use Rattle.scenario_nodes.specs.Together.{numbered}
 use Rattle.scenario_nodes.proofs.Holding.{unused_hold}
 use Rattle.replay_runner.specs.Leaving.{EndsAtOpening, GivesBack, Showing}
@@ -30,22 +30,22 @@ use Rattle.chain_law.proofs.Going.{goes_on}
 use Rattle.chain_law.proofs.Unopened.{after_opening}
 
 module _ {D S : Type 0} (state : D → DiskState) (seen : S → ShelfState D) (lawful : (d : D) → IsLawful (state d)) where
-  module _ (old new : ShelfState D) (s : Scenario) (runs : IsRunnable s) (all : AllTell state) (tells : IsTrue new.tells) (held : Held) (holds : HoldAll state old s held) where
+  module _ (old new : ShelfState D) (s : Scenario) (runs : IsRunnable s) (all : BackTell state old new) (tells : IsTrue new.tells) (held : Held) (holds : HoldAll state old s held) where
     replay_on : (result : Result (List Entry) RunFault) (g : GivesBack (replayed.Leaves s) state old new s result) (left : replayed.Leaves s held (map (pair_of state) g.disks) result)
         → GoesOn state new s held (replayed_history s held (map (pair_of state) g.disks) result left)
-    replay_on (Ok es) g left = goes_on state lawful all s runs held old new tells holds left.history left.is_run.legal g.disks g.back left.opens
-    replay_on (Err missed) g left = goes_on state lawful all s runs held old new tells holds left.history left.legal g.disks g.back left.opens
+    replay_on (Ok es) g left = goes_on state lawful s runs held old new all tells holds left.history left.is_run.legal g.disks g.back left.opens
+    replay_on (Err missed) g left = goes_on state lawful s runs held old new all tells holds left.history left.legal g.disks g.back left.opens
 
     run_on : (result : Result (List Entry) RunFault) (g : GivesBack (ran.Leaves s) state old new s result) (left : ran.Leaves s held (map (pair_of state) g.disks) result)
         → GoesOn state new s held (ran_history s held (map (pair_of state) g.disks) result left)
-    run_on (Ok es) g left = goes_on state lawful all s runs held old new tells holds left.history left.is_run.legal g.disks g.back left.opens
-    run_on (Err missed) g left = goes_on state lawful all s runs held old new tells holds left.history left.is_run.legal g.disks g.back left.opens
+    run_on (Ok es) g left = goes_on state lawful s runs held old new all tells holds left.history left.is_run.legal g.disks g.back left.opens
+    run_on (Err missed) g left = goes_on state lawful s runs held old new all tells holds left.history left.is_run.legal g.disks g.back left.opens
 
   pub replays_chained : ReplaysAreChained state seen
-  replays_chained old new s result runs g all tells held holds = replay_on (seen old) (seen new) s runs all tells held holds result g (g.leaves all held holds)
+  replays_chained old new s result runs g all tells held holds = replay_on (seen old) (seen new) s runs all tells held holds result g (g.leaves held holds)
 
   pub runs_chained : RunsAreChained state seen
-  runs_chained old new s result runs g all tells held holds = run_on (seen old) (seen new) s runs all tells held holds result g (g.leaves all held holds)
+  runs_chained old new s result runs g all tells held holds = run_on (seen old) (seen new) s runs all tells held holds result g (g.leaves held holds)
 
 -- ---- another schedule
 
@@ -80,14 +80,14 @@ module _ {D : Type 0} (state : D → DiskState) (shelf : ShelfState D) (s : Scen
 
 -- ---- disks that were read and given back
 
-module _ {D : Type 0} (state : D → DiskState) (s : Scenario) (old new : ShelfState D) (all : AllTell state) (still : GivesStill state s.disk old new) where
+module _ {D : Type 0} (state : D → DiskState) (s : Scenario) (old new : ShelfState D) (still : GivesStill state s.disk old new) where
   still_holds : (vs : List Server) → AllByRecursion (Holds state old s) vs → AllByRecursion (Holds state new s) vs
   still_holds [] holds = tt
   still_holds (v ∷ vs) holds = (
     record {
       first = holds.0.first;
       second = holds.0.second;
-      next = record { first = still.next all v.name holds.0.first holds.0.next.first; second = still.next all (second_name v.name) holds.0.second holds.0.next.second };
+      next = record { first = still.next v.name holds.0.first holds.0.next.first; second = still.next (second_name v.name) holds.0.second holds.0.next.second };
       stand = holds.0.stand;
     },
     still_holds vs holds.1,
@@ -121,37 +121,37 @@ module _ {D : Type 0} (state : D → DiskState) (old new : ShelfState D) (s : Sc
 module _ {D S : Type 0} (state : D → DiskState) (seen : S → ShelfState D) (lawful : (d : D) → IsLawful (state d)) where
   replays_grow : ChainsGrow state seen replayed.Leaves replayed_history
   replays_grow old new s result runs g all tells chain held after =
-      let left = g.leaves all held after.hold in
+      let left = g.leaves held after.hold in
       grows state (seen old) (seen new) s chain held after (replayed_history s held (map (pair_of state) g.disks) result left) (replay_legal s held (map (pair_of state) g.disks) result left)
       (replays_chained state seen lawful old new s result runs g all tells held after.hold)
 
   runs_grow : ChainsGrow state seen ran.Leaves ran_history
   runs_grow old new s result runs g all tells chain held after =
-      let left = g.leaves all held after.hold in
+      let left = g.leaves held after.hold in
       grows state (seen old) (seen new) s chain held after (ran_history s held (map (pair_of state) g.disks) result left) (run_legal s held (map (pair_of state) g.disks) result left)
       (runs_chained state seen lawful old new s result runs g all tells held after.hold)
 
   -- however they end
-  unopened_stays : (old new : S) (s : Scenario) (result : Result (List Entry) RunFault) → EndsAtOpening state (seen old) (seen new) s result → AllTell state → IsTrue (seen new).tells
+  unopened_stays : (old new : S) (s : Scenario) (result : Result (List Entry) RunFault) → EndsAtOpening state (seen old) (seen new) s result → BackTell state (seen old) (seen new) → IsTrue (seen new).tells
       → (chain : List (Past × List Moment)) (held : Held) → IsAfter state (seen old) s chain held → StaysAfter state (seen new) s chain
   unopened_stays old new s (Ok es) none all tells chain held after = absurd none
   unopened_stays old new s (Err missed) refused all tells chain held after =
-      let (next, is) = after_opening state lawful all s (seen old) (seen new) tells missed refused chain held after in
+      let (next, is) = after_opening state lawful s (seen old) (seen new) all tells missed refused chain held after in
       record { longer = chain; is = inl refl; held = next; after = is }
 
   stay : (Shows : Scenario → Held → Showing) (history : (s : Scenario) (held : Held) (disks : List Pair) (result : Result (List Entry) RunFault) → Shows s held disks result → List Moment)
       → ChainsGrow state seen Shows history → ChainsStay state seen Shows
   stay Shows history grow old new s result runs (inl g) all tells chain held after =
-      let made = history s held (map (pair_of state) g.disks) result (g.leaves all held after.hold) in
+      let made = history s held (map (pair_of state) g.disks) result (g.leaves held after.hold) in
       let (next, is) = grow old new s result runs g all tells chain held after in
       record { longer = (held.past, made) ∷ chain; is = inr (held.past, made, refl); held = next; after = is }
   stay Shows history grow old new s result runs (inr refused) all tells chain held after = unopened_stays old new s result refused all tells chain held after
 
   pub calls_go_on : CallsGoOn state seen
   calls_go_on = record {
-    first = λ shelf s runs unused. record {
+    first = λ shelf s runs blanks unused. record {
       is_chain = tt;
-      hold = unused_hold state (seen shelf) s runs unused;
+      hold = unused_hold state (seen shelf) s runs blanks unused;
       follows = record { sessions = refl; resources = λ n. (0, refl) };
     };
     replay = replays_grow;
@@ -159,7 +159,7 @@ module _ {D S : Type 0} (state : D → DiskState) (seen : S → ShelfState D) (l
     any_replay = stay replayed.Leaves replayed_history replays_grow;
     any_run = stay ran.Leaves ran_history runs_grow;
     schedule = λ shelf s chain held after stops schedule. after_schedule state (seen shelf) s stops schedule held chain after;
-    reading = λ old new s all still chain held after. after_reading state s (seen old) (seen new) all still chain held after;
-    still = λ old new s all still chain held after. record { is_chain = after.is_chain; hold = still all held after.hold; follows = after.follows };
-    unopened = λ old new s missed refused all tells chain held after. after_opening state lawful all s (seen old) (seen new) tells missed refused chain held after;
+    reading = λ old new s still chain held after. after_reading state s (seen old) (seen new) still chain held after;
+    still = λ old new s still chain held after. record { is_chain = after.is_chain; hold = still held after.hold; follows = after.follows };
+    unopened = λ old new s missed refused all tells chain held after. after_opening state lawful s (seen old) (seen new) all tells missed refused chain held after;
   }

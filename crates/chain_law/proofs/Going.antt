@@ -1,9 +1,9 @@
 -- The disks that a history left hold records that it may leave.
-use Rattle.std.proofs.Common.{◌≡◌, inl, ◌+◌, ℕ, zero, suc, add-one, true, IsTrue, List, [], ◌∷◌, length, map, slice_get, Some, None, option_map, refl, ap, sym, subst, ◌∙◌, arith}
+use Rattle.std.proofs.Common.{◌≡◌, ◌+◌, ℕ, zero, suc, add-one, true, IsTrue, List, [], ◌∷◌, length, map, slice_get, Some, None, option_map, refl, ap, sym, subst, ◌∙◌, arith}
 use Rattle.std.specs.List.{list_all}
 use Rattle.std.proofs.lemmas.Option.{slice_get-map}
 use Rattle.disk_model.specs.Disk.{DiskState, IsLawful, present}
-use Rattle.disk_model.specs.Shelf.{ShelfState, TakenAs}
+use Rattle.disk_model.specs.Shelf.{ShelfState}
 use Rattle.journal_checkpoint.specs.Extents.{Extent, blank, extent_of}
 use Rattle.journal_checkpoint.specs.Images.{Pair}
 use Rattle.seata_types.specs.declared.ids.Place.{Place}
@@ -22,8 +22,8 @@ use Rattle.history_rules.specs.Chains.{MayLeave}
 use Rattle.history_law.proofs.MessageHistory.{messages_over_any}
 use Rattle.history_text.specs.Worlds.{resources_of, setup_of, times_of, world_of}
 use Rattle.scenario_nodes.specs.Nodes.{Held, HoldAll, Holds, coordinator_role, resource_role, resource_server}
-use Rattle.scenario_nodes.specs.Shelves.{AllTell, AreGivenBack, IsGivenIn, coordinator_name, pair_of}
-use Rattle.scenario_nodes.proofs.Holding.{bytes_of}
+use Rattle.scenario_nodes.specs.Shelves.{AreGivenBack, BackTell, IsGivenIn, IsNext, coordinator_name, pair_of}
+use Rattle.scenario_nodes.proofs.Holding.{bytes_of, next_given}
 use Rattle.replay_runner.specs.Leaving.{AllOpenAgain, AreAllBack, OpensAgain, nth_pair}
 use Rattle.replay_runner.proofs.NewNodes.{held_named}
 use Rattle.replay_runner.proofs.Roles.{from_map, length-managers, length-resources, resource_there, role_of_resource}
@@ -46,19 +46,19 @@ starts_of first kept place.Tc = first
 starts_of first kept (place.Res n) = (of_number kept none_kept n).1
 starts_of first kept _ = blank
 
-module _ {D : Type 0} (state : D → DiskState) (lawful : (d : D) → IsLawful (state d)) (all : AllTell state) (s : Scenario) (runs : IsRunnable s) (held : Held) (old new : ShelfState D) (tells : IsTrue new.tells)
+module _ {D : Type 0} (state : D → DiskState) (lawful : (d : D) → IsLawful (state d)) (s : Scenario) (runs : IsRunnable s) (held : Held) (old new : ShelfState D) (all : BackTell state old new) (tells : IsTrue new.tells)
     (holds : HoldAll state old s held) (ms : List Moment) (legal : Legal (world_of s) held.past ms) where
   -- a disk that was given back is the one that the shelf gives next, and its bytes are one of its images
-  record IsNext (name : List ℕ) (d : D) : Type 0 where
+  record IsBackNext (name : List ℕ) (d : D) : Type 0 where
     bytes : List ℕ
     is : present (state d) ≡ Some bytes
     stays : (state d).may_leave bytes
-    taken : TakenAs state (new.given_back name) s.disk bytes
+    taken : IsNext state new s.disk name bytes
 
-  is_next : (name : List ℕ) (d : D) → IsGivenIn old new name d → IsNext name d
+  is_next : (name : List ℕ) (d : D) → IsGivenIn old new name d → IsBackNext name d
   is_next name d given =
-      let (x, is) = bytes_of (state d) (all d) in
-      record { bytes = x; is = is; stays = (lawful d).present_may_stay x is; taken = inl (d, given.back.given tells, is) }
+      let (x, is) = bytes_of (state d) (all name d given) in
+      record { bytes = x; is = is; stays = (lawful d).present_may_stay x is; taken = next_given state new s.disk name d x (given.back.given tells) is }
 
   -- ---- the coordinator
 

@@ -2,8 +2,7 @@
 use Rattle.std.proofs.Common.{◌≡◌, ◌⊎◌, ⊎_elim, inl, inr, ◌∙◌, ◌+◌, ◌++◌, ℕ, suc, add-one, Bool, true, false, IsTrue, List, [], ◌∷◌, slice_get, Some, refl, ap, sym, subst, arith}
 use Rattle.std.specs.List.{AllByRecursion}
 use Rattle.disk_model.specs.Disk.{DiskState, IsLawful}
-use Rattle.disk_model.specs.Shelf.{ShelfState, TakenAs, taken_tells}
-use Rattle.disk_model.proofs.Taken.{next_since}
+use Rattle.disk_model.specs.Shelf.{ShelfState, taken_tells}
 use Rattle.journal_checkpoint.specs.Extents.{Extent, blank, extent_of}
 use Rattle.journal_checkpoint.specs.Images.{Pair}
 use Rattle.seata_types.specs.declared.ids.Place.{Place}
@@ -22,8 +21,9 @@ use Rattle.node_steps.specs.Nodes.{place_of}
 use Rattle.node_seat.specs.declared.faults.RunFault.{RunFault}
 use Rattle.scenario_nodes.specs.Nodes.{Held, HoldAll, Holds, Server, StandAs, resource_role, resource_server, servers_of, store_setting}
 use Rattle.scenario_nodes.specs.Opening.{AreNotOpened, HaveNoEntry, HaveNoRecord, IsBack, IsBackTaken, IsNotAsked, IsNotHad, IsNotLoaded, IsReturned, IsUntouched, NodesNotOpened, ShowNoEntry, ShowNoRecord, ShowsUnread}
-use Rattle.scenario_nodes.specs.Shelves.{AllTell, AreGivenBack, IsGivenIn, pair_of, second_name}
-use Rattle.scenario_nodes.proofs.Holding.{bytes_of}
+use Rattle.scenario_nodes.specs.Shelves.{AreGivenBack, BackTell, IsGivenIn, IsNext, pair_of, second_name}
+use Rattle.scenario_nodes.proofs.Holding.{bytes_of, next_given}
+use Rattle.scenario_nodes.proofs.Returned.{is_next_since}
 use Rattle.scenario_nodes.proofs.Together.{all_append, all_behind, all_front}
 use Rattle.chain_law.specs.Chained.{IsAfter}
 use Rattle.chain_law.proofs.Chosen.{choices, chosen_at, numbered_all, numbered_at, of_number}
@@ -61,7 +61,7 @@ no_entry (Coordinator times past) disks none = none
 no_entry (Resource setup past) disks none = λ a b one two. inl (none a b one two)
 no_entry (Manager settings) disks none = tt
 
-module _ {D : Type 0} (state : D → DiskState) (lawful : (d : D) → IsLawful (state d)) (all : AllTell state) (s : Scenario) (old new : ShelfState D) (tells : IsTrue new.tells) where
+module _ {D : Type 0} (state : D → DiskState) (lawful : (d : D) → IsLawful (state d)) (s : Scenario) (old new : ShelfState D) (all : BackTell state old new) (tells : IsTrue new.tells) where
   -- ---- one node
 
   -- its disks hold its records, or a boot more
@@ -71,13 +71,13 @@ module _ {D : Type 0} (state : D → DiskState) (lawful : (d : D) → IsLawful (
     hold : Holds state new s (record { name = v.name; role = with_boot booted v.role; start = start })
 
   -- a disk that was given back is the one that the shelf gives next, and its bytes are one of its images
-  record IsNext (name : List ℕ) (d : D) : Type 0 where
+  record IsBackNext (name : List ℕ) (d : D) : Type 0 where
     bytes : List ℕ
     stays : (state d).may_leave bytes
-    taken : TakenAs state (new.given_back name) s.disk bytes
+    taken : IsNext state new s.disk name bytes
 
-  is_next : (name : List ℕ) (d : D) → IsGivenIn old new name d → IsNext name d
-  is_next name d given = let (x, is) = bytes_of (state d) (all d) in record { bytes = x; stays = (lawful d).present_may_stay x is; taken = inl (d, given.back.given tells, is) }
+  is_next : (name : List ℕ) (d : D) → IsGivenIn old new name d → IsBackNext name d
+  is_next name d given = let (x, is) = bytes_of (state d) (all name d given) in record { bytes = x; stays = (lawful d).present_may_stay x is; taken = next_given state new s.disk name d x (given.back.given tells) is }
 
   booted_now : (setup : Setup) (past : List ResourceRecord) (x y : List ℕ) → StandsForRecords (store_setting setup) past x y ⊎ StandsForRecords (store_setting setup) (boot_over past ∷ past) x y
       → (kept : Kept) × StandAs s (with_boot kept.0 (Resource setup past)) kept.1 x y
@@ -103,7 +103,7 @@ module _ {D : Type 0} (state : D → DiskState) (lawful : (d : D) → IsLawful (
       record { booted = kept.0; start = kept.1; hold = record { first = a.bytes; second = b.bytes; next = record { first = a.taken; second = b.taken }; stand = stand } }
 
   -- the shelf gives the same bytes next
-  same : (v : Server) (holds : Holds state old s v) → TakenAs state (new.given_back v.name) s.disk holds.first → TakenAs state (new.given_back (second_name v.name)) s.disk holds.second → Goes v
+  same : (v : Server) (holds : Holds state old s v) → IsNext state new s.disk v.name holds.first → IsNext state new s.disk (second_name v.name) holds.second → Goes v
   same v holds one two = record { booted = false; start = v.start; hold = record { first = holds.first; second = holds.second; next = record { first = one; second = two }; stand = stand_same v.role v.start holds.first holds.second holds.stand } }
     where
       stand_same : (role : Role) (start : Extent) (x y : List ℕ) → StandAs s role start x y → StandAs s (with_boot false role) start x y
@@ -111,34 +111,34 @@ module _ {D : Type 0} (state : D → DiskState) (lawful : (d : D) → IsLawful (
       stand_same (Resource setup past) start x y stand = stand
       stand_same (Manager settings) start x y stand = stand
 
-  untouched : (name x : List ℕ) → IsUntouched old new name → TakenAs state (old.given_back name) s.disk x → TakenAs state (new.given_back name) s.disk x
-  untouched name x u next = next_since state (old.given_back name) (new.given_back name) s.disk u.same x next
+  untouched : (name x : List ℕ) → IsUntouched old new name → IsNext state old s.disk name x → IsNext state new s.disk name x
+  untouched name x u next = is_next_since state s.disk name x old new u.same next
 
-  back_taken : (name x : List ℕ) → IsBackTaken state s.disk old new name → TakenAs state (old.given_back name) s.disk x → TakenAs state (new.given_back name) s.disk x
+  back_taken : (name x : List ℕ) → IsBackTaken state s.disk old new name → IsNext state old s.disk name x → IsNext state new s.disk name x
   back_taken name x b next =
-      let (c, is_c) = bytes_of (state b.disk) (all b.disk) in
-      let is : c ≡ x = taken_tells state (old.given_back name) s.disk (state b.disk) x c b.taken next is_c in
-      inl (b.disk, b.back.back.given tells, is_c ∙ ap Some is)
+      let (c, is_c) = bytes_of (state b.disk) (next.tells b.disk b.taken) in
+      let is : c ≡ x = taken_tells state (old.given_back name) s.disk (state b.disk) x c b.taken next.has is_c in
+      next_given state new s.disk name b.disk x (b.back.back.given tells) (is_c ∙ ap Some is)
 
   module _ (v : Server) (holds : Holds state old s v) where
     not_asked : IsNotAsked old new v → Goes v
     not_asked u = same v holds (untouched v.name holds.first u.0 holds.next.first) (untouched (second_name v.name) holds.second u.1 holds.next.second)
 
     with_no_record : IsBack (ShowNoRecord state s old) old new v → Goes v
-    with_no_record b = given v b.disks b.back (no_entry v.role (pair_of state b.disks) (b.shows.1 all holds)) holds
+    with_no_record b = given v b.disks b.back (no_entry v.role (pair_of state b.disks) (b.shows.1 holds)) holds
 
     with_no_entry : IsBack (ShowNoEntry state s old) old new v → Goes v
-    with_no_entry b = given v b.disks b.back (b.shows.1 all holds).1 holds
+    with_no_entry b = given v b.disks b.back (b.shows.1 holds).1 holds
 
     not_loaded : (missed : RunFault) → IsNotLoaded state s old new v missed → Goes v
     not_loaded missed refused =
         ⊎_elim (λ (h : IsNotHad state s.disk (place_of v.role) old new v.name missed).
         same v holds (⊎_elim (λ (u : IsUntouched old new v.name). untouched v.name holds.first u holds.next.first) (λ (b : IsBackTaken state s.disk old new v.name). back_taken v.name holds.first b holds.next.first) h.first)
         (untouched (second_name v.name) holds.second h.second holds.next.second))
-        (λ (b : IsBack (ShowsUnread state s old missed) old new v). given v b.disks b.back (no_entry v.role (pair_of state b.disks) (b.shows.unwritten.1 all holds)) holds) refused
+        (λ (b : IsBack (ShowsUnread state s old missed) old new v). given v b.disks b.back (no_entry v.role (pair_of state b.disks) (b.shows.unwritten.1 holds)) holds) refused
 
     not_started : (missed : RunFault) → IsReturned state s old new v missed → Goes v
-    not_started missed r = given v r.disks r.back (r.unopened all holds).device holds
+    not_started missed r = given v r.disks r.back (r.unopened holds).device holds
 
   -- ---- all nodes
 

@@ -17,7 +17,7 @@ use Rattle.node_seat.specs.declared.faults.RunFault.{RunFault}
 use Rattle.scenario_nodes.specs.Nodes.{AreUnused, Held, HoldAll, none_held, servers_of}
 use Rattle.scenario_nodes.specs.Opening.{NodesNotOpened}
 use Rattle.scenario_nodes.specs.Reading.{GivesStill, HoldStill}
-use Rattle.scenario_nodes.specs.Shelves.{AllTell, pair_of}
+use Rattle.scenario_nodes.specs.Shelves.{BackTell, BlanksTell, pair_of}
 use Rattle.replay_runner.specs.Leaving.{GivesBack, Showing, UsesShelf}
 use Rattle.replay_runner.specs.Leaving as replayed
 use Rattle.thread_runner.specs.Running as ran
@@ -38,13 +38,13 @@ abbrev pub ran_history : (s : Scenario) (held : Held) (disks : List Pair) (resul
 ran_history s held disks (Ok es) left = left.history
 ran_history s held disks (Err missed) left = left.history
 
--- Each call that leaves such disks, of which one can tell its history, goes on: whatever they held before.
+-- Each call that leaves such disks, of which one can tell its history, goes on, where those that it gave back tell: whatever they held before.
 abbrev pub CallsAreChained : {D S : Type 0} → (D → DiskState) → (S → ShelfState D) → (Shows : Scenario → Held → Showing)
     → ((s : Scenario) (held : Held) (disks : List Pair) (result : Result (List Entry) RunFault) → Shows s held disks result → List Moment) → Type 0
 CallsAreChained {S = S} state seen Shows history =
     (old new : S) (s : Scenario) (result : Result (List Entry) RunFault) → IsRunnable s → (gives : GivesBack (Shows s) state (seen old) (seen new) s result)
-    → (all : AllTell state) → IsTrue (seen new).tells → (held : Held) (holds : HoldAll state (seen old) s held)
-    → GoesOn state (seen new) s held (history s held (map (pair_of state) gives.disks) result (gives.leaves all held holds))
+    → BackTell state (seen old) (seen new) → IsTrue (seen new).tells → (held : Held) (holds : HoldAll state (seen old) s held)
+    → GoesOn state (seen new) s held (history s held (map (pair_of state) gives.disks) result (gives.leaves held holds))
 
 -- of replays, and of runs
 abbrev pub ReplaysAreChained : {D S : Type 0} → (D → DiskState) → (S → ShelfState D) → Type 0
@@ -67,8 +67,8 @@ abbrev pub ChainsGrow : {D S : Type 0} → (D → DiskState) → (S → ShelfSta
     → ((s : Scenario) (held : Held) (disks : List Pair) (result : Result (List Entry) RunFault) → Shows s held disks result → List Moment) → Type 0
 ChainsGrow {S = S} state seen Shows history =
     (old new : S) (s : Scenario) (result : Result (List Entry) RunFault) → IsRunnable s → (gives : GivesBack (Shows s) state (seen old) (seen new) s result)
-    → (all : AllTell state) → IsTrue (seen new).tells → (chain : List (Past × List Moment)) (held : Held) (after : IsAfter state (seen old) s chain held)
-    → (next : Held) × IsAfter state (seen new) s ((held.past, history s held (map (pair_of state) gives.disks) result (gives.leaves all held after.hold)) ∷ chain) next
+    → BackTell state (seen old) (seen new) → IsTrue (seen new).tells → (chain : List (Past × List Moment)) (held : Held) (after : IsAfter state (seen old) s chain held)
+    → (next : Held) × IsAfter state (seen new) s ((held.past, history s held (map (pair_of state) gives.disks) result (gives.leaves held after.hold)) ∷ chain) next
 
 -- the same chain, or it with one history more
 abbrev pub IsOrLonger : (chain longer : List (Past × List Moment)) → Type 0
@@ -85,26 +85,26 @@ pub record StaysAfter {D : Type 0} (state : D → DiskState) (shelf : ShelfState
 abbrev pub ChainsStay : {D S : Type 0} → (D → DiskState) → (S → ShelfState D) → (Shows : Scenario → Held → Showing) → Type 0
 ChainsStay {S = S} state seen Shows =
     (old new : S) (s : Scenario) (result : Result (List Entry) RunFault) → IsRunnable s → UsesShelf (Shows s) state (seen old) (seen new) s result
-    → AllTell state → IsTrue (seen new).tells → (chain : List (Past × List Moment)) (held : Held) → IsAfter state (seen old) s chain held → StaysAfter state (seen new) s chain
+    → BackTell state (seen old) (seen new) → IsTrue (seen new).tells → (chain : List (Past × List Moment)) (held : Held) → IsAfter state (seen old) s chain held → StaysAfter state (seen new) s chain
 
 -- the same scenario with other stops and another schedule
 abbrev pub with_schedule : Scenario → (stops : List (Place × ℕ × ℕ)) → (schedule : List ScheduleItem) → Scenario
 with_schedule s stops schedule = record s { stops = stops; schedule = schedule }
 
--- A shelf that was never used for the nodes of a scenario is after the empty chain. Each replay and each run adds its history, whatever the
--- stops and the schedule of the next one are. What reads the disks and gives them back adds nothing, nor what leaves them with what they held;
--- nor does a call whose nodes weren't opened: it leaves what it found, with a boot of a resource or not.
+-- A shelf that was never used for the nodes of a scenario is after the empty chain, where blank disks tell. Each replay and each run adds its
+-- history, whatever the stops and the schedule of the next one are. What reads the disks and gives them back adds nothing, nor what leaves
+-- them with what they held; nor does a call whose nodes weren't opened: it leaves what it found, with a boot of a resource or not.
 pub record CallsGoOn {D S : Type 0} (state : D → DiskState) (seen : S → ShelfState D) : Type 0 where
-  pub first : (shelf : S) (s : Scenario) → IsRunnable s → AreUnused (seen shelf) (servers_of s none_held) → IsAfter state (seen shelf) s [] none_held
+  pub first : (shelf : S) (s : Scenario) → IsRunnable s → BlanksTell state s.disk → AreUnused (seen shelf) (servers_of s none_held) → IsAfter state (seen shelf) s [] none_held
   pub replay : ChainsGrow state seen replayed.Leaves replayed_history
   pub run : ChainsGrow state seen ran.Leaves ran_history
   pub any_replay : ChainsStay state seen replayed.Leaves
   pub any_run : ChainsStay state seen ran.Leaves
   pub schedule : (shelf : S) (s : Scenario) (chain : List (Past × List Moment)) (held : Held) → IsAfter state (seen shelf) s chain held
       → (stops : List (Place × ℕ × ℕ)) (schedule : List ScheduleItem) → IsAfter state (seen shelf) (with_schedule s stops schedule) chain held
-  pub reading : (old new : S) (s : Scenario) → AllTell state → GivesStill state s.disk (seen old) (seen new)
+  pub reading : (old new : S) (s : Scenario) → GivesStill state s.disk (seen old) (seen new)
       → (chain : List (Past × List Moment)) (held : Held) → IsAfter state (seen old) s chain held → IsAfter state (seen new) s chain held
-  pub still : (old new : S) (s : Scenario) → AllTell state → HoldStill state s (seen old) (seen new)
+  pub still : (old new : S) (s : Scenario) → HoldStill state s (seen old) (seen new)
       → (chain : List (Past × List Moment)) (held : Held) → IsAfter state (seen old) s chain held → IsAfter state (seen new) s chain held
-  pub unopened : (old new : S) (s : Scenario) (missed : RunFault) → NodesNotOpened state s (servers_of s) (seen old) (seen new) missed → AllTell state → IsTrue (seen new).tells
+  pub unopened : (old new : S) (s : Scenario) (missed : RunFault) → NodesNotOpened state s (servers_of s) (seen old) (seen new) missed → BackTell state (seen old) (seen new) → IsTrue (seen new).tells
       → (chain : List (Past × List Moment)) (held : Held) → IsAfter state (seen old) s chain held → (next : Held) × IsAfter state (seen new) s chain next

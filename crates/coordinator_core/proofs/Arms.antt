@@ -84,7 +84,7 @@ module _ {D : Type 0} (state : D → DiskState) (calls : ℕ) where
   keeps_armed : (s : Sessions (Stoppable D)) (rs : List SessionRecord) → KeepsRecords (state_of state) rs s → KeepsRecords (state_of state) rs (armed s)
   keeps_armed s rs k = record {
     found = k.found;
-    store = record { pair = kept_armed s k.found k.store.pair; held = k.store.held };
+    kept = record { pair = kept_armed s k.found k.kept.pair; held = k.kept.held };
     list = k.list;
     knows = k.knows;
   }

@@ -116,7 +116,7 @@ module _ {D : Type 0} (state : D → DiskState) (law : (d : Stoppable D) → IsL
       → (pair_of state s).first.may_leave a → (pair_of state s).second.may_leave b → StandsFor s rs a b
   keeps_images rs s k a b first second = record {
     found = k.found;
-    pair = pairs_now (state_of state) _ (twin s) (kept_pairs (state_of state) law k.found (twin s) k.store.pair) a b first second;
+    pair = pairs_now (state_of state) _ (twin s) (kept_pairs (state_of state) law k.found (twin s) k.kept.pair) a b first second;
     list = k.list;
   }
 

@@ -71,8 +71,8 @@ module _ {D : Type 0} (state : D → DiskState) (law : (d : D) → IsLawful (sta
   keeps_at : (s : Sessions D) (rs : List SessionRecord) (there : Extent) → KeepsRecords state rs s → twin_extent (twin s) ≡ there → (a b : List ℕ)
       → (state (first_disk (twin s))).may_leave a → (state (second_disk (twin s))).may_leave b → StandsAt s rs there a b
   keeps_at s rs there k is a b one two = (
-    record { found = k.found; pair = pairs_now state (disks state (twin s)) (twin s) (kept_pairs state law k.found (twin s) k.store.pair) a b one two; list = k.list },
-    sym k.store.pair.extent ∙ is,
+    record { found = k.found; pair = pairs_now state (disks state (twin s)) (twin s) (kept_pairs state law k.found (twin s) k.kept.pair) a b one two; list = k.list },
+    sym k.kept.pair.extent ∙ is,
   )
 
   pub lies_up : (s : Sessions D) (past : List SessionRecord) (start : Extent) (size : ℕ) (os : List Own) → KeepsRecords state (sessions_left past os).records s → AreSized state (twin s) size

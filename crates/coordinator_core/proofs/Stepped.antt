@@ -278,7 +278,7 @@ module _ {D : Type 0} (state : D → DiskState) (law : (d : Stoppable D) → IsL
       let kept = s.disks.keeps (upon past owns s) in (
         i.r,
         ap (λ (k : Step). session_asked (own_step given now k)) (sym (is_rule times past owns i.due.step same taken.0)) ∙ asked_by i.due.step.act i.done i.r i.due.durable i.due.asked,
-        i.no_room kept.found kept.store,
+        i.no_room kept.found kept.kept,
       )
   no_room full i (Resource setup past) owns s = absurd s
   no_room full i (Manager settings) owns s = absurd s

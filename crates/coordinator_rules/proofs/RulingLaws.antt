@@ -27,6 +27,10 @@ use Rattle.coordinator_rules.proofs.AnswerLaws.{told, still_sent}
 pub of_like : {I : Type 0} (P : I → Type 0) (i j : I) → i ≡ j → P j → P i
 of_like P i j same p = subst P (sym same) p
 
+-- what is said of a message is said of the input that has its like
+pub of_heard : (P : Input → Type 0) (given : Input) (from : Place) (m n : Message) → given ≡ input.Message from m → n ≡ m → P (input.Message from n) → P given
+of_heard P given from m n is same p = of_like P given (input.Message from n) (is ∙ ap (input.Message from) (sym same)) p
+
 -- where there is memory for it
 pub ok_as : {A E : Type 0} {P Q : A → Type 0} (result : Result A E) → ((a : A) → P a → Q a) → IfOk result P → IfOk result Q
 ok_as (Ok a) f p = f a p

@@ -37,7 +37,7 @@ pub fn answer<L: Ledger, P: Ledger>(
     match given {
         Input::Turn => Ok(turning::turn(memory, moments, forget, now)),
         Input::Message { from, message } => {
-            hear(alloc, memory, *from, message, now, steps, passes)
+            hear(alloc, memory, *from, message.get(), now, steps, passes)
         }
         Input::Local { .. } | Input::Outside { .. } => Ok(rests(Act::Ignored, None)),
     }

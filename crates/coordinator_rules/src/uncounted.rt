@@ -69,7 +69,7 @@ pub fn answer(
 {
     match given {
         Input::Turn => Ok(turning::turn(memory, moments, forget, now)),
-        Input::Message { from, message } => hear(alloc, memory, *from, message, now),
+        Input::Message { from, message } => hear(alloc, memory, *from, message.get(), now),
         Input::Local { .. } | Input::Outside { .. } => Ok(telling::rests(Act::Ignored, None)),
     }
 }

@@ -6,7 +6,7 @@ use crate::cutting::{further, piece};
 use crate::durables::{durable, durable_behind};
 use crate::parts::{branch, call, number_16, number_32, rolling, status, ticket, word, xid};
 use crate::reasons::{error, why};
-use crate::values::{key, option_row};
+use crate::values::{boxed_key, boxed_row, key};
 use history_text::Names;
 use seata_types::{Act, List, NoMemory};
 use std::alloc::Global;
@@ -124,9 +124,9 @@ fn dirty(alloc: Global, names: &Names, pieces: &[List<u8>]) -> Result<Act, NoMem
     Ok(Act::Dirty {
         xid: xid(piece(pieces, 1)),
         branch: branch(piece(pieces, 2)),
-        key: key(alloc, names, piece(pieces, 3))?,
-        after: option_row(alloc, piece(pieces, 4))?,
-        now: option_row(alloc, piece(pieces, 5))?,
+        key: boxed_key(alloc, names, piece(pieces, 3))?,
+        after: boxed_row(alloc, piece(pieces, 4))?,
+        now: boxed_row(alloc, piece(pieces, 5))?,
     })
 }
 

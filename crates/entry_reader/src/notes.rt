@@ -10,7 +10,7 @@ use crate::places::{number_in, place};
 use crate::reasons::why;
 use crate::values::{key, locks};
 use history_text::{Names, Note, Sent};
-use seata_types::{CallAnswer, List, NoMemory, Registered};
+use seata_types::{Boxed, CallAnswer, List, NoMemory, Registered};
 use std::alloc::Global;
 
 #[tactic(auto, unfolding(crate::specs::Notes::reply_of))]
@@ -185,7 +185,7 @@ pub fn sent(
         "-" => Ok(None),
         _ => Ok(Some(Sent {
             to: place(names, last_piece(pieces)),
-            note: note(alloc, names, resource, pieces)?,
+            note: Boxed::new(alloc, note(alloc, names, resource, pieces)?)?,
         })),
     }
 }

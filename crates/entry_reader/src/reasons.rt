@@ -4,7 +4,7 @@ ghost use Rattle.entry_reader.specs.Reasons as spec;
 
 use crate::cutting::{further, piece};
 use crate::parts::{number_16, status, word, xid};
-use crate::values::key;
+use crate::values::boxed_key;
 use history_text::Names;
 use seata_types::{List, NoMemory, StmtError, Why};
 use std::alloc::Global;
@@ -21,10 +21,10 @@ pub fn error(alloc: Global, names: &Names, pieces: &[List<u8>]) -> Result<StmtEr
         "TypeMismatch" => Ok(StmtError::TypeMismatch),
         "TooManyRows" => Ok(StmtError::TooManyRows),
         "Overflow" => Ok(StmtError::Overflow {
-            key: key(alloc, names, piece(pieces, 1))?,
+            key: boxed_key(alloc, names, piece(pieces, 1))?,
         }),
         "Duplicate" => Ok(StmtError::Duplicate {
-            key: key(alloc, names, piece(pieces, 1))?,
+            key: boxed_key(alloc, names, piece(pieces, 1))?,
         }),
         _ => Ok(StmtError::TableFull),
     }

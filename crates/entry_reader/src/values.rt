@@ -8,7 +8,7 @@ use crate::parts::{number, word};
 use crate::pieces::Separator;
 use crate::places::number_in;
 use history_text::Names;
-use seata_types::{Duplicate, List, NoMemory, Row, RowKey, Text, Value};
+use seata_types::{Boxed, Duplicate, List, NoMemory, Row, RowKey, Text, Value};
 use std::alloc::Global;
 
 fn copied(alloc: Global, text: &str) -> Result<Text, NoMemory>
@@ -123,6 +123,13 @@ pub fn key(alloc: Global, names: &Names, text: &[u8]) -> Result<RowKey, NoMemory
     })
 }
 
+/// The same, in a box.
+pub fn boxed_key(alloc: Global, names: &Names, text: &[u8]) -> Result<Boxed<RowKey>, NoMemory>
+    ensures { IfOk result (λ found. found ≡ values.key_of names.now text.now) }
+{
+    Boxed::new(alloc, key(alloc, names, text)?)
+}
+
 /// One key of a lock text: with its table, or of the table of the key before it.
 #[tactic(auto, unfolding(crate::specs::Values::lock_of))]
 fn lock(alloc: Global, resource: u16, table: &Text, text: &[u8]) -> Result<RowKey, NoMemory>
@@ -207,4 +214,11 @@ pub fn option_row(alloc: Global, text: &[u8]) -> Result<Option<Row>, NoMemory>
         return Ok(None);
     }
     Ok(Some(row(alloc, text)?))
+}
+
+/// The same, in a box.
+pub fn boxed_row(alloc: Global, text: &[u8]) -> Result<Boxed<Option<Row>>, NoMemory>
+    ensures { IfOk result (λ found. found ≡ values.option_row_of text.now) }
+{
+    Boxed::new(alloc, option_row(alloc, text)?)
 }

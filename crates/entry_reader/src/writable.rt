@@ -88,7 +88,7 @@ fn is_error(names: &Names, error: &StmtError) -> bool
     ensures { result ≡ spec.is_error names.now error.now }
 {
     match error {
-        StmtError::Overflow { key } | StmtError::Duplicate { key } => is_key(names, key),
+        StmtError::Overflow { key } | StmtError::Duplicate { key } => is_key(names, key.get()),
         StmtError::NoTable
         | StmtError::NoColumn
         | StmtError::Columns
@@ -128,9 +128,9 @@ fn is_act(names: &Names, act: &Act) -> bool
         | Act::Held { key, .. }
         | Act::Busy { key, .. }
         | Act::Blocked { key, .. }
-        | Act::Dirty { key, .. }
         | Act::BusyLocal { key, .. }
         | Act::DroppedLocal { key, .. } => is_key(names, key),
+        Act::Dirty { key, .. } => is_key(names, key.get()),
         Act::Refused { why, .. } | Act::Dropped { why, .. } | Act::RefusedLocal { why, .. } => {
             is_why(names, why)
         }
@@ -230,7 +230,7 @@ fn is_sent(names: &Names, resource: u16, sent: &Option<Sent>) -> bool
     ensures { result ≡ spec.is_sent names.now resource sent.now }
 {
     match sent {
-        Some(sent) => is_place(names, sent.to) && is_note(names, resource, &sent.note),
+        Some(sent) => is_place(names, sent.to) && is_note(names, resource, sent.note.get()),
         None => true,
     }
 }

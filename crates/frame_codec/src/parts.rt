@@ -1,10 +1,21 @@
 //! The parts that messages alone have, taken from fields.
+ghost use Rattle.byte_fields.specs.Reading.{key_at};
 ghost use Rattle.byte_fields.specs.Taking.{Reads};
 ghost use Rattle.frame_codec.specs.Parts.{registered_at, conflict_at, held_at, held_key_at, stmt_error_at, why_at, why_stmt_at, answer_at, busy_at};
 
 use byte_fields::{FieldError, Fields};
-use seata_types::{CallAnswer, Registered, RowKey, StmtError, Why, Xid};
+use seata_types::{Boxed, CallAnswer, NoMemory, Registered, RowKey, StmtError, Why, Xid};
 use std::alloc::Global;
+
+fn boxed_key(alloc: Global, fields: &mut Fields) -> Result<Boxed<RowKey>, FieldError>
+    ensures { Reads key_at fields.old fields.new result }
+{
+    let key = fields.take_key(alloc)?;
+    match Boxed::new(alloc, key) {
+        Ok(key) => Ok(key),
+        Err(NoMemory) => Err(FieldError::NoMemory),
+    }
+}
 
 #[tactic(auto, unfolding(crate::specs::Parts::conflict_at))]
 fn conflict(alloc: Global, fields: &mut Fields) -> Result<Registered, FieldError>
@@ -74,11 +85,11 @@ fn stmt_error(alloc: Global, fields: &mut Fields) -> Result<StmtError, FieldErro
         4 => Ok(StmtError::TypeMismatch),
         5 => Ok(StmtError::TooManyRows),
         6 => {
-            let key = fields.take_key(alloc)?;
+            let key = boxed_key(alloc, fields)?;
             Ok(StmtError::Overflow { key })
         }
         7 => {
-            let key = fields.take_key(alloc)?;
+            let key = boxed_key(alloc, fields)?;
             Ok(StmtError::Duplicate { key })
         }
         8 => Ok(StmtError::TableFull),

@@ -62,11 +62,11 @@ fn put_stmt_error(out: &mut Vec<u8>, error: &StmtError) -> Result<(), NoMemory>
         StmtError::TooManyRows => put_u8(out, 5),
         StmtError::Overflow { key } => {
             put_u8(out, 6)?;
-            put_key(out, key)
+            put_key(out, key.get())
         }
         StmtError::Duplicate { key } => {
             put_u8(out, 7)?;
-            put_key(out, key)
+            put_key(out, key.get())
         }
         StmtError::TableFull => put_u8(out, 8),
     }

@@ -7,7 +7,7 @@ ghost use Rattle.history_audit.specs.Letters.{Notes, with_letter};
 use crate::kept::Letters;
 use history_text::{Cause, Origin, origin_of};
 use judged_devices::Event;
-use seata_types::{Duplicate, Input, NoMemory, Outgoing, Place};
+use seata_types::{Boxed, Duplicate, Input, NoMemory, Outgoing, Place};
 use std::alloc::Global;
 use std::collections::{BTreeMap, BTreeSet};
 
@@ -130,7 +130,7 @@ fn deliver(alloc: Global, from: Place, to: Place, out: &Outgoing) -> Result<Opti
     if out.to != to {
         return Ok(None);
     }
-    let message = out.message.copy(alloc)?;
+    let message = Boxed::new(alloc, out.message.copy(alloc)?)?;
     Ok(Some(Event::Given {
         input: Input::Message { from, message },
     }))

@@ -4,7 +4,7 @@ ghost use Rattle.std.specs.Bool.{Decides};
 ghost use Rattle.history_text.specs.Notes.{sent_of};
 
 use history_text::{Sent, note_of};
-use seata_types::{Duplicate, NoMemory, Outgoing};
+use seata_types::{Boxed, Duplicate, NoMemory, Outgoing};
 use std::alloc::Global;
 
 // A message on its way, as its line shows it.
@@ -14,7 +14,7 @@ fn shown(alloc: Global, out: &Outgoing) -> Result<Sent, NoMemory>
     let message = out.message.copy(alloc)?;
     Ok(Sent {
         to: out.to,
-        note: note_of(message),
+        note: Boxed::new(alloc, note_of(message))?,
     })
 }
 

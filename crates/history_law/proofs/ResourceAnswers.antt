@@ -203,12 +203,12 @@ module _ (s : Setup) (m : Memory) where
         (opening_of next (OfCall man x c (work.At stmts)) (effect_on db stmts)) (OfCall man x c (work.At stmts)) refl (inl refl))
 
     free_call_fits : (man res x c : ℕ) (stmts : List Stmt) → IsNew m (OfCall man x c (work.At stmts)) → (e : Effect) → effect db stmts ≡ Ok e → (busy : Option (RowKey × Ticket)) → busy_row m.opens e ≡ busy
-        → Fits s m (called man res x c (work.At stmts)) (ResourceRules.free_call s rs m.opens next man x c (work.At stmts) e busy)
+        → Fits s m (called man res x c (work.At stmts)) (ResourceRules.free_call s.number next man x c (work.At stmts) e busy)
     free_call_fits man res x c stmts new e means (Some (key, by)) free = (tt, tt)
     free_call_fits man res x c stmts new e means None free = opens_at man res x c stmts new e (ap or_none means) free
 
     new_call_fits : (man res x c : ℕ) (stmts : List Stmt) → IsNew m (OfCall man x c (work.At stmts)) → (r : Result Effect (ℕ × StmtError)) → effect db stmts ≡ r
-        → Fits s m (called man res x c (work.At stmts)) (ResourceRules.new_call s rs m.opens next man x c (work.At stmts) r)
+        → Fits s m (called man res x c (work.At stmts)) (ResourceRules.new_call s.number m.opens next man x c (work.At stmts) r)
     new_call_fits man res x c stmts new (Err (index, error)) means = (tt, tt)
     new_call_fits man res x c stmts new (Ok e) means = free_call_fits man res x c stmts new e means (busy_row m.opens e) refl
 
@@ -267,7 +267,7 @@ module _ (s : Setup) (m : Memory) where
     )
 
     call_fits : (man res x c : ℕ) (w : Work) (b : Option ℕ) → least_branch (ResourceRules.done_for s rs m.opens next x c w) ≡ b → (waits : Option Open) → find (λ o. is_for_call x c o.owner) m.opens ≡ waits
-        → Fits s m (called man res x c w) (ResourceRules.call_answer s rs m.opens next man x c w b waits)
+        → Fits s m (called man res x c w) (ResourceRules.call_answer s.number db m.opens next man x c w b waits)
     call_fits man res x c w (Some b) e waits found = (tt, done_work (called man res x c w) (act.Again (xid_of x) c (branch_of b)) x c w b (least_in (ResourceRules.done_for s rs m.opens next x c w) b e))
     call_fits man res x c w None e (Some o) found = (tt, tt)
     call_fits man res x c (work.At stmts) None e None found = new_call_fits man res x c stmts (is_new man x c stmts e found) (effect db stmts) refl
@@ -293,7 +293,7 @@ module _ (s : Setup) (m : Memory) where
       grants_it o found b = record { from = from; xid = xid; is = ap (λ q. Given (input.Message from (message.RegisterAnswer q xid (registered.Granted (branch_of b))))) (sym (ticket_is o found)) }
 
       at_fits : (o : Open) → open_at m.opens t ≡ Some o → (man x c : ℕ) → IsAtOf x o.owner → call_of o.owner ≡ c → (b : ℕ) (u : Option Undo) → undo_of rs x b ≡ u → (marked : Bool) → is_marked rs x b ≡ marked
-          → Fits s m (answered (registered.Granted (branch_of b))) (ResourceRules.at_granted s rs m.opens next o man x c b u marked)
+          → Fits s m (answered (registered.Granted (branch_of b))) (ResourceRules.at_granted o man x c b u marked)
       at_fits o found man x c at call b (Some u) eu marked em = (tt, tt)
       at_fits o found man x c at call b None eu true em = (tt, tt)
       at_fits o found man x c at call b None eu false em = (
@@ -302,7 +302,7 @@ module _ (s : Setup) (m : Memory) where
       )
 
       try_touched_fits : (o : Open) → open_at m.opens t ≡ Some o → (man x c b : ℕ) (a : Action) → o.owner ≡ OfCall man x c (work.Tcc a) → on_try (fence rs x b) ≡ Runs → (index : Option ℕ)
-          → Fits s m (answered (registered.Granted (branch_of b))) (ResourceRules.try_touched s rs m.opens next o man x c b index)
+          → Fits s m (answered (registered.Granted (branch_of b))) (ResourceRules.try_touched o man x c b index)
       try_touched_fits o found man x c b a owner runs (Some index) = (tt, tt)
       try_touched_fits o found man x c b a owner runs None = (
         record { open_ticket = o; found = ap (λ q. open_at m.opens q) (ticket_is o found) ∙ found; manager = man; call = c; action = a; owner = owner; runs = runs; granted = grants_it o found b },
@@ -310,12 +310,12 @@ module _ (s : Setup) (m : Memory) where
       )
 
       try_fits : (o : Open) → open_at m.opens t ≡ Some o → (man x c b : ℕ) (a : Action) → o.owner ≡ OfCall man x c (work.Tcc a) → on_try (fence rs x b) ≡ Runs → (r : Result Effect (ℕ × StmtError))
-          → Fits s m (answered (registered.Granted (branch_of b))) (ResourceRules.try_meant s rs m.opens next o man x c b r)
+          → Fits s m (answered (registered.Granted (branch_of b))) (ResourceRules.try_meant o man x c b r)
       try_fits o found man x c b a owner runs (Err (index, error)) = (tt, tt)
       try_fits o found man x c b a owner runs (Ok e) = try_touched_fits o found man x c b a owner runs (untouched 1 e.touched)
 
       tcc_fits : (o : Open) → open_at m.opens t ≡ Some o → (man x c b : ℕ) (a : Action) → o.owner ≡ OfCall man x c (work.Tcc a) → (f : FenceAnswer) → on_try (fence rs x b) ≡ f
-          → Fits s m (answered (registered.Granted (branch_of b))) (ResourceRules.tcc_granted s rs m.opens next o man x c b a f)
+          → Fits s m (answered (registered.Granted (branch_of b))) (ResourceRules.tcc_granted o man x c b (effect db a.tries) f)
       tcc_fits o found man x c b a owner Runs e = try_fits o found man x c b a owner e (effect db a.tries)
       tcc_fits o found man x c b a owner WasDone e = (tt, tt)
       tcc_fits o found man x c b a owner Suspends e = (tt, tt)
@@ -328,11 +328,11 @@ module _ (s : Setup) (m : Memory) where
       granted_fits o found (OfCall man x c (work.Tcc a)) is b = tcc_fits o found man x c b a is (on_try (fence rs x b)) refl
       granted_fits o found (OfLocal k) is b = (tt, tt)
 
-      conflict_by : (event : Event) (o : Open) (man x c : ℕ) (holder : Xid) (last : Bool) → nat_le s.tries (o.conflicts + 1) ≡ last → Fits s m event (ResourceRules.conflict_answer s rs m.opens next o man x c holder false)
+      conflict_by : (event : Event) (o : Open) (man x c : ℕ) (holder : Xid) (last : Bool) → nat_le s.tries (o.conflicts + 1) ≡ last → Fits s m event (ResourceRules.conflict_answer s.tries o man x c holder false)
       conflict_by event o man x c holder true e = rw e (tt, tt)
       conflict_by event o man x c holder false e = rw e (tt, tt)
 
-      conflict_fits : (event : Event) (o : Open) (man x c : ℕ) (holder : Xid) (rolling : Bool) → Fits s m event (ResourceRules.conflict_answer s rs m.opens next o man x c holder rolling)
+      conflict_fits : (event : Event) (o : Open) (man x c : ℕ) (holder : Xid) (rolling : Bool) → Fits s m event (ResourceRules.conflict_answer s.tries o man x c holder rolling)
       conflict_fits event o man x c holder true = (tt, tt)
       conflict_fits event o man x c holder false = conflict_by event o man x c holder (nat_le s.tries (o.conflicts + 1)) refl
 
@@ -378,32 +378,32 @@ module _ (s : Setup) (m : Memory) where
       tcc_committed st is done by = record { of_kind = kind.Tcc; asked = asked_commit kind.Tcc; status = is; confirmed = λ k e. by e }
 
       undo_fits : (u : Undo) → undo_of rs x b ≡ Some u → busy_in m.opens (image_keys u.images) ≡ None → (i : Option Image) → dirty_image db u.images ≡ i
-          → Fits s m (rolling kind.At) (ResourceRules.at_undo s rs m.opens next x b i)
+          → Fits s m (rolling kind.At) (ResourceRules.at_undo db x b i)
       undo_fits u eu free (Some i) dirty =
           (record { asked = asked_rollback kind.At; undo = u; found = eu; image = i; dirty = dirty; key_is = refl }, at_rolled branch.PhaseTwoRollbackFailedUnretryable tt _ (λ e. false_true e))
       undo_fits u eu free None dirty =
           (record { asked = asked_rollback kind.At; undo = u; found = eu; free = none_of m.opens (image_keys u.images) free }, at_rolled branch.PhaseTwoRollbacked tt _ (λ e. (refl, refl)))
 
-      record_fits : (u : Undo) → undo_of rs x b ≡ Some u → (busy : Option (RowKey × Ticket)) → busy_in m.opens (image_keys u.images) ≡ busy → Fits s m (rolling kind.At) (ResourceRules.at_record s rs m.opens next x b u busy)
+      record_fits : (u : Undo) → undo_of rs x b ≡ Some u → (busy : Option (RowKey × Ticket)) → busy_in m.opens (image_keys u.images) ≡ busy → Fits s m (rolling kind.At) (ResourceRules.at_record db x b u.images busy)
       record_fits u eu (Some (key, by)) free = (tt, at_rolled branch.PhaseTwoRollbackFailedRetryable tt _ (λ e. false_true e))
       record_fits u eu None free = undo_fits u eu free (dirty_image db u.images) refl
 
-      at_rollback_fits : (marked : Bool) → is_marked rs x b ≡ marked → (u : Option Undo) → undo_of rs x b ≡ u → Fits s m (rolling kind.At) (ResourceRules.at_rollback s rs m.opens next x b marked u)
+      at_rollback_fits : (marked : Bool) → is_marked rs x b ≡ marked → (u : Option Undo) → undo_of rs x b ≡ u → Fits s m (rolling kind.At) (ResourceRules.at_rollback db m.opens x b marked u)
       at_rollback_fits true em u eu = (tt, at_rolled branch.PhaseTwoRollbacked tt _ (λ e. em))
       at_rollback_fits false em None eu = ((asked_rollback kind.At, eu), at_rolled branch.PhaseTwoRollbacked tt _ (λ e. (refl, refl)))
       at_rollback_fits false em (Some u) eu = record_fits u eu (busy_in m.opens (image_keys u.images)) refl
 
-      cancel_fits : on_cancel (fence rs x b) ≡ Runs → (r : Result Effect (ℕ × StmtError)) → Fits s m (rolling kind.Tcc) (ResourceRules.cancel_runs s rs m.opens next x b r)
+      cancel_fits : on_cancel (fence rs x b) ≡ Runs → (r : Result Effect (ℕ × StmtError)) → Fits s m (rolling kind.Tcc) (ResourceRules.cancel_runs x b r)
       cancel_fits runs (Err (index, error)) = (tt, tcc_rolled branch.PhaseTwoRollbackFailedUnretryable tt _ (λ e. false_true e))
       cancel_fits runs (Ok e) = ((asked_rollback kind.Tcc, runs), tcc_rolled branch.PhaseTwoRollbacked tt _ (λ e. (refl, refl)))
 
-      tcc_rollback_fits : (a : Action) (f : FenceAnswer) → on_cancel (fence rs x b) ≡ f → Fits s m (rolling kind.Tcc) (ResourceRules.tcc_rollback s rs m.opens next x b a f)
+      tcc_rollback_fits : (a : Action) (f : FenceAnswer) → on_cancel (fence rs x b) ≡ f → Fits s m (rolling kind.Tcc) (ResourceRules.tcc_rollback x b (effect db a.cancels) f)
       tcc_rollback_fits a WasDone e = (tt, tcc_rolled branch.PhaseTwoRollbacked tt _ (λ q. e))
       tcc_rollback_fits a Refuses e = (inr (asked_rollback kind.Tcc, e), tcc_rolled branch.PhaseTwoRollbackFailedRetryable tt _ (λ q. false_true q))
       tcc_rollback_fits a Suspends e = ((asked_rollback kind.Tcc, e), tcc_rolled branch.PhaseTwoRollbacked tt _ (λ q. (refl, refl)))
       tcc_rollback_fits a Runs e = cancel_fits e (effect db a.cancels)
 
-      rollback_action : (a : Option Action) → Fits s m (rolling kind.Tcc) (ResourceRules.with_action s rs m.opens next (λ a. ResourceRules.tcc_rollback s rs m.opens next x b a (on_cancel (fence rs x b))) a)
+      rollback_action : (a : Option Action) → Fits s m (rolling kind.Tcc) (ResourceRules.with_action (λ a. ResourceRules.tcc_rollback x b (effect db a.cancels) (on_cancel (fence rs x b))) a)
       rollback_action None = (tt, tt)
       rollback_action (Some a) = tcc_rollback_fits a (on_cancel (fence rs x b)) refl
 
@@ -411,15 +411,15 @@ module _ (s : Setup) (m : Memory) where
       on_rollback_fits kind.At = at_rollback_fits (is_marked rs x b) refl (undo_of rs x b) refl
       on_rollback_fits kind.Tcc = rollback_action (action_of s man c)
 
-      at_commit_fits : (u : Option Undo) → undo_of rs x b ≡ u → Fits s m (committing kind.At) (ResourceRules.at_commit s rs m.opens next x b u)
+      at_commit_fits : (u : Option Undo) → undo_of rs x b ≡ u → Fits s m (committing kind.At) (ResourceRules.at_commit x b u)
       at_commit_fits (Some u) eu = ((asked_commit kind.At, ap (λ o. is_some o) eu), at_committed branch.PhaseTwoCommitted tt _)
       at_commit_fits None eu = (tt, at_committed branch.PhaseTwoCommitted tt _)
 
-      confirm_fits : on_confirm (fence rs x b) ≡ Runs → (r : Result Effect (ℕ × StmtError)) → Fits s m (committing kind.Tcc) (ResourceRules.confirm_runs s rs m.opens next x b r)
+      confirm_fits : on_confirm (fence rs x b) ≡ Runs → (r : Result Effect (ℕ × StmtError)) → Fits s m (committing kind.Tcc) (ResourceRules.confirm_runs x b r)
       confirm_fits runs (Err (index, error)) = (tt, tcc_committed branch.PhaseTwoCommitFailedUnretryable tt _ (λ e. false_true e))
       confirm_fits runs (Ok e) = ((asked_commit kind.Tcc, runs), tcc_committed branch.PhaseTwoCommitted tt _ (λ e. (refl, refl)))
 
-      tcc_commit_fits : (a : Action) (f : FenceAnswer) → on_confirm (fence rs x b) ≡ f → Fits s m (committing kind.Tcc) (ResourceRules.tcc_commit s rs m.opens next x b a f)
+      tcc_commit_fits : (a : Action) (f : FenceAnswer) → on_confirm (fence rs x b) ≡ f → Fits s m (committing kind.Tcc) (ResourceRules.tcc_commit x b (effect db a.confirms) f)
       tcc_commit_fits a WasDone e = (tt, tcc_committed branch.PhaseTwoCommitted tt _ (λ q. e))
       tcc_commit_fits a Runs e = confirm_fits e (effect db a.confirms)
       tcc_commit_fits a Refuses e = (inl (asked_commit kind.Tcc, e), tcc_committed branch.PhaseTwoCommitFailedRetryable tt _ (λ q. false_true q))
@@ -441,7 +441,7 @@ module _ (s : Setup) (m : Memory) where
           never (Some Rattle.durable_records.specs.Fences.IsRollbacked) e = refuses e
           never (Some Rattle.durable_records.specs.Fences.IsSuspended) e = refuses e
 
-      commit_action : (a : Option Action) → Fits s m (committing kind.Tcc) (ResourceRules.with_action s rs m.opens next (λ a. ResourceRules.tcc_commit s rs m.opens next x b a (on_confirm (fence rs x b))) a)
+      commit_action : (a : Option Action) → Fits s m (committing kind.Tcc) (ResourceRules.with_action (λ a. ResourceRules.tcc_commit x b (effect db a.confirms) (on_confirm (fence rs x b))) a)
       commit_action None = (tt, tt)
       commit_action (Some a) = tcc_commit_fits a (on_confirm (fence rs x b)) refl
 
@@ -456,7 +456,7 @@ module _ (s : Setup) (m : Memory) where
       told = Given (input.Message from (message.LockAnswer t held))
 
     lock_fits : (t : Ticket) (o : Open) → open_at m.opens t ≡ Some o → (owner : Owner) → o.owner ≡ owner → (held : Option (RowKey × Xid))
-        → Fits s m (told t held) (ResourceRules.lock_answer s rs m.opens next o owner held)
+        → Fits s m (told t held) (ResourceRules.lock_answer o owner held)
     lock_fits t o found (OfCall man x c w) is held = (tt, tt)
     lock_fits t o found (OfLocal k) is (Some (key, holder)) = (tt, tt)
     lock_fits t o found (OfLocal k) is None =
@@ -482,27 +482,27 @@ module _ (s : Setup) (m : Memory) where
     effect_is e means = ap (λ o. effect_on db (or_empty o)) known ∙ ap or_none means
 
     local_free_fits : (e : Effect) → effect db stmts ≡ Ok e → (busy : Option (RowKey × Ticket)) → busy_row m.opens e ≡ busy
-        → Fits s m (Given (input.Local k)) (ResourceRules.local_free s rs m.opens next k e busy)
+        → Fits s m (Given (input.Local k)) (ResourceRules.local_free s.number next k e busy)
     local_free_fits e means (Some (key, by)) free = (tt, tt)
     local_free_fits e means None free =
         subst (λ (f : Effect). Fits s m (Given (input.Local k)) (requests s.number (act.OpenedLocal k next) (opening_of next (OfLocal k) f))) (effect_is e means)
         (request_fits (Given (input.Local k)) (act.OpenedLocal k next) (refl, free_of m.opens next (OfLocal k) e (effect_on db (or_empty (local_of s k))) (effect_is e means) free, tt, refl)
         (opening_of next (OfLocal k) (effect_on db (or_empty (local_of s k)))) (OfLocal k) refl (inl refl))
 
-    local_meant_fits : (r : Result Effect (ℕ × StmtError)) → effect db stmts ≡ r → Fits s m (Given (input.Local k)) (ResourceRules.local_meant s rs m.opens next k r)
+    local_meant_fits : (r : Result Effect (ℕ × StmtError)) → effect db stmts ≡ r → Fits s m (Given (input.Local k)) (ResourceRules.local_meant s.number m.opens next k r)
     local_meant_fits (Err (index, error)) means = (tt, tt)
     local_meant_fits (Ok e) means = local_free_fits e means (busy_row m.opens e) refl
 
-    local_fits : (o : Option Open) → Fits s m (Given (input.Local k)) (ResourceRules.local_answer s rs m.opens next k stmts o)
+    local_fits : (o : Option Open) → Fits s m (Given (input.Local k)) (ResourceRules.local_answer s.number db m.opens next k stmts o)
     local_fits (Some o) = (tt, tt)
     local_fits None = local_meant_fits (effect db stmts) refl
 
     outside_free_fits : (e : Effect) → effect db stmts ≡ Ok e → (busy : Option (RowKey × Ticket)) → busy_row m.opens e ≡ busy
-        → Fits s m (Given (input.Outside k)) (ResourceRules.outside_free s rs m.opens next k busy)
+        → Fits s m (Given (input.Outside k)) (ResourceRules.outside_free k busy)
     outside_free_fits e means (Some (key, by)) free = (tt, tt)
     outside_free_fits e means None free = (images_free m.opens e (effect_on db (or_empty (local_of s k))) (effect_is e means) free, tt)
 
-    outside_meant_fits : (r : Result Effect (ℕ × StmtError)) → effect db stmts ≡ r → Fits s m (Given (input.Outside k)) (ResourceRules.outside_meant s rs m.opens next k r)
+    outside_meant_fits : (r : Result Effect (ℕ × StmtError)) → effect db stmts ≡ r → Fits s m (Given (input.Outside k)) (ResourceRules.outside_meant m.opens k r)
     outside_meant_fits (Err (index, error)) means = (tt, tt)
     outside_meant_fits (Ok e) means = outside_free_fits e means (busy_row m.opens e) refl
 

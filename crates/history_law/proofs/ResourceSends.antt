@@ -189,25 +189,25 @@ module _ (w : World) (past : Past) (s : Setup) (m : Memory) (counted : is_counte
   -- ---- to the manager of a call
 
   module _ (man : ℕ) (at : IsNode w past (place.Man man)) where
-    free_call_goes : (x c : ℕ) (wk : Work) (e : Effect) → AreRows (image_keys e.images) → (busy : Option (RowKey × Ticket)) → StepGoes (ResourceRules.free_call s rs m.opens next man x c wk e busy)
+    free_call_goes : (x c : ℕ) (wk : Work) (e : Effect) → AreRows (image_keys e.images) → (busy : Option (RowKey × Ticket)) → StepGoes (ResourceRules.free_call s.number next man x c wk e busy)
     free_call_goes x c wk e rows (Some (key, by)) = (at, tt, tt)
     free_call_goes x c wk e rows None = request_goes (act.Opened (xid_of x) c next) (opening_of next (OfCall man x c wk) e) (OfCall man x c wk) rows
 
-    new_call_goes : (x c : ℕ) (wk : Work) (r : Result Effect (ℕ × StmtError)) → ((e : Effect) → r ≡ Ok e → AreRows (image_keys e.images)) → StepGoes (ResourceRules.new_call s rs m.opens next man x c wk r)
+    new_call_goes : (x c : ℕ) (wk : Work) (r : Result Effect (ℕ × StmtError)) → ((e : Effect) → r ≡ Ok e → AreRows (image_keys e.images)) → StepGoes (ResourceRules.new_call s.number m.opens next man x c wk r)
     new_call_goes x c wk (Err (index, error)) rows = (at, tt, tt)
     new_call_goes x c wk (Ok e) rows = free_call_goes x c wk e (rows e refl) (busy_row m.opens e)
 
     same_effect : (e f : Effect) (r : Result Effect (ℕ × StmtError)) → r ≡ Ok e → r ≡ Ok f → e ≡ f
     same_effect e f r a b = cc
 
-    meaning_rows : (wk : Work) (e : Effect) → ResourceRules.meaning s rs m.opens next wk ≡ Ok e → AreRows (image_keys e.images)
+    meaning_rows : (wk : Work) (e : Effect) → ResourceRules.meaning (tables_now s m) wk ≡ Ok e → AreRows (image_keys e.images)
     meaning_rows (work.At stmts) e means = effect_named (length w.resources) (tables_now s m) tables_counted stmts e means
-    meaning_rows (work.Tcc a) e means = subst (λ (f : Effect). AreRows (image_keys f.images)) (same_effect no_effect e (ResourceRules.meaning s rs m.opens next (work.Tcc a)) refl means) refl
+    meaning_rows (work.Tcc a) e means = subst (λ (f : Effect). AreRows (image_keys f.images)) (same_effect no_effect e (ResourceRules.meaning (tables_now s m) (work.Tcc a)) refl means) refl
 
-    call_goes : (x c : ℕ) (wk : Work) (b : Option ℕ) (o : Option Open) → StepGoes (ResourceRules.call_answer s rs m.opens next man x c wk b o)
+    call_goes : (x c : ℕ) (wk : Work) (b : Option ℕ) (o : Option Open) → StepGoes (ResourceRules.call_answer s.number (tables_now s m) m.opens next man x c wk b o)
     call_goes x c wk (Some b) o = (at, tt, tt)
     call_goes x c wk None (Some o) = tt
-    call_goes x c wk None None = new_call_goes x c wk (ResourceRules.meaning s rs m.opens next wk) (meaning_rows wk)
+    call_goes x c wk None None = new_call_goes x c wk (ResourceRules.meaning (tables_now s m) wk) (meaning_rows wk)
 
     on_call_goes : (x c : ℕ) (wk : Work) → StepGoes (ResourceRules.on_call s rs m.opens next man x c wk)
     on_call_goes zero c wk = tt
@@ -217,20 +217,20 @@ module _ (w : World) (past : Past) (s : Setup) (m : Memory) (counted : is_counte
     -- ---- after a registration
 
     module _ (o : Open) (x c : ℕ) where
-      at_granted_goes : (b : ℕ) (u : Option Undo) (marked : Bool) → StepGoes (ResourceRules.at_granted s rs m.opens next o man x c b u marked)
+      at_granted_goes : (b : ℕ) (u : Option Undo) (marked : Bool) → StepGoes (ResourceRules.at_granted o man x c b u marked)
       at_granted_goes b (Some u) marked = tt
       at_granted_goes b None true = (at, tt, tt)
       at_granted_goes b None false = (at, tt, tt)
 
-      try_touched_goes : (b : ℕ) (i : Option ℕ) → StepGoes (ResourceRules.try_touched s rs m.opens next o man x c b i)
+      try_touched_goes : (b : ℕ) (i : Option ℕ) → StepGoes (ResourceRules.try_touched o man x c b i)
       try_touched_goes b (Some index) = (at, tt, tt)
       try_touched_goes b None = (at, tt, tt)
 
-      try_meant_goes : (b : ℕ) (r : Result Effect (ℕ × StmtError)) → StepGoes (ResourceRules.try_meant s rs m.opens next o man x c b r)
+      try_meant_goes : (b : ℕ) (r : Result Effect (ℕ × StmtError)) → StepGoes (ResourceRules.try_meant o man x c b r)
       try_meant_goes b (Err (index, error)) = (at, tt, tt)
       try_meant_goes b (Ok e) = try_touched_goes b (untouched 1 e.touched)
 
-      tcc_granted_goes : (b : ℕ) (a : Action) (f : FenceAnswer) → StepGoes (ResourceRules.tcc_granted s rs m.opens next o man x c b a f)
+      tcc_granted_goes : (b : ℕ) (a : Action) (f : FenceAnswer) → StepGoes (ResourceRules.tcc_granted o man x c b (effect (tables_now s m) a.tries) f)
       tcc_granted_goes b a Runs = try_meant_goes b (effect (tables_now s m) a.tries)
       tcc_granted_goes b a WasDone = (at, tt, tt)
       tcc_granted_goes b a Suspends = (at, tt, tt)
@@ -240,11 +240,11 @@ module _ (w : World) (past : Past) (s : Setup) (m : Memory) (counted : is_counte
       granted_goes b (work.At stmts) = at_granted_goes b (undo_of rs x b) (is_marked rs x b)
       granted_goes b (work.Tcc a) = tcc_granted_goes b a (on_try (fence rs x b))
 
-      counted_goes : (b : Bool) → StepGoes (if b then ResourceRules.drops s rs m.opens next o man x c why.Tries else still (act.Conflicted o.ticket (o.conflicts + 1)))
+      counted_goes : (b : Bool) → StepGoes (if b then ResourceRules.drops o man x c why.Tries else still (act.Conflicted o.ticket (o.conflicts + 1)))
       counted_goes true = (at, tt, tt)
       counted_goes false = tt
 
-      conflict_goes : (holder : Xid) (rolling : Bool) → StepGoes (ResourceRules.conflict_answer s rs m.opens next o man x c holder rolling)
+      conflict_goes : (holder : Xid) (rolling : Bool) → StepGoes (ResourceRules.conflict_answer s.tries o man x c holder rolling)
       conflict_goes holder true = (at, tt, tt)
       conflict_goes holder false = counted_goes (nat_le s.tries (o.conflicts + 1))
 
@@ -272,43 +272,43 @@ module _ (w : World) (past : Past) (s : Setup) (m : Memory) (counted : is_counte
   -- ---- the second phase, to the coordinator
 
   module _ (x b : ℕ) where
-    commit_action_goes : (a : Action) (f : FenceAnswer) → StepGoes (ResourceRules.tcc_commit s rs m.opens next x b a f)
+    commit_action_goes : (a : Action) (f : FenceAnswer) → StepGoes (ResourceRules.tcc_commit x b (effect (tables_now s m) a.confirms) f)
     commit_action_goes a WasDone = (tc, tt, tt)
     commit_action_goes a Runs = by (effect (tables_now s m) a.confirms)
       where
-        by : (r : Result Effect (ℕ × StmtError)) → StepGoes (ResourceRules.confirm_runs s rs m.opens next x b r)
+        by : (r : Result Effect (ℕ × StmtError)) → StepGoes (ResourceRules.confirm_runs x b r)
         by (Err (index, error)) = (tc, tt, tt)
         by (Ok e) = (tc, tt, tt)
     commit_action_goes a Suspends = (tc, tt, tt)
     commit_action_goes a Refuses = (tc, tt, tt)
 
-    rollback_action_goes : (a : Action) (f : FenceAnswer) → StepGoes (ResourceRules.tcc_rollback s rs m.opens next x b a f)
+    rollback_action_goes : (a : Action) (f : FenceAnswer) → StepGoes (ResourceRules.tcc_rollback x b (effect (tables_now s m) a.cancels) f)
     rollback_action_goes a WasDone = (tc, tt, tt)
     rollback_action_goes a Refuses = (tc, tt, tt)
     rollback_action_goes a Suspends = (tc, tt, tt)
     rollback_action_goes a Runs = by (effect (tables_now s m) a.cancels)
       where
-        by : (r : Result Effect (ℕ × StmtError)) → StepGoes (ResourceRules.cancel_runs s rs m.opens next x b r)
+        by : (r : Result Effect (ℕ × StmtError)) → StepGoes (ResourceRules.cancel_runs x b r)
         by (Err (index, error)) = (tc, tt, tt)
         by (Ok e) = (tc, tt, tt)
 
-    with_action_goes : (step : Action → Step) → ((a : Action) → StepGoes (step a)) → (a : Option Action) → StepGoes (ResourceRules.with_action s rs m.opens next step a)
+    with_action_goes : (step : Action → Step) → ((a : Action) → StepGoes (step a)) → (a : Option Action) → StepGoes (ResourceRules.with_action step a)
     with_action_goes step each None = tt
     with_action_goes step each (Some a) = each a
 
-    at_commit_goes : (u : Option Undo) → StepGoes (ResourceRules.at_commit s rs m.opens next x b u)
+    at_commit_goes : (u : Option Undo) → StepGoes (ResourceRules.at_commit x b u)
     at_commit_goes (Some u) = (tc, tt, tt)
     at_commit_goes None = (tc, tt, tt)
 
-    undo_goes : (i : Option Image) → StepGoes (ResourceRules.at_undo s rs m.opens next x b i)
+    undo_goes : (i : Option Image) → StepGoes (ResourceRules.at_undo (tables_now s m) x b i)
     undo_goes (Some i) = (tc, tt, tt)
     undo_goes None = (tc, tt, tt)
 
-    record_goes : (u : Undo) (busy : Option (RowKey × Ticket)) → StepGoes (ResourceRules.at_record s rs m.opens next x b u busy)
+    record_goes : (u : Undo) (busy : Option (RowKey × Ticket)) → StepGoes (ResourceRules.at_record (tables_now s m) x b u.images busy)
     record_goes u (Some (key, by)) = (tc, tt, tt)
     record_goes u None = undo_goes (dirty_image (tables_now s m) u.images)
 
-    at_rollback_goes : (marked : Bool) (u : Option Undo) → StepGoes (ResourceRules.at_rollback s rs m.opens next x b marked u)
+    at_rollback_goes : (marked : Bool) (u : Option Undo) → StepGoes (ResourceRules.at_rollback (tables_now s m) m.opens x b marked u)
     at_rollback_goes true u = (tc, tt, tt)
     at_rollback_goes false None = (tc, tt, tt)
     at_rollback_goes false (Some u) = record_goes u (busy_in m.opens (image_keys u.images))
@@ -316,16 +316,16 @@ module _ (w : World) (past : Past) (s : Setup) (m : Memory) (counted : is_counte
     on_commit_goes : (k : BranchKind) (man c : ℕ) → StepGoes (ResourceRules.on_commit s rs m.opens next x b k man c)
     on_commit_goes kind.At man c = at_commit_goes (undo_of rs x b)
     on_commit_goes kind.Tcc man c =
-        with_action_goes (λ a. ResourceRules.tcc_commit s rs m.opens next x b a (on_confirm (fence rs x b))) (λ a. commit_action_goes a (on_confirm (fence rs x b))) (action_of s man c)
+        with_action_goes (λ a. ResourceRules.tcc_commit x b (effect (tables_now s m) a.confirms) (on_confirm (fence rs x b))) (λ a. commit_action_goes a (on_confirm (fence rs x b))) (action_of s man c)
 
     on_rollback_goes : (k : BranchKind) (man c : ℕ) → StepGoes (ResourceRules.on_rollback s rs m.opens next x b k man c)
     on_rollback_goes kind.At man c = at_rollback_goes (is_marked rs x b) (undo_of rs x b)
     on_rollback_goes kind.Tcc man c =
-        with_action_goes (λ a. ResourceRules.tcc_rollback s rs m.opens next x b a (on_cancel (fence rs x b))) (λ a. rollback_action_goes a (on_cancel (fence rs x b))) (action_of s man c)
+        with_action_goes (λ a. ResourceRules.tcc_rollback x b (effect (tables_now s m) a.cancels) (on_cancel (fence rs x b))) (λ a. rollback_action_goes a (on_cancel (fence rs x b))) (action_of s man c)
 
   -- ---- local transactions, outside writes and turns
 
-  lock_goes : (o : Open) (owner : Owner) (held : Option (RowKey × Xid)) → StepGoes (ResourceRules.lock_answer s rs m.opens next o owner held)
+  lock_goes : (o : Open) (owner : Owner) (held : Option (RowKey × Xid)) → StepGoes (ResourceRules.lock_answer o owner held)
   lock_goes o (OfLocal k) (Some (key, holder)) = tt
   lock_goes o (OfLocal k) None = tt
   lock_goes o (OfCall man x c wk) held = tt
@@ -334,15 +334,15 @@ module _ (w : World) (past : Past) (s : Setup) (m : Memory) (counted : is_counte
   on_lock_goes None held = tt
   on_lock_goes (Some o) held = lock_goes o o.owner held
 
-  local_free_goes : (k : ℕ) (e : Effect) → AreRows (image_keys e.images) → (busy : Option (RowKey × Ticket)) → StepGoes (ResourceRules.local_free s rs m.opens next k e busy)
+  local_free_goes : (k : ℕ) (e : Effect) → AreRows (image_keys e.images) → (busy : Option (RowKey × Ticket)) → StepGoes (ResourceRules.local_free s.number next k e busy)
   local_free_goes k e rows (Some (key, by)) = tt
   local_free_goes k e rows None = request_goes (act.OpenedLocal k next) (opening_of next (OfLocal k) e) (OfLocal k) rows
 
-  local_meant_goes : (k : ℕ) (r : Result Effect (ℕ × StmtError)) → ((e : Effect) → r ≡ Ok e → AreRows (image_keys e.images)) → StepGoes (ResourceRules.local_meant s rs m.opens next k r)
+  local_meant_goes : (k : ℕ) (r : Result Effect (ℕ × StmtError)) → ((e : Effect) → r ≡ Ok e → AreRows (image_keys e.images)) → StepGoes (ResourceRules.local_meant s.number m.opens next k r)
   local_meant_goes k (Err (index, error)) rows = tt
   local_meant_goes k (Ok e) rows = local_free_goes k e (rows e refl) (busy_row m.opens e)
 
-  local_goes : (k : ℕ) (stmts : List Stmt) (o : Option Open) → StepGoes (ResourceRules.local_answer s rs m.opens next k stmts o)
+  local_goes : (k : ℕ) (stmts : List Stmt) (o : Option Open) → StepGoes (ResourceRules.local_answer s.number (tables_now s m) m.opens next k stmts o)
   local_goes k stmts (Some o) = tt
   local_goes k stmts None = local_meant_goes k (effect (tables_now s m) stmts) (effect_named (length w.resources) (tables_now s m) tables_counted stmts)
 
@@ -350,11 +350,11 @@ module _ (w : World) (past : Past) (s : Setup) (m : Memory) (counted : is_counte
   on_local_goes k None = tt
   on_local_goes k (Some stmts) = local_goes k stmts (find (λ o. is_for_local k o.owner) m.opens)
 
-  outside_free_goes : (k : ℕ) (busy : Option (RowKey × Ticket)) → StepGoes (ResourceRules.outside_free s rs m.opens next k busy)
+  outside_free_goes : (k : ℕ) (busy : Option (RowKey × Ticket)) → StepGoes (ResourceRules.outside_free k busy)
   outside_free_goes k (Some (key, by)) = tt
   outside_free_goes k None = tt
 
-  outside_goes : (k : ℕ) (r : Result Effect (ℕ × StmtError)) → StepGoes (ResourceRules.outside_meant s rs m.opens next k r)
+  outside_goes : (k : ℕ) (r : Result Effect (ℕ × StmtError)) → StepGoes (ResourceRules.outside_meant m.opens k r)
   outside_goes k (Err (index, error)) = tt
   outside_goes k (Ok e) = outside_free_goes k (busy_row m.opens e)
 

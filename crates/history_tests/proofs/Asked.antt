@@ -1,5 +1,6 @@
 -- What the coordinator of these tests is given can be framed.
-use Rattle.std.proofs.Common.{◌≡◌, ◌<◌, ◌≤◌, ◌^◌, ◌&&◌, ℕ, true, List, [], refl, sym, subst, arith}
+use Rattle.std.proofs.Common.{◌≡◌, ◌<◌, ◌≤◌, ◌^◌, ◌&&◌, ℕ, true, List, [], Result, Ok, Err, refl, sym, subst, arith}
+use Rattle.std.specs.Prelude.{IfOk}
 use Rattle.std.proofs.lemmas.Bool.Decides.{nat_tests}
 use Rattle.std.proofs.lemmas.List.Elements.{All-nil}
 use Rattle.seata_types.specs.declared.ids.BranchId.{BranchId}
@@ -8,6 +9,7 @@ use Rattle.seata_types.specs.declared.ids.Place.TheVariants as place
 use Rattle.seata_types.specs.declared.ids.Ticket.{Ticket}
 use Rattle.seata_types.specs.declared.ids.Xid.{Xid}
 use Rattle.seata_types.specs.declared.limits.TheConstants.{TICKS}
+use Rattle.seata_types.specs.declared.messages.Input.{Input}
 use Rattle.seata_types.specs.declared.messages.Input.TheVariants as input
 use Rattle.seata_types.specs.declared.messages.Message.TheVariants as message
 use Rattle.seata_types.specs.declared.rows.RowKey.{RowKey}
@@ -45,3 +47,8 @@ register_served from xid call ticket kind hold check fits (low, high) known held
       };
       numbers = (refl, refl);
     }))
+
+-- what was asked for is served, unless memory was wanting
+pub served_as : {E : Type 0} (result : Result Input E) (given : Input) → IfOk result (λ g. g ≡ given) → ServesInput 2 1 given → IfOk result (ServesInput 2 1)
+served_as (Ok g) given same served = subst (ServesInput 2 1) (sym same) served
+served_as (Err e) given same served = tt

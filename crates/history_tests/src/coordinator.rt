@@ -91,10 +91,10 @@ fn input(alloc: Global, given: Given) -> Result<Input, Fail>
     ensures { IfOk result (ServesInput 2 1) }
 {
     match given {
-        Given::Begin(manager, timeout) => served::begin(manager, timeout),
-        Given::RollBack(number) => Ok(served::roll_back(number)),
-        Given::Register(number) => Ok(served::register(alloc, number, 1, number)),
-        Given::Second(number) => Ok(served::register(alloc, number, 2, 3)),
+        Given::Begin(manager, timeout) => served::begin(alloc, manager, timeout),
+        Given::RollBack(number) => served::roll_back(alloc, number),
+        Given::Register(number) => served::register(alloc, number, 1, number),
+        Given::Second(number) => served::register(alloc, number, 2, 3),
     }
 }
 

@@ -1,5 +1,5 @@
 //! A registration whose steps and passes are counted. What a count says is in clauses: it takes no bytes when it runs.
-ghost use Rattle.std.specs.Prelude.{◌≡◌, ◌+◌, ◌^◌, ◌<◌, ◌≤◌, ℕ, false, [], length};
+ghost use Rattle.std.specs.Prelude.{◌≡◌, ◌+◌, ◌^◌, ◌<◌, ◌≤◌, ℕ, false, [], length, IfOk};
 ghost use Rattle.seata_types.specs.declared.ids.Place.TheVariants as place;
 ghost use Rattle.seata_types.specs.declared.messages.Input.TheVariants as input;
 ghost use Rattle.seata_types.specs.declared.messages.Message.TheVariants as message;
@@ -16,13 +16,16 @@ use coordinator_core::Coordinator;
 use disk_model::MemDisk;
 use lock_table::Steps;
 use node_steps::Node;
-use seata_types::{BranchKind, Input, List, Message, NodeError, Place, Step, Ticket, Xid};
+use seata_types::{
+    Boxed, BranchKind, Input, List, Message, NoMemory, NodeError, Place, Step, Ticket, Xid,
+};
 use std::alloc::Global;
 use std::sync::ledger::{Blank, Ledger};
 
 /// The registration of transaction 1's first call, of TCC mode and without rows.
-fn registration(alloc: Global) -> Input
-    ensures { result ≡ input.Message (place.Res 1) (message.Register (record { 0 = 1 }) 1 1 (record { boot = 1; seq = 1 }) kind.Tcc [] []) }
+fn registration(alloc: Global) -> Result<Input, NoMemory>
+    ensures { IfOk result (λ given. given ≡
+        input.Message (place.Res 1) (message.Register (record { 0 = 1 }) 1 1 (record { boot = 1; seq = 1 }) kind.Tcc [] [])) }
 {
     let message = Message::Register {
         xid: Xid(1),
@@ -33,10 +36,10 @@ fn registration(alloc: Global) -> Input
         hold: List::of(Vec::new(alloc)),
         check: List::of(Vec::new(alloc)),
     };
-    Input::Message {
+    Ok(Input::Message {
         from: Place::Res(1),
-        message,
-    }
+        message: Boxed::new(alloc, message)?,
+    })
 }
 
 /// Registers it, which takes three look-ups, one pass for transaction 1 and one for each of its branches.
@@ -52,7 +55,10 @@ fn register<L: Ledger, P: Ledger>(
     ensures steps { (d : ℕ) → held_rows (known (sessions_of tc.old)) < 2 ^ d → steps.new ≤ steps.old + 3 }
     ensures passes { passes.new ≤ passes.old + 1 + length (branches_in (known (sessions_of tc.old)) 1) }
 {
-    tc.step_counting_passes(alloc, registration(alloc), 0, steps, passes)
+    match registration(alloc) {
+        Ok(given) => tc.step_counting_passes(alloc, given, 0, steps, passes),
+        Err(NoMemory) => Err(NodeError::NoMemory),
+    }
 }
 
 /// Whether its branch is granted.

@@ -7,8 +7,8 @@ use crate::steps::has_line;
 use manager_core::Manager;
 use node_steps::Node;
 use seata_types::{
-    CallAnswer, Ending, GlobalStatus, Input, List, Message, NoMemory, Place, RowKey, Shared, Text,
-    Ticket, Work, Xid,
+    Boxed, CallAnswer, Ending, GlobalStatus, Input, List, Message, NoMemory, Place, RowKey, Shared,
+    Text, Ticket, Work, Xid,
 };
 use std::alloc::Global;
 
@@ -50,24 +50,27 @@ fn busy(alloc: Global) -> CallAnswer {
     }
 }
 
-fn from_coordinator(message: Message) -> Input {
-    Input::Message {
+fn from_coordinator(alloc: Global, message: Message) -> Result<Input, NoMemory> {
+    Ok(Input::Message {
         from: Place::Tc,
-        message,
-    }
+        message: Boxed::new(alloc, message)?,
+    })
 }
 
-fn input(alloc: Global, given: Given) -> Input {
+fn input(alloc: Global, given: Given) -> Result<Input, NoMemory> {
     match given {
-        Given::Turn => Input::Turn,
-        Given::Begun => from_coordinator(Message::Begun { xid: XID }),
-        Given::Busy(call) => from_coordinator(Message::Answer {
-            xid: XID,
-            call,
-            answer: busy(alloc),
-        }),
+        Given::Turn => Ok(Input::Turn),
+        Given::Begun => from_coordinator(alloc, Message::Begun { xid: XID }),
+        Given::Busy(call) => {
+            let message = Message::Answer {
+                xid: XID,
+                call,
+                answer: busy(alloc),
+            };
+            from_coordinator(alloc, message)
+        }
         Given::RolledBack(status) => {
-            from_coordinator(Message::RollbackStatus { xid: XID, status })
+            from_coordinator(alloc, Message::RollbackStatus { xid: XID, status })
         }
     }
 }
@@ -99,7 +102,8 @@ fn answers(
     if manager.steps_left() == 0 {
         return Err(Fail::Other("no step is left"));
     }
-    let answer = manager.step(alloc, input(alloc, given), 0);
+    let input = input(alloc, given)?;
+    let answer = manager.step(alloc, input, 0);
     has_line(alloc, Place::Man(1), answer, wanted)
 }
 

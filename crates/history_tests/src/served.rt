@@ -15,7 +15,7 @@ use crate::errors::Fail;
 use coordinator_core::Coordinator;
 use disk_model::{MemDisk, MemShelf, Shelf};
 use seata_types::limits::TICKS;
-use seata_types::{BranchKind, Input, List, Message, Place, RowKey, Ticket, Xid};
+use seata_types::{Boxed, BranchKind, Input, List, Message, Place, RowKey, Ticket, Xid};
 use std::alloc::Global;
 
 /// The coordinator on two disks, which asks again after 1000 ticks and forgets nothing.
@@ -44,22 +44,22 @@ pub fn open(alloc: Global) -> Result<Coordinator<MemDisk>, Fail>
     open_on(alloc, first, second)
 }
 
-fn from_manager(number: u16, message: Message) -> Input
-    ensures { result ≡ input.Message (place.Man number) message }
+fn from_manager(alloc: Global, number: u16, message: Message) -> Result<Input, Fail>
+    ensures { IfOk result (λ given. given ≡ input.Message (place.Man number) message) }
 {
-    Input::Message {
+    Ok(Input::Message {
         from: Place::Man(number),
-        message,
-    }
+        message: Boxed::new(alloc, message)?,
+    })
 }
 
-fn from_resource(message: Message) -> Input
-    ensures { result ≡ input.Message (place.Res 1) message }
+fn from_resource(alloc: Global, message: Message) -> Result<Input, Fail>
+    ensures { IfOk result (λ given. given ≡ input.Message (place.Res 1) message) }
 {
-    Input::Message {
+    Ok(Input::Message {
         from: Place::Res(1),
-        message,
-    }
+        message: Boxed::new(alloc, message)?,
+    })
 }
 
 fn xid_of(number: u16) -> Xid
@@ -77,28 +77,28 @@ fn ticket_of(number: u16) -> Ticket
     }
 }
 
-pub fn begin(manager: u16, timeout: u64) -> Result<Input, Fail>
+pub fn begin(alloc: Global, manager: u16, timeout: u64) -> Result<Input, Fail>
     ensures { IfOk result (ServesInput 2 1) }
 {
     if manager < 1 || manager > 2 || timeout < 1 || timeout > TICKS {
         return Err(Fail::Other("no such manager"));
     }
-    Ok(begun(manager, timeout))
+    begun(alloc, manager, timeout)
 }
 
-fn begun(manager: u16, timeout: u64) -> Input
+fn begun(alloc: Global, manager: u16, timeout: u64) -> Result<Input, Fail>
     requires manager { (1 ≤ manager) × (manager ≤ 2) }
     requires timeout { (1 ≤ timeout) × (timeout ≤ TICKS) }
-    ensures { ServesInput 2 1 result }
+    ensures { IfOk result (ServesInput 2 1) }
 {
-    from_manager(manager, Message::Begin { manager, timeout })
+    from_manager(alloc, manager, Message::Begin { manager, timeout })
 }
 
-pub fn roll_back(number: u16) -> Input
-    ensures { ServesInput 2 1 result }
+pub fn roll_back(alloc: Global, number: u16) -> Result<Input, Fail>
+    ensures { IfOk result (ServesInput 2 1) }
 {
     let xid = xid_of(number);
-    from_manager(number, Message::GlobalRollback { xid })
+    from_manager(alloc, number, Message::GlobalRollback { xid })
 }
 
 fn no_rows(alloc: Global) -> List<RowKey>
@@ -108,15 +108,15 @@ fn no_rows(alloc: Global) -> List<RowKey>
 }
 
 /// A registration of this call by this ticket, without rows.
-pub fn register(alloc: Global, number: u16, call: u16, ticket: u16) -> Input
+pub fn register(alloc: Global, number: u16, call: u16, ticket: u16) -> Result<Input, Fail>
     requires { (1 ≤ call) × (call ≤ 2) }
-    ensures { ServesInput 2 1 result }
+    ensures { IfOk result (ServesInput 2 1) }
 {
     let xid = xid_of(number);
     let ticket = ticket_of(ticket);
     let hold = no_rows(alloc);
     let check = no_rows(alloc);
-    from_resource(Message::Register {
+    let message = Message::Register {
         xid,
         resource: 1,
         call,
@@ -124,5 +124,6 @@ pub fn register(alloc: Global, number: u16, call: u16, ticket: u16) -> Input
         kind: BranchKind::At,
         hold,
         check,
-    })
+    };
+    from_resource(alloc, message)
 }

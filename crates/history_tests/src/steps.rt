@@ -5,30 +5,30 @@ ghost use Rattle.seata_types.specs.declared.messages.Input.{Input as Given};
 use crate::errors::Fail;
 use history_text::{Cause, Entry, Names, Sent, note_of, write_entry};
 use node_steps::Node;
-use seata_types::{Input, List, NoMemory, NodeError, Outgoing, Place, Step};
+use seata_types::{Boxed, Input, List, NoMemory, NodeError, Outgoing, Place, Step};
 use std::alloc::Global;
 
-fn sent_of(sent: Option<Outgoing>) -> Option<Sent> {
+fn sent_of(alloc: Global, sent: Option<Outgoing>) -> Result<Option<Sent>, NoMemory> {
     match sent {
-        Some(Outgoing { to, message }) => Some(Sent {
+        Some(Outgoing { to, message }) => Ok(Some(Sent {
             to,
-            note: note_of(message),
-        }),
-        None => None,
+            note: Boxed::new(alloc, note_of(message))?,
+        })),
+        None => Ok(None),
     }
 }
 
-fn entry_of(place: Place, step: Step) -> Entry {
+fn entry_of(alloc: Global, place: Place, step: Step) -> Result<Entry, NoMemory> {
     let Step { act, sent } = step;
-    let sent = sent_of(sent);
-    Entry {
+    let sent = sent_of(alloc, sent)?;
+    Ok(Entry {
         stamp: 1,
         place,
         now: 0,
         cause: Cause::Turn,
         act,
         sent,
-    }
+    })
 }
 
 /// The line of a step at a place, as the first entry, at moment 0.
@@ -37,7 +37,7 @@ fn line_of(alloc: Global, place: Place, step: Step) -> Result<String, NoMemory> 
         resources: List::of(Vec::new(alloc)),
         managers: List::of(Vec::new(alloc)),
     };
-    let entry = entry_of(place, step);
+    let entry = entry_of(alloc, place, step)?;
     let line = write_entry(alloc, &entry, &names);
     drop(entry);
     line

@@ -97,7 +97,7 @@ pub(crate) fn add_act(out: &mut String, act: &Act, names: &Names) -> Result<(), 
             now,
         } => {
             add_word_leg(out, "dirty ", *xid, *branch)?;
-            add_change(out, key, after, now, names)
+            add_change(out, key.get(), after.get(), now.get(), names)
         }
         Act::Already { xid, branch } => add_word_leg(out, "already ", *xid, *branch),
         Act::Unfenced { xid, branch } => add_word_leg(out, "unfenced ", *xid, *branch),

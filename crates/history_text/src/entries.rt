@@ -1,6 +1,6 @@
 //! The entries of a history, as they are printed.
 use crate::notes::Note;
-use seata_types::{Act, List, Place, Text};
+use seata_types::{Act, Boxed, List, Place, Text};
 
 /// What brought an entry about. `Missing` is the delivery of a message that isn't there; `Local` and
 /// `Outside` give a resource the scenario's local transaction of that number, counted from 1.
@@ -21,7 +21,7 @@ pub enum Cause {
 #[derive(Drop, PartialEq, Eq)]
 pub struct Sent {
     pub to: Place,
-    pub note: Note,
+    pub note: Boxed<Note>,
 }
 
 /// One event at one place: its number, where and when, why, what was done and what was sent.

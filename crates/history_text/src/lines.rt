@@ -134,7 +134,7 @@ fn add_sent(out: &mut String, sent: &Option<Sent>, names: &Names) -> Result<(), 
 {
     match sent {
         Some(sent) => {
-            add_note(out, &sent.note, names)?;
+            add_note(out, sent.note.get(), names)?;
             out.push_str(" to ")?;
             add_place(out, sent.to, names)
         }

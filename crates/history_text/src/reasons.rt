@@ -25,11 +25,11 @@ pub(crate) fn add_error(
         StmtError::TooManyRows => out.push_str("TooManyRows"),
         StmtError::Overflow { key } => {
             out.push_str("Overflow ")?;
-            add_key(out, key, names)
+            add_key(out, key.get(), names)
         }
         StmtError::Duplicate { key } => {
             out.push_str("Duplicate ")?;
-            add_key(out, key, names)
+            add_key(out, key.get(), names)
         }
         StmtError::TableFull => out.push_str("TableFull"),
     }

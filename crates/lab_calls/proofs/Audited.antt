@@ -3,23 +3,17 @@ use Rattle.std.proofs.Common.{◌≡◌, ◌⊎◌, ◌∙◌, inr, ◌+◌, ◌
 use Rattle.std.specs.Io.KnownBytes.{Consumes, IsAtEnd}
 use Rattle.disk_model.specs.Disk.{Rose}
 use Rattle.seata_types.specs.declared.limits.TheConstants.{HISTORY_BYTES}
-use Rattle.history_rules.specs.Chains.{IsBlankPast}
-use Rattle.history_rules.specs.Nodes.{no_past}
 use Rattle.history_text.specs.Report.{line}
-use Rattle.history_text.specs.Worlds.{world_of}
 use Rattle.report_judge.specs.Judging.{Judges}
 use Rattle.report_judge.specs.declared.judgements.Judgement.{Judgement}
 use Rattle.report_judge.specs.declared.judgements.Judgement.TheVariants as judgement
-use Rattle.report_judge.specs.Lines.{first_line}
 use Rattle.report_judge.proofs.Found.{is_safe}
 use Rattle.report_judge.proofs.Whole.{judges_whole}
-use Rattle.replay_runner.proofs.Safe.{run_is_safe, safe_alone}
-use Rattle.scenario_reader.proofs.RunnableFacts.{given}
 use Rattle.lab_calls.specs.declared.answers.Answer.{Answer}
 use Rattle.lab_calls.specs.declared.tasks.Task.{Task}
 use Rattle.lab_calls.specs.declared.tasks.Task.TheVariants as task
 use Rattle.lab_calls.specs.Answers.{is_among}
-use Rattle.lab_calls.specs.Auditing.{AuditsOnce, IsJudged, IsSafeReport, audit_statuses, judgement_status, judgement_text}
+use Rattle.lab_calls.specs.Auditing.{AuditsOnce, IsJudged, audit_statuses, judgement_status, judgement_text}
 use Rattle.lab_calls.specs.Steps.{AnswersInput, WritesAnswer}
 use Rattle.lab_calls.specs.Streams.{Devices, SourceState}
 use Rattle.lab_calls.proofs.Concluded.{AreTexts, calm, concluded, input_of}
@@ -81,21 +75,6 @@ legal_of input (judgement.Unreadable n) zero j = absurd (omega (arith, zero))
 legal_of input (judgement.Illegal n broken) zero j = absurd (omega (arith, zero))
 legal_of input judgement.IllegalReport zero j = absurd (omega (arith, zero))
 
-blank : IsBlankPast no_past
-blank = record { sessions = refl; resources = λ n. (0, refl) }
-
-safe_report : (input : List ℕ) → Judges input judgement.Legal → IsSafeReport input
-safe_report input j =
-    let r = is_safe input j in
-    let runs = given (first_line input) r.scenario r.is_scenario in record {
-      scenario = r.scenario;
-      is_scenario = r.is_scenario;
-      history = r.history;
-      legal = r.legal;
-      is_report = r.text;
-      safe = safe_alone (world_of r.scenario) no_past r.history blank (run_is_safe r.scenario no_past r.history runs r.legal);
-    }
-
 -- ---- the call
 
 pub audited_once : (status : ℕ) (old new : Devices) (answer : Result Answer ℕ) → AnswersInput HISTORY_BYTES IsJudged audit_statuses old.source new.source answer → WritesAnswer answer status old.sink new.sink
@@ -107,7 +86,7 @@ audited_once status old new answer read wrote =
       safe = λ zero input told.
           let w = t.written (rw zero refl) input told in
           let j = w.is_answer in
-          safe_report input (legal_of input j.found (sym j.status_is ∙ zero) j.judges);
+          is_safe input (legal_of input j.found (sym j.status_is ∙ zero) j.judges);
       cut_short = λ five input told. let w = t.front five input told in record { read_to_end = w.read; text = w.text; status = w.status; judged = w.is_answer; printed = w.printed };
       complete = λ still. calm HISTORY_BYTES IsJudged audit_statuses status old new t still;
       faults = t.faults;

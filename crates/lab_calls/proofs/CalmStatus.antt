@@ -1,15 +1,12 @@
 -- The status of a replay or a run where no device fails.
-use Rattle.std.proofs.Common.{◌≡◌, ◌⊎◌, inl, inr, ◌||◌, ℕ, nat_eq, Bool, true, false, List, [], ◌∷◌, Some, Result, Ok, Err, refl, ap, sym, subst, ◌∙◌, arith}
+use Rattle.std.proofs.Common.{◌≡◌, ◌⊎◌, inl, inr, ◌||◌, ℕ, nat_eq, Bool, true, false, List, [], ◌∷◌, Some, Result, Ok, Err, refl, sym, subst, arith}
 use Rattle.std.proofs.lemmas.Bool.Decides.{nat_tests}
-use Rattle.std.proofs.lemmas.Option.{same_Some}
 use Rattle.disk_model.specs.Disk.{DiskState}
 use Rattle.disk_model.specs.Shelf.{ShelfState}
 use Rattle.std.specs.List.{AllByRecursion}
 use Rattle.history_rules.specs.Nodes.{Role, Coordinator, Resource, Manager}
-use Rattle.scenario_reader.specs.declared.errors.ScenarioError.{ScenarioError}
 use Rattle.scenario_form.specs.declared.scenarios.Scenario.{Scenario}
-use Rattle.scenario_reader.specs.Form.{scenario_of}
-use Rattle.scenario_reader.specs.Reading.{IsJson, IsScenario, IsScenarioOf, with_base}
+use Rattle.scenario_reader.specs.Reading.{IsScenario, with_base}
 use Rattle.node_seat.specs.declared.faults.RunFault.{RunFault}
 use Rattle.node_seat.specs.declared.faults.RunFault.TheVariants as run_fault
 use Rattle.scenario_nodes.specs.Nodes.{Held, HoldAll, Holds, Server, StandAs, server_names, servers_of}
@@ -17,6 +14,7 @@ use Rattle.scenario_nodes.specs.Shelves.{AreNext}
 use Rattle.scenario_nodes.specs.Together.{IsOfOne}
 use Rattle.replay_runner.specs.Leaving.{IsCalmEnd, IsCalmShelf, Showing}
 use Rattle.replay_runner.proofs.Calm.{NeverDamaged}
+use Rattle.report_judge.proofs.OneScenario.{same_form}
 use Rattle.lab_calls.specs.declared.played.Played.{Played}
 use Rattle.lab_calls.specs.Answers.{IsEndText, Plays, TellsPlay, is_calm_end, is_end}
 use Rattle.lab_calls.specs.Kept.{EndsKept, IsCalmNet}
@@ -26,20 +24,9 @@ use Rattle.lab_calls.proofs.Kept.{kept_calmly}
 
 -- ---- an input is no other scenario, but for the text under which it is kept
 
-abbrev scenario_in : (other : Scenario) → Result Scenario ScenarioError → Scenario
-scenario_in other (Ok s) = s
-scenario_in other (Err e) = other
-
-pub same_form : (input : List ℕ) (r s : Scenario) → IsScenario input r → IsScenario input s → with_base [] r ≡ with_base [] s
-unfolding IsScenario IsScenarioOf IsJson
-same_form input r s a b =
-    let known : a.1 ≡ b.1 = same_Some a.1 b.1 (sym a.2.1 ∙ b.2.1) in
-    ap (scenario_in r) (sym a.3.0 ∙ ap scenario_of known ∙ b.3.0)
-
 pub calm_of : {D : Type 0} (state : D → DiskState) (before after : ShelfState D) (r s : Scenario) → with_base [] r ≡ with_base [] s → IsCalmShelf state s before after → IsCalmShelf state r before after
 calm_of state before after r s same calm = record {
   tells = calm.tells;
-  told = calm.told;
   shelf = calm.shelf;
   disks = λ name disk is given. calm.disks name disk (subst (λ (v : Scenario). IsOfOne (server_names v) name) same is) given;
 }

@@ -10,7 +10,6 @@ use Rattle.history_text.specs.History.{IsRun}
 use Rattle.node_seat.specs.declared.faults.RunFault.{RunFault}
 use Rattle.node_seat.specs.declared.faults.RunFault.TheVariants as run_fault
 use Rattle.scenario_nodes.specs.Nodes.{Held, HoldAll}
-use Rattle.scenario_nodes.specs.Shelves.{AllTell}
 use Rattle.replay_runner.specs.Leaving as replayed
 use Rattle.replay_runner.specs.Leaving.{GivesBack, Showing}
 use Rattle.thread_runner.specs.Running as ran
@@ -34,7 +33,7 @@ no_fault_is_done run_fault.NoMemory e = omega (arith, e)
 -- a text of status 0 is a report
 abbrev pub IsReportOf : {D : Type 0} (Shows : Scenario → Held → Showing) (IsHistory : Scenario → Past → List Moment → Type 0) → (D → DiskState) → Type 1
 IsReportOf Shows IsHistory state =
-    (old new : ShelfState _) (s : Scenario) (text : List ℕ) (p : Played) (g : GivesBack (Shows s) state old new s (Ok p.history)) → IsReadOn state old s p.before → IsReportOver s p text → AllTell state
+    (old new : ShelfState _) (s : Scenario) (text : List ℕ) (p : Played) (g : GivesBack (Shows s) state old new s (Ok p.history)) → IsReadOn state old s p.before → IsReportOver s p text
     → (held : Held) → HoldAll state old s held → Reported IsHistory state s held g.disks text
 
 module _ {D S : Type 0} (Shows : Scenario → Held → Showing) (IsHistory : Scenario → Past → List Moment → Type 0) (state : D → DiskState) (seen : S → ShelfState D) (reported : IsReportOf Shows IsHistory state) (old new : S) where
@@ -57,13 +56,13 @@ module _ {D S : Type 0} (Shows : Scenario → Held → Showing) (IsHistory : Sce
 -- ---- the report of a replay, and of a run
 
 pub replay_reported : {D : Type 0} (state : D → DiskState) → IsReportOf replayed.Leaves IsRun state
-replay_reported state old new s text p g read report all held holds =
-    let d = g.leaves all held holds in
+replay_reported state old new s text p g read report held holds =
+    let d = g.leaves held holds in
     record {
       history = d.history;
       is_run = d.is_run;
       is_safe = d.safe;
-      is_report = report held.past d.history (read all held holds) d.is_run.legal (sym d.printed);
+      is_report = report held.past d.history (read held holds) d.is_run.legal (sym d.printed);
       fits = d.fits;
       device = d.device;
       laid = d.laid;
@@ -71,13 +70,13 @@ replay_reported state old new s text p g read report all held holds =
     }
 
 pub run_reported : {D : Type 0} (state : D → DiskState) → IsReportOf ran.Leaves IsRunOf state
-run_reported state old new s text p g read report all held holds =
-    let d = g.leaves all held holds in
+run_reported state old new s text p g read report held holds =
+    let d = g.leaves held holds in
     record {
       history = d.history;
       is_run = d.is_run;
       is_safe = d.safe;
-      is_report = report held.past d.history (read all held holds) d.is_run.legal (sym d.printed);
+      is_report = report held.past d.history (read held holds) d.is_run.legal (sym d.printed);
       fits = d.fits;
       device = d.device;
       laid = d.laid;

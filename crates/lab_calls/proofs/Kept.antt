@@ -3,7 +3,6 @@ use Rattle.std.proofs.Common.{◌≡◌, ◌⊎◌, ⊎_elim, inl, inr, ◌+◌,
 use Rattle.std.specs.List.{AllByRecursion}
 use Rattle.disk_model.specs.Disk.{DiskState, Rose}
 use Rattle.disk_model.specs.Shelf.{KeepsOthers, SameUnder, ShelfState}
-use Rattle.disk_model.proofs.Taken.{next_since}
 use Rattle.seata_types.specs.declared.limits.TheConstants.{BODY_BYTES, SCENARIO_DISK}
 use Rattle.seata_types.specs.declared.errors.Full.{Full}
 use Rattle.seata_types.specs.declared.ids.Place.{Place}
@@ -20,9 +19,9 @@ use Rattle.node_seat.specs.declared.faults.RunFault.TheVariants as run_fault
 use Rattle.scenario_nodes.specs.Nodes.{Held, HoldAll, Holds, Server, coordinator_server, none_held, resource_server, servers_of}
 use Rattle.scenario_nodes.specs.Opening.{AreNotOpened, IsShelfFault}
 use Rattle.scenario_nodes.specs.Reading.{HoldStill, IsReadFault, IsSound}
-use Rattle.scenario_nodes.specs.Shelves.{AllTell, IsDiskName, IsGivenIn, second_name}
+use Rattle.scenario_nodes.specs.Shelves.{IsDiskName, IsGivenIn, second_name}
 use Rattle.scenario_nodes.specs.Together.{IsOfOne, numbered}
-use Rattle.scenario_nodes.proofs.Returned.{are_next_since, still}
+use Rattle.scenario_nodes.proofs.Returned.{are_next_since, is_next_since, still}
 use Rattle.scenario_nodes.proofs.Together.{all_behind}
 use Rattle.replay_runner.specs.Leaving.{IsCalmEnd, IsCalmShelf, IsServerDisk, Showing}
 use Rattle.replay_runner.proofs.Calm.{NeverDamaged}
@@ -60,9 +59,9 @@ module _ {D : Type 0} (state : D → DiskState) (s : Scenario) (old mid : ShelfS
   )
 
   sound_before : ((n : List ℕ) → IsServerDisk s n → SameUnder n old mid) → AllSound state mid s → AllSound state old s
-  sound_before same sound all held = (
-    one_sound (coordinator_server s held) (λ n its. same n (inl its)) (sound all held).0,
-    resources_sound held 1 s.resources (λ n its. same n (inr its)) (sound all held).1,
+  sound_before same sound held = (
+    one_sound (coordinator_server s held) (λ n its. same n (inl its)) (sound held).0,
+    resources_sound held 1 s.resources (λ n its. same n (inr its)) (sound held).1,
   )
 
 module _ {D S : Type 0} (Shows : Held → Showing) (state : D → DiskState) (seen : S → ShelfState D) (s : Scenario) where
@@ -83,7 +82,7 @@ module _ {D S : Type 0} (Shows : Held → Showing) (state : D → DiskState) (se
     pub done_kept : (p : Played) → (k : PlaysKept Shows state seen old new s (Ok p)) → EndsOver Shows state seen old new s (Ok p)
     done_kept p k = (
       given_over (λ n. n ≡ net_name) Shows state s (seen old) (seen k.between) (seen new) (Ok p.history) k.still k.kept.keeps k.ends.0,
-      λ all held had. k.ends.1 all held (k.still all held had),
+      λ held had. k.ends.1 held (k.still held had),
       sound_before state s (seen old) (seen k.between) k.same k.ends.2,
     )
 
@@ -98,9 +97,9 @@ module _ {D S : Type 0} (Shows : Held → Showing) (state : D → DiskState) (se
           disk = b.disk;
           back = given_still (IsServerDisk s) (seen old) mid (seen new) net_name b.disk k.stays k.keeps b.back;
           whole = b.whole;
-          next = λ all told.
-              let h = k.kept.kept all told in
-              record { bytes = h.bytes; next = next_since state (mid.given_back net_name) ((seen new).given_back net_name) SCENARIO_DISK k.stays h.bytes h.next; stand = h.stand };
+          next = λ content told.
+              let h = b.kept content told in
+              record { bytes = h.bytes; next = is_next_since state SCENARIO_DISK net_name h.bytes mid (seen new) k.stays h.next; stand = h.stand };
         }
         by (inr n) = absurd (let no : Ok tt ≡ Err n.missed = n.is in cc)
 
@@ -110,7 +109,7 @@ abbrev fault_in : Result (Unit {0}) RunFault → RunFault
 fault_in (Ok done) = run_fault.NoMemory
 fault_in (Err missed) = missed
 
-module _ {D : Type 0} (state : D → DiskState) (text : List ℕ) (old new : ShelfState D) (told : AllTell state) (tells : IsTrue new.tells) (shelf : ¬ Rose old.faults new.faults) (calm : IsCalmNet state old new text) where
+module _ {D : Type 0} (state : D → DiskState) (text : List ℕ) (old new : ShelfState D) (tells : IsTrue new.tells) (shelf : ¬ Rose old.faults new.faults) (calm : IsCalmNet state old new text) where
   no_fault : (at : _) → IsNetBack state text old new (Err (run_fault.Store at)) ⊎ IsNoNet old new (Err (run_fault.Store at)) → ⊥
   no_fault at (inl b) = let none = calm.disks b.disk (b.back.back.given tells) in let some = b.cause.1 in omega (arith, none, some)
   no_fault at (inr n) = not_had n.missed (ap fault_in n.is) n.cause
@@ -125,57 +124,56 @@ module _ {D : Type 0} (state : D → DiskState) (text : List ℕ) (old new : She
   unkept_calmly : (missed : RunFault) → KeepsBase state text old new (Err missed) → IsCalmEnd (Err missed)
   unkept_calmly (run_fault.Store at) k = no_fault at k.net
   unkept_calmly (run_fault.Full at full) k = tt
-  unkept_calmly (run_fault.Damaged at second offset) k = k.answers told calm.records calm.holds
-  unkept_calmly run_fault.Other k = k.answers told calm.records calm.holds calm.front
+  unkept_calmly (run_fault.Damaged at second offset) k = k.answers calm.records calm.holds
+  unkept_calmly run_fault.Other k = k.answers calm.records calm.holds calm.front
   unkept_calmly run_fault.NoMemory k = tt
 
 module _ {D S : Type 0} (Shows : Held → Showing) (state : D → DiskState) (seen : S → ShelfState D) (s : Scenario) (old new : S) (held : Held) (never : NeverDamaged (Shows held)) (holds : HoldAll state (seen old) s held) where
   pub kept_calmly : (ended : Result Played RunFault) → EndsKept Shows state seen old new s ended → (seen new).tells ≡ (seen old).tells → IsCalmShelf state s (seen old) (seen new) → IsCalmNet state (seen old) (seen new) s.base
       → IsCalmEnd (entries_of ended)
   kept_calmly ended (inl k) same calm net =
-      over_calmly Shows state seen s k.between new held never (k.still calm.told held holds) k.keeps.tells ended k.ends
+      over_calmly Shows state seen s k.between new held never (k.still held holds) k.keeps.tells ended k.ends
       (record {
         tells = still (seen old).tells (seen k.between).tells k.kept.keeps.tells calm.tells;
-        told = calm.told;
         shelf = λ rose. calm.shelf (let faults = k.kept.keeps.faults in omega (arith, rose, faults));
         disks = calm.disks;
       })
   kept_calmly (Ok p) (inr none) same calm net = absurd none
-  kept_calmly (Err missed) (inr u) same calm net = unkept_calmly state s.base (seen old) (seen new) calm.told (still (seen old).tells (seen new).tells same calm.tells) calm.shelf net missed u
+  kept_calmly (Err missed) (inr u) same calm net = unkept_calmly state s.base (seen old) (seen new) (still (seen old).tells (seen new).tells same calm.tells) calm.shelf net missed u
 
 -- ---- the records that it held
 
 -- disks that hold the records of their nodes are of no other scenario
-module _ {D : Type 0} (state : D → DiskState) (all : AllTell state) (s : Scenario) (held : Held) (old new : ShelfState D) (holds : HoldAll state old s held) where
+module _ {D : Type 0} (state : D → DiskState) (s : Scenario) (held : Held) (old new : ShelfState D) (holds : HoldAll state old s held) where
   holds_at : (before behind servers : List Server) (v : Server) → servers ≡ before ++ v ∷ behind → AllByRecursion (Holds state old s) servers → Holds state old s v
   holds_at before behind servers v is each = (all_behind (Holds state old s) before (v ∷ behind) (subst (AllByRecursion (Holds state old s)) is each)).0
 
   not_other : AreNotOpened state s (servers_of s held) old new run_fault.Other → ⊥
-  not_other (inl t) = ⊎_elim (λ n. n.cause) (λ b. b.shows.cause all (holds_at t.before t.behind (servers_of s held) t.server t.all holds)) t.refused
-  not_other (inr t) = (t.refused.unopened all (holds_at t.before t.behind (servers_of s held) t.server t.all holds)).cause
+  not_other (inl t) = ⊎_elim (λ n. n.cause) (λ b. b.shows.cause (holds_at t.before t.behind (servers_of s held) t.server t.all holds)) t.refused
+  not_other (inr t) = (t.refused.unopened (holds_at t.before t.behind (servers_of s held) t.server t.all holds)).cause
 
-module _ {D S : Type 0} (Shows : Held → Showing) (state : D → DiskState) (seen : S → ShelfState D) (s : Scenario) (all : AllTell state) (held : Held) (never : NeverDamaged (Shows held)) where
+module _ {D S : Type 0} (Shows : Held → Showing) (state : D → DiskState) (seen : S → ShelfState D) (s : Scenario) (held : Held) (never : NeverDamaged (Shows held)) where
   pub never_other : (old new : S) → HoldAll state (seen old) s held → EndsOver Shows state seen old new s (Err run_fault.Other) → ⊥
-  never_other old new holds (inl g) = never.other _ (g.0.leaves all held holds)
+  never_other old new holds (inl g) = never.other _ (g.0.leaves held holds)
   never_other old new holds (inr (inl u)) = u.cause held
-  never_other old new holds (inr (inr n)) = not_other state all s held (seen n.between) (seen new) (n.still all held holds) (n.refused held)
+  never_other old new holds (inr (inr n)) = not_other state s held (seen n.between) (seen new) (n.still held holds) (n.refused held)
 
   module _ (old new : S) (holds : HoldAll state (seen old) s held) (records : List (List ℕ)) (had : HoldsBase state (seen old) records) where
     kept_base : (ended : Result Played RunFault) (text : List ℕ) (n : ℕ) → PlaysKept Shows state seen old new s ended → IsEndText s ended text n → TellsBase n s.base records
-    kept_base (Ok p) text n k t = record { front = λ _. k.kept.answers all records had; other = λ three. absurd (let zero = t.0 in omega (arith, zero, three)) }
-    kept_base (Err missed) text n k t = record { front = λ _. k.kept.answers all records had; other = λ three. by missed k.ends (sym t.1 ∙ three) }
+    kept_base (Ok p) text n k t = record { front = λ _. k.kept.answers records had; other = λ three. absurd (let zero = t.0 in omega (arith, zero, three)) }
+    kept_base (Err missed) text n k t = record { front = λ _. k.kept.answers records had; other = λ three. by missed k.ends (sym t.1 ∙ three) }
       where
         by : (why : RunFault) → EndsOver Shows state seen k.between new s (Err why) → status_of why ≡ 3 → IsFront BODY_BYTES records s.base → ⊥
-        by run_fault.Other ends three front = never_other k.between new (k.still all held holds) ends
+        by run_fault.Other ends three front = never_other k.between new (k.still held holds) ends
         by (run_fault.Store at) ends three front = cc
         by (run_fault.Full at full) ends three front = cc
         by (run_fault.Damaged at second offset) ends three front = cc
         by run_fault.NoMemory ends three front = cc
 
     unkept_base : (missed : RunFault) (text : List ℕ) (n : ℕ) → KeepsBase state s.base (seen old) (seen new) (Err missed) → IsEndText s (Err missed) text n → TellsBase n s.base records
-    unkept_base (run_fault.Full at full) text n k t = record { front = λ _. k.answers all records had; other = λ three. absurd (let eight = t.1 in omega (arith, eight, three)) }
-    unkept_base (run_fault.Damaged at second offset) text n k t = absurd (k.answers all records had)
-    unkept_base run_fault.Other text n k t = record { front = λ known. false_true (rw t.1 at known); other = λ _. k.answers all records had }
+    unkept_base (run_fault.Full at full) text n k t = record { front = λ _. k.answers records had; other = λ three. absurd (let eight = t.1 in omega (arith, eight, three)) }
+    unkept_base (run_fault.Damaged at second offset) text n k t = absurd (k.answers records had)
+    unkept_base run_fault.Other text n k t = record { front = λ known. false_true (rw t.1 at known); other = λ _. k.answers records had }
     unkept_base (run_fault.Store at) text n k t = record { front = λ known. false_true (rw t.1 at known); other = λ three. absurd (let seven = t.1 in omega (arith, seven, three)) }
     unkept_base run_fault.NoMemory text n k t = absurd (t.0 refl)
 
@@ -194,7 +192,7 @@ read_never servers (run_fault.Damaged at second offset) cause known = false_true
 read_never servers run_fault.Other cause known = cause
 read_never servers run_fault.NoMemory cause known = false_true known
 
-module _ {D S : Type 0} (Shows : Held → Showing) (state : D → DiskState) (seen : S → ShelfState D) (s : Scenario) (all : AllTell state) where
+module _ {D S : Type 0} (Shows : Held → Showing) (state : D → DiskState) (seen : S → ShelfState D) (s : Scenario) where
   over_sound : (old new : S) (ended : Result Played RunFault) → EndsOver Shows state seen old new s ended → is_among (0 ∷ 3 ∷ 8 ∷ []) (ended_status ended) ≡ true → AllSound state (seen old) s
   over_sound old new (Ok p) ends known = ends.2
   over_sound old new (Err missed) (inl g) known = g.1
@@ -209,7 +207,7 @@ module _ {D S : Type 0} (Shows : Held → Showing) (state : D → DiskState) (se
     kept_sound : (ended : Result Played RunFault) (text : List ℕ) (n : ℕ) → PlaysKept Shows state seen old new s ended → IsEndText s ended text n → is_among (0 ∷ 3 ∷ 8 ∷ []) n ≡ true
         → TellsSound state (seen old) n s
     kept_sound ended text n k t known = record {
-      net = λ bytes is. let first = k.kept.tells all bytes is in (first.records, first.stand);
+      net = λ bytes is. let first = k.kept.tells bytes is in (first.records, first.stand);
       nodes = inl (sound_before state s (seen old) (seen k.between) k.same
           (over_sound k.between new ended k.ends (subst (λ m. is_among (0 ∷ 3 ∷ 8 ∷ []) m ≡ true) (status_is ended text n t) known)));
     }
@@ -229,12 +227,12 @@ module _ {D S : Type 0} (Shows : Held → Showing) (state : D → DiskState) (se
     unkept_sound : (missed : RunFault) (text : List ℕ) (n : ℕ) → KeepsBase state s.base (seen old) (seen new) (Err missed) → IsEndText s (Err missed) text n → is_among (0 ∷ 3 ∷ 8 ∷ []) n ≡ true
         → TellsSound state (seen old) n s
     unkept_sound (run_fault.Full at full) text n k t known = record {
-      net = λ bytes is. let first = k.tells all bytes is in (first.records, first.stand);
+      net = λ bytes is. let first = k.tells bytes is in (first.records, first.stand);
       nodes = inr (inr (t.1, (full, no_room at full k.net)));
     }
     unkept_sound run_fault.Other text n k t known = record {
-      net = λ bytes is. let others = k.tells all bytes is in (others.records, others.stand);
-      nodes = inr (inl (t.1, λ records had. k.answers all records had));
+      net = λ bytes is. let others = k.tells bytes is in (others.records, others.stand);
+      nodes = inr (inl (t.1, λ records had. k.answers records had));
     }
     unkept_sound (run_fault.Store at) text n k t known = false_true (rw t.1 at known)
     unkept_sound (run_fault.Damaged at second offset) text n k t known = false_true (rw t.1 at known)

@@ -25,7 +25,7 @@ given_over Others Shows state s old mid new ended holds keeps g = record {
   taken = g.taken;
   back = backs_since (server_names s) g.disks Others old mid new keeps g.back;
   counted = g.counted;
-  leaves = λ all held had. g.leaves all held (holds all held had);
+  leaves = λ held had. g.leaves held (holds held had);
 }
 
 -- the disks of the nodes were read, and then used
@@ -42,12 +42,12 @@ module _ {D S : Type 0} (Shows : Held → Showing) (state : D → DiskState) (se
     holds = hold_still state s (seen old) (seen mid) r.back
 
     pub made_over : (es : List Entry) → UsesShelf Shows state (seen mid) (seen new) s (Ok es) → EndsOver Shows state seen old new s (Ok (record { before = before; history = es }))
-    made_over es (inl g) = (given_over (IsServerDisk s) Shows state s (seen old) (seen mid) (seen new) (Ok es) holds r.keeps g, λ all held had. r.says all held had, λ all held. r.sound all held)
+    made_over es (inl g) = (given_over (IsServerDisk s) Shows state s (seen old) (seen mid) (seen new) (Ok es) holds r.keeps g, λ held had. r.says held had, λ held. r.sound held)
     made_over es (inr none) = absurd none
 
     pub broken_over : (missed : RunFault) → UsesShelf Shows state (seen mid) (seen new) s (Err missed) → EndsOver Shows state seen old new s (Err missed)
-    broken_over missed (inl g) = inl (given_over (IsServerDisk s) Shows state s (seen old) (seen mid) (seen new) (Err missed) holds r.keeps g, λ all held. r.sound all held)
-    broken_over missed (inr refused) = inr (inr (record { sound = λ all held. r.sound all held; between = mid; still = holds; keeps = r.keeps; refused = refused }))
+    broken_over missed (inl g) = inl (given_over (IsServerDisk s) Shows state s (seen old) (seen mid) (seen new) (Err missed) holds r.keeps g, λ held. r.sound held)
+    broken_over missed (inr refused) = inr (inr (record { sound = λ held. r.sound held; between = mid; still = holds; keeps = r.keeps; refused = refused }))
 
 -- ---- where nothing fails
 
@@ -58,10 +58,9 @@ module _ {D S : Type 0} (Shows : Held → Showing) (state : D → DiskState) (se
   over_calmly (Err missed) (inl g) calm = ends_calmly Shows state s (seen old) (seen new) held never holds (Err missed) same (inl g.0) calm
   over_calmly (Err missed) (inr (inl u)) calm = ends_calmly Shows state s (seen old) (seen new) held never holds (Err missed) same (inr (λ some. inl (u.refused some))) calm
   over_calmly (Err missed) (inr (inr n)) calm =
-      ends_calmly Shows state s (seen n.between) (seen new) held never (n.still calm.told held holds) (Err missed) (same ∙ sym n.keeps.tells) (inr n.refused)
+      ends_calmly Shows state s (seen n.between) (seen new) held never (n.still held holds) (Err missed) (same ∙ sym n.keeps.tells) (inr n.refused)
       (record {
         tells = still (seen old).tells (seen n.between).tells n.keeps.tells calm.tells;
-        told = calm.told;
         shelf = λ rose. calm.shelf (let faults = n.keeps.faults in omega (arith, rose, faults));
         disks = calm.disks;
       })

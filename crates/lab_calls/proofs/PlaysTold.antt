@@ -38,10 +38,10 @@ module _ {D S : Type 0} (Shows : Scenario → Held → Showing) (never : (s : Sc
             let r = subst (λ n. Plays ends n input old new) zero (said.replayed (rw zero refl) input told) in
             (r, status_zero Shows IsHistory state seen reported had has input old new r);
         shelf = shelf_told ends same status old new answer read.input read.shelf wrote;
-        base = λ input r all held holds records net.
-            tells_base (Shows r.scenario) state seen r.scenario all held (never r.scenario held) had has holds records net r.is_play.ended r.text status r.is_play.has_ended r.is_play.is_text;
-        sound = λ known input r all.
-            tells_sound (Shows r.scenario) state seen r.scenario all had has r.is_play.ended r.text status r.is_play.has_ended r.is_play.is_text known;
+        base = λ input r held holds records net.
+            tells_base (Shows r.scenario) state seen r.scenario held (never r.scenario held) had has holds records net r.is_play.ended r.text status r.is_play.has_ended r.is_play.is_text;
+        sound = λ known input r.
+            tells_sound (Shows r.scenario) state seen r.scenario had has r.is_play.ended r.text status r.is_play.has_ended r.is_play.is_text known;
         calm = λ still input s told is held holds shelf net. calm_status Shows never state seen had has read.same_tells status old new input told s is held holds net said still shelf;
         returned = read.returned;
         same_tells = read.same_tells;

@@ -9,7 +9,6 @@ use Rattle.node_seat.specs.declared.faults.RunFault.{RunFault}
 use Rattle.node_seat.specs.declared.faults.RunFault.TheVariants as run_fault
 use Rattle.replay_runner.specs.Leaving.{IsCalmEnd, IsCalmShelf}
 use Rattle.scenario_nodes.specs.Nodes.{Held, HoldAll}
-use Rattle.scenario_nodes.specs.Shelves.{AllTell}
 use Rattle.thread_runner.specs.Running.{Leaves}
 use Rattle.thread_runner.proofs.Calm.{never_damaged}
 use Rattle.lab_calls.specs.declared.played.Played.{Played}
@@ -19,7 +18,8 @@ use Rattle.lab_calls.specs.Steps.{WritesAnswer}
 use Rattle.lab_calls.specs.Over.{EndsOver, entries_of}
 use Rattle.lab_calls.specs.Streams.{SinkState}
 use Rattle.lab_calls.specs.Stressing.{IsNoMemory, IsRunOrNot, IsStressed, IsStressText, RunsMade, StressesMade, StressesOnce, TellsStress, WritesStress}
-use Rattle.lab_calls.proofs.CalmStatus.{calm_of, holds_of, same_form}
+use Rattle.report_judge.proofs.OneScenario.{same_form}
+use Rattle.lab_calls.proofs.CalmStatus.{calm_of, holds_of}
 use Rattle.lab_calls.proofs.Headline.{no_fault_is_done}
 use Rattle.lab_calls.proofs.Kept.{never_other}
 use Rattle.lab_calls.proofs.Over.{over_calmly}
@@ -141,9 +141,9 @@ module _ {D S : Type 0} (state : D → DiskState) (seen : S → ShelfState D) (h
     is_stressed (Ok p) ends t = record {
       disks = ends.0.disks;
       back = ends.0.back;
-      stressed = λ all held holds.
-          let d = ends.0.leaves all held holds in
-          record { entries = p.history; run = d; counts = t.1 held.past d.history (ends.1 all held holds) d.is_run.legal (sym d.printed) };
+      stressed = λ held holds.
+          let d = ends.0.leaves held holds in
+          record { entries = p.history; run = d; counts = t.1 held.past d.history (ends.1 held holds) d.is_run.legal (sym d.printed) };
     }
     is_stressed (Err missed) ends t = absurd (no_fault_is_done missed t.1)
 
@@ -155,14 +155,14 @@ module _ {D S : Type 0} (state : D → DiskState) (seen : S → ShelfState D) (h
         subst (λ k. is_calm_end k ≡ true) (sym (wrote.whole other).0) (calm_text r.scenario r.ended (string_bytes a.text) a.status
         (over_calmly (Leaves r.scenario) state seen r.scenario had has held (never_damaged r.scenario held) holds m.same_tells r.ended r.has_ended shelf) is_text)
 
-    not_other : AllTell state → (held : Held) → HoldAll state (seen had) r.scenario held → (ended : Result Played RunFault) → EndsOver (Leaves r.scenario) state seen had has r.scenario ended
+    not_other : (held : Held) → HoldAll state (seen had) r.scenario held → (ended : Result Played RunFault) → EndsOver (Leaves r.scenario) state seen had has r.scenario ended
         → IsStressText r.scenario ended (string_bytes a.text) 3 → ⊥
-    not_other all held holds (Ok p) ends t = let zero = t.0 in omega (arith, zero)
-    not_other all held holds (Err run_fault.Other) ends t = never_other (Leaves r.scenario) state seen r.scenario all held (never_damaged r.scenario held) had has holds ends
-    not_other all held holds (Err (run_fault.Store at)) ends t = let seven = t.1 in omega (arith, seven)
-    not_other all held holds (Err (run_fault.Full at full)) ends t = let eight = t.1 in omega (arith, eight)
-    not_other all held holds (Err (run_fault.Damaged at second offset)) ends t = let nine = t.1 in omega (arith, nine)
-    not_other all held holds (Err run_fault.NoMemory) ends t = t.0 refl
+    not_other held holds (Ok p) ends t = let zero = t.0 in omega (arith, zero)
+    not_other held holds (Err run_fault.Other) ends t = never_other (Leaves r.scenario) state seen r.scenario held (never_damaged r.scenario held) had has holds ends
+    not_other held holds (Err (run_fault.Store at)) ends t = let seven = t.1 in omega (arith, seven)
+    not_other held holds (Err (run_fault.Full at full)) ends t = let eight = t.1 in omega (arith, eight)
+    not_other held holds (Err (run_fault.Damaged at second offset)) ends t = let nine = t.1 in omega (arith, nine)
+    not_other held holds (Err run_fault.NoMemory) ends t = t.0 refl
 
     among : (b : Bool) → nat_eq result 5 ≡ b → is_among (0 ∷ 3 ∷ 5 ∷ 6 ∷ 7 ∷ 8 ∷ 9 ∷ []) result ≡ true
     among true e = let five : result ≡ 5 = grind (arith, nat_tests) in rw five refl
@@ -184,10 +184,10 @@ module _ {D S : Type 0} (state : D → DiskState) (seen : S → ShelfState D) (h
           let whole = wrote.whole (λ five. absurd (omega (arith, zero, five))) in
           let none : a.status ≡ 0 = sym whole.0 ∙ zero in
           (r.scenario, r.is_made, (string_bytes a.text, whole.1, is_stressed r.ended r.has_ended (subst (λ k. IsStressText r.scenario r.ended (string_bytes a.text) k) none is_text)));
-      other = λ three all s is held holds.
+      other = λ three s is held holds.
           let whole = wrote.whole (λ five. absurd (omega (arith, three, five))) in
           let own : a.status ≡ 3 = sym whole.0 ∙ three in
-          not_other all held (holds_of state (seen had) held r.scenario s (same_form (made n size) r.scenario s r.is_made is) holds) r.ended r.has_ended
+          not_other held (holds_of state (seen had) held r.scenario s (same_form (made n size) r.scenario s r.is_made is) holds) r.ended r.has_ended
           (subst (λ k. IsStressText r.scenario r.ended (string_bytes a.text) k) own is_text);
       calm = λ still s is held holds shelf.
           let same = same_form (made n size) r.scenario s r.is_made is in

@@ -12,7 +12,7 @@ use Rattle.seata_types.specs.declared.ids.Place.{Place}
 use Rattle.node_seat.specs.declared.faults.RunFault.{RunFault}
 use Rattle.node_seat.specs.declared.faults.RunFault.TheVariants as run_fault
 use Rattle.scenario_nodes.specs.Nodes.{Held, HoldAll}
-use Rattle.scenario_nodes.specs.Shelves.{AllTell, pair_of}
+use Rattle.scenario_nodes.specs.Shelves.{pair_of}
 use Rattle.replay_runner.specs.Leaving.{AreAllBack, AreAllLaid, AreLeft, HavePlaces, HaveSizes, disks_in}
 use Rattle.report_text.specs.Following.{IsRead}
 use Rattle.history_rules.specs.Nodes.{Past, Role, role_at}
@@ -145,7 +145,7 @@ IsAnswerTo ends bytes text status =
 abbrev pub replay_statuses : List ℕ
 replay_statuses = 0 ∷ 3 ∷ 7 ∷ 8 ∷ 9 ∷ []
 
--- Where the shelf's disks tell their bytes, and held these records: a history over them, which
+-- Where the disks of the nodes told that they held these records: a history over them, which
 -- `IsHistory` says is the scenario's, is safe behind each chain that the records may follow, and the
 -- disks of each node that were given back, of the scenario's size, show it. Each record of it had a
 -- place, and the journals end where its entries leave them. The text is its report.
@@ -173,13 +173,13 @@ pub record Plays (ends : Ending) (status : ℕ) (input : List ℕ) (old new : De
   pub printed : Appends old.sink.written new.sink.written text
 
 -- at status 0 besides: the disks of all nodes, and the one with the scenario's text, were given back in
--- this call, and where they tell their bytes, there is a safe history over whatever they held before
+-- this call, and there is a safe history over whatever they told that they held before
 pub record Done {D : Type 0} (IsHistory : Scenario → Past → List Moment → Type 0)
     (state : D → DiskState) (had has : ShelfState D) (s : Scenario) (text : List ℕ) : Type 0 where
   pub disks : List (D × D)
   pub back : AreAllBack had has s disks
   pub net : HasBase state had has s
-  pub reported : AllTell state → (held : Held) → HoldAll state had s held
+  pub reported : (held : Held) → HoldAll state had s held
       → Reported IsHistory state s held disks text
 
 -- at status 3: the source was read as far as inputs are, and the sink got the line of what keeps

@@ -3,15 +3,9 @@ use Rattle.std.specs.Prelude.{◌≡◌, ◌⊎◌, ◌++◌, ℕ, List, [], ◌
 use Rattle.std.specs.Fmt.{decimal}
 use Rattle.std.specs.Io.KnownBytes.{Appends}
 use Rattle.seata_types.specs.declared.limits.TheConstants.{HISTORY_BYTES}
-use Rattle.scenario_form.specs.declared.scenarios.Scenario.{Scenario}
-use Rattle.scenario_reader.specs.Reading.{IsScenario}
-use Rattle.history_rules.specs.Nodes.{no_past}
-use Rattle.history_rules.specs.Histories.{Legal, Moment}
-use Rattle.history_law.specs.Safety.{IsSafeHistory}
-use Rattle.history_text.specs.Report.{line, report}
-use Rattle.history_text.specs.Worlds.{world_of}
-use Rattle.report_judge.specs.Lines.{behind_line, first_line}
+use Rattle.history_text.specs.Report.{line}
 use Rattle.report_judge.specs.Judging.{Judges}
+use Rattle.report_judge.specs.Safe.{HasSafeReport}
 use Rattle.report_judge.specs.declared.judgements.Judgement.{Judgement}
 use Rattle.report_judge.specs.declared.judgements.Judgement.TheVariants as judgement
 use Rattle.verdict_law.specs.Rules.{rule_text}
@@ -51,18 +45,6 @@ pub record IsJudged (input text : List ℕ) (status : ℕ) : Type 0 where
   pub text_is : text ≡ line (judgement_text found)
   pub status_is : status ≡ judgement_status found
 
--- ---- a legal report
-
--- an input is a scenario with the report of a legal history of it, over disks without records, and this
--- history is safe
-pub record IsSafeReport (input : List ℕ) : Type 0 where
-  pub scenario : Scenario
-  pub is_scenario : IsScenario (first_line input) scenario
-  pub history : List Moment
-  pub legal : Legal (world_of scenario) no_past history
-  pub is_report : behind_line input ≡ report scenario no_past history
-  pub safe : IsSafeHistory (world_of scenario) no_past history
-
 -- ---- the call
 
 -- the source was read as far as such inputs are, and the sink got the line of what is found
@@ -86,7 +68,7 @@ pub record CutsAudit (input : List ℕ) (old new : Devices) : Type 0 where
 pub record AuditsOnce (status : ℕ) (old new : Devices) : Type 0 where
   pub judged : is_among audit_statuses status ≡ true → (input : List ℕ)
       → old.source.left ≡ Some input → Audits status input old new
-  pub safe : status ≡ 0 → (input : List ℕ) → old.source.left ≡ Some input → IsSafeReport input
+  pub safe : status ≡ 0 → (input : List ℕ) → old.source.left ≡ Some input → HasSafeReport input
   pub cut_short : status ≡ 5 → (input : List ℕ) → old.source.left ≡ Some input
       → CutsAudit input old new
   pub complete : IsCalm old new → (is_among audit_statuses status ≡ true) ⊎ (status ≡ 6)

@@ -3,7 +3,7 @@ use Rattle.std.specs.Prelude.{ℕ, IsTrue, List, [], Result}
 use Rattle.disk_model.specs.Disk.{DiskState}
 use Rattle.disk_model.specs.Shelf.{ShelfState}
 use Rattle.seata_types.specs.declared.ids.Place.{Place}
-use Rattle.seata_types.specs.declared.limits.TheConstants.{BODY_BYTES}
+use Rattle.seata_types.specs.declared.limits.TheConstants.{BODY_BYTES, SCENARIO_DISK}
 use Rattle.base_records.specs.Pieces.{IsFront}
 use Rattle.base_shelf.specs.Keeping.{HoldsBase, net_name}
 use Rattle.scenario_form.specs.declared.scenarios.Scenario.{Scenario}
@@ -13,7 +13,7 @@ use Rattle.history_rules.specs.Histories.{Moment}
 use Rattle.history_rules.specs.Nodes.{Past}
 use Rattle.node_seat.specs.declared.faults.RunFault.{RunFault}
 use Rattle.scenario_nodes.specs.Nodes.{AreUnused, Held, none_held, servers_of}
-use Rattle.scenario_nodes.specs.Shelves.{AllTell}
+use Rattle.scenario_nodes.specs.Shelves.{BackTell, BlanksTell}
 use Rattle.replay_runner.specs.Leaving.{Showing}
 use Rattle.replay_runner.specs.Leaving as replayed
 use Rattle.thread_runner.specs.Running as ran
@@ -38,13 +38,14 @@ pub record StaysKept {D : Type 0} (state : D → DiskState) (shelf : ShelfState 
   pub held : Held
   pub kept : IsKeptAfter state shelf s longer held
 
--- so a call leaves them, however it ends: done, by whatever fault, with the nodes not opened, or with
--- its text not kept
+-- so a call leaves them, where those that it gave back tell their bytes, however it ends: done, by
+-- whatever fault, with the nodes not opened, or with its text not kept
 abbrev pub CallsStayKept : {D S : Type 0} → (D → DiskState) → (S → ShelfState D)
     → (Shows : Scenario → Held → Showing) → Type 0
 CallsStayKept {S = S} state seen Shows =
     (old new : S) (s : Scenario) (ended : Result Played RunFault) → IsRunnable s
-    → EndsKept (Shows s) state seen old new s ended → AllTell state → IsTrue (seen old).tells
+    → EndsKept (Shows s) state seen old new s ended
+    → BackTell state (seen old) (seen new) → IsTrue (seen old).tells
     → (chain : List (Past × List Moment)) (held : Held) → IsKeptAfter state (seen old) s chain held
     → StaysKept state (seen new) s chain
 
@@ -65,16 +66,18 @@ abbrev pub IsUnusedNet : {D : Type 0} → ShelfState D → Type 0
 IsUnusedNet {D} shelf = (disk : D) → ¬ shelf.given_back net_name disk
 
 -- a shelf that was never used for the nodes of a scenario, nor for `net`, is after the empty chain, and
--- its disks hold no record
+-- its disks hold no record, where blank ones tell their bytes
 abbrev pub NewBeginKept : {D S : Type 0} → (D → DiskState) → (S → ShelfState D) → Type 0
 NewBeginKept {S = S} state seen =
-    (shelf : S) (s : Scenario) → IsRunnable s → AreUnused (seen shelf) (servers_of s none_held)
+    (shelf : S) (s : Scenario) → IsRunnable s → BlanksTell state s.disk
+    → AreUnused (seen shelf) (servers_of s none_held) → BlanksTell state SCENARIO_DISK
     → IsUnusedNet (seen shelf) → IsKeptAfter state (seen shelf) s [] none_held
 
 -- a disk `net` that was never used holds none
 abbrev pub NewNetHoldsNone : {D S : Type 0} → (D → DiskState) → (S → ShelfState D) → Type 0
 NewNetHoldsNone {S = S} state seen =
-    (shelf : S) → IsUnusedNet (seen shelf) → HoldsBase state (seen shelf) []
+    (shelf : S) → BlanksTell state SCENARIO_DISK → IsUnusedNet (seen shelf)
+    → HoldsBase state (seen shelf) []
 
 -- no record is a front of each text
 abbrev pub NoneAreFirst : Type 0

@@ -1,5 +1,5 @@
 -- Replays and runs before which the text of their scenario is kept on the disk `net`.
-use Rattle.std.specs.Prelude.{◌≡◌, ◌⊎◌, ℕ, IsTrue, List, Result, Ok, Err}
+use Rattle.std.specs.Prelude.{◌≡◌, ◌⊎◌, ℕ, IsSome, IsTrue, List, Result, Ok, Err}
 use Rattle.disk_model.specs.Disk.{DiskState}
 use Rattle.disk_model.specs.Shelf.{KeepsOthers, SameUnder, ShelfState}
 use Rattle.disk_journal.specs.Keeping.{Holds}
@@ -10,7 +10,7 @@ use Rattle.scenario_form.specs.declared.scenarios.Scenario.{Scenario}
 use Rattle.node_seat.specs.declared.faults.RunFault.{RunFault}
 use Rattle.scenario_nodes.specs.Nodes.{Held}
 use Rattle.scenario_nodes.specs.Reading.{HoldStill}
-use Rattle.scenario_nodes.specs.Shelves.{AllTell, IsGivenIn}
+use Rattle.scenario_nodes.specs.Shelves.{IsGivenIn}
 use Rattle.replay_runner.specs.Leaving.{IsServerDisk, Showing}
 use Rattle.lab_calls.specs.declared.played.Played.{Played}
 use Rattle.lab_calls.specs.Over.{EndsOver}
@@ -45,13 +45,13 @@ EndsKept Shows state seen old new s ended =
 -- ---- what the disk shows
 
 -- the disk `net` was given back in a call, and each image of it stands for all records of the text of
--- a scenario; where disks tell their bytes, the shelf gives it next with such
+-- a scenario; where it tells its bytes, the shelf gives it next with such
 pub record HasBase {D : Type 0} (state : D → DiskState) (old new : ShelfState D) (s : Scenario)
     : Type 0 where
   pub disk : D
   pub back : IsGivenIn old new net_name disk
   pub whole : Holds (state disk) 0 (records_of BODY_BYTES s.base)
-  pub next : AllTell state → IsTrue old.tells
+  pub next : IsSome (state disk).content → IsTrue old.tells
       → HoldsBase state new (records_of BODY_BYTES s.base)
 
 -- the disk `net` held the first records of a text, or none, and as it is given back it has counted no

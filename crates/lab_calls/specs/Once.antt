@@ -12,7 +12,7 @@ use Rattle.scenario_form.specs.declared.scenarios.Scenario.{Scenario}
 use Rattle.scenario_reader.specs.Reading.{IsScenario}
 use Rattle.history_text.specs.History.{IsRun}
 use Rattle.scenario_nodes.specs.Nodes.{Held, HoldAll}
-use Rattle.scenario_nodes.specs.Shelves.{AllTell, ReturnsAll}
+use Rattle.scenario_nodes.specs.Shelves.{ReturnsAll}
 use Rattle.replay_runner.specs.Leaving.{IsCalmShelf}
 use Rattle.replay_runner.specs.Leaving as replayed
 use Rattle.thread_runner.specs.Running as ran
@@ -49,7 +49,7 @@ pub record TellsSound {D : Type 0} (state : D → DiskState) (had : ShelfState D
 -- before and show now; `ends` says how that may end, and `same` that the shelf is as it was.
 -- `tells` is what the status says of the input and of what was written; at 0 besides, all that
 -- `IsDone` says. `shelf` is what the status says of the shelf, and `base` what it says of the records of
--- the disk `net`, where that and the disks of the nodes held some, and tell it. By `sound` a disk whose
+-- the disk `net`, where that and the disks of the nodes told that they held some. By `sound` a disk whose
 -- bytes are no journal is never at 0 nor 8, nor taken for another scenario's: it is at 9, or another
 -- fault came before it. Where nothing fails, the disks held records of the nodes, and `net` the first
 -- ones of the scenario's text, `calm`, a scenario is done, doesn't fit on its disks, or memory was
@@ -61,11 +61,11 @@ pub record PlaysOnce {D : Type 0} (ends : Ending) (IsDone : Scenario → List �
   pub done : status ≡ 0 → (input : List ℕ) → old.source.left ≡ Some input
       → (r : Plays ends 0 input old new) × IsDone r.scenario r.text
   pub shelf : TellsShelf ends same status old.source.left new.source.left
-  pub base : (input : List ℕ) (r : Plays ends status input old new) → AllTell state
+  pub base : (input : List ℕ) (r : Plays ends status input old new)
       → (held : Held) → HoldAll state had r.scenario held → (records : List (List ℕ))
       → HoldsBase state had records → TellsBase status r.scenario.base records
   pub sound : is_among (0 ∷ 3 ∷ 8 ∷ []) status ≡ true → (input : List ℕ)
-      → (r : Plays ends status input old new) → AllTell state
+      → (r : Plays ends status input old new)
       → TellsSound state had status r.scenario
   pub calm : IsCalm old new → (input : List ℕ) (s : Scenario) → old.source.left ≡ Some input
       → IsScenario input s → (held : Held) → HoldAll state had s held → IsCalmShelf state s had has

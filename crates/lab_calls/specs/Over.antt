@@ -9,7 +9,6 @@ use Rattle.node_seat.specs.declared.faults.RunFault.{RunFault}
 use Rattle.scenario_nodes.specs.Nodes.{Held, HoldAll, servers_of}
 use Rattle.scenario_nodes.specs.Opening.{NodesNotOpened, StopsLoading}
 use Rattle.scenario_nodes.specs.Reading.{HoldStill, IsReadFault, IsSound}
-use Rattle.scenario_nodes.specs.Shelves.{AllTell}
 use Rattle.replay_runner.specs.Leaving.{GivesBack, IsServerDisk, Showing}
 use Rattle.report_text.specs.declared.before.Before.{Before}
 use Rattle.report_text.specs.Following.{IsRead}
@@ -18,12 +17,12 @@ use Rattle.lab_calls.specs.declared.played.Played.{Played}
 -- this is what the disks say that a shelf gives next, whatever they hold
 abbrev pub IsReadOn : {D : Type 0} → (D → DiskState) → ShelfState D → Scenario → Before → Type 0
 IsReadOn state shelf s before =
-    AllTell state → (held : Held) → HoldAll state shelf s held → IsRead s before held.past
+    (held : Held) → HoldAll state shelf s held → IsRead s before held.past
 
 -- the bytes that a shelf gives next for the disks of the nodes are damaged for none of them
 abbrev pub AllSound : {D : Type 0} → (D → DiskState) → ShelfState D → Scenario → Type 0
 AllSound state shelf s =
-    AllTell state → (held : Held) → AllByRecursion (IsSound state shelf s) (servers_of s held)
+    (held : Held) → AllByRecursion (IsSound state shelf s) (servers_of s held)
 
 -- ---- replays and runs
 

@@ -5,7 +5,7 @@ use Rattle.disk_model.specs.Disk.{DiskState, Rose}
 use Rattle.disk_model.specs.Shelf.{ShelfState}
 use Rattle.base_shelf.specs.Keeping.{NetIs}
 use Rattle.history_text.specs.Report.{line}
-use Rattle.scenario_nodes.specs.Shelves.{AllTell, ReturnsAll}
+use Rattle.scenario_nodes.specs.Shelves.{ReturnsAll}
 use Rattle.store_shown.specs.declared.found.Shown.{Shown}
 use Rattle.store_shown.specs.declared.found.Shown.TheVariants as shown
 use Rattle.store_shown.specs.Showing.{IsFound, KeepsBytes, Touches}
@@ -65,7 +65,7 @@ pub record ShowsOnce {D S : Type 0} (state : D → DiskState) (seen : S → Shel
   pub sink_failed : status ≡ 5 → Rose old.faults new.faults
   pub no_memory : status ≡ 6 → new.written ≡ old.written
   pub bytes : KeepsBytes state (seen had) (seen has)
-  pub net : AllTell state → (bytes : List ℕ) → NetIs state (seen had) bytes
+  pub net : (bytes : List ℕ) → NetIs state (seen had) bytes
       → NetIs state (seen has) bytes
   pub touches : Touches state (seen had) (seen has)
   pub returned : ReturnsAll (seen had) (seen has)
@@ -79,7 +79,7 @@ pub record AnswersShown {D S : Type 0} (state : D → DiskState) (seen : S → S
   pub text : IfOk result (λ a. TellsFound state seen had has (string_bytes a.text) a.status)
   pub no_memory : IfErr result (λ status. status ≡ 6)
   pub bytes : KeepsBytes state (seen had) (seen has)
-  pub net : AllTell state → (bytes : List ℕ) → NetIs state (seen had) bytes
+  pub net : (bytes : List ℕ) → NetIs state (seen had) bytes
       → NetIs state (seen has) bytes
   pub touches : Touches state (seen had) (seen has)
   pub returned : ReturnsAll (seen had) (seen has)

@@ -16,7 +16,7 @@ use Rattle.history_rules.specs.Histories.{Legal, Moment}
 use Rattle.node_seat.specs.declared.faults.RunFault.{RunFault}
 use Rattle.node_seat.specs.declared.faults.RunFault.TheVariants as run_fault
 use Rattle.scenario_nodes.specs.Nodes.{Held, HoldAll}
-use Rattle.scenario_nodes.specs.Shelves.{AllTell, ReturnsAll, pair_of}
+use Rattle.scenario_nodes.specs.Shelves.{ReturnsAll, pair_of}
 use Rattle.replay_runner.specs.Leaving.{AreAllBack, IsCalmShelf}
 use Rattle.thread_runner.specs.Running.{Completed, Leaves}
 use Rattle.report_text.specs.Following.{IsRead}
@@ -66,7 +66,7 @@ pub record IsStressed {D : Type 0} (state : D → DiskState) (had has : ShelfSta
     (text : List ℕ) : Type 0 where
   pub disks : List (D × D)
   pub back : AreAllBack had has s disks
-  pub stressed : AllTell state → (held : Held) → HoldAll state had s held
+  pub stressed : (held : Held) → HoldAll state had s held
       → Stressed state s held disks text
 
 -- ---- the call
@@ -111,7 +111,7 @@ pub record StressesOnce {D S : Type 0} (state : D → DiskState) (seen : S → S
   pub done : status ≡ 0 → (s : Scenario) × IsScenario (made n size) s
       × ((text : List ℕ) × Appends old.written new.written text
       × IsStressed state (seen had) (seen has) s text)
-  pub other : status ≡ 3 → AllTell state → (s : Scenario) → IsScenario (made n size) s
+  pub other : status ≡ 3 → (s : Scenario) → IsScenario (made n size) s
       → (held : Held) → ¬ HoldAll state (seen had) s held
   pub calm : ¬ Rose old.faults new.faults → (s : Scenario) → IsScenario (made n size) s
       → (held : Held) → HoldAll state (seen had) s held → IsCalmShelf state s (seen had) (seen has)

@@ -30,6 +30,7 @@ pub fn made_scenario(alloc: Global, number: u64, size: u32) -> Result<Scenario, 
             if out_of_memory {
                 Err(NoMemory)
             } else {
+                // The text of `make` is a scenario, and such a text has no other fault.
                 unreachable!()
             }
         }

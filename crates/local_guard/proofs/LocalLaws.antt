@@ -46,7 +46,7 @@ module _ (s : Setup) (m : Memory) (t : Ticket) (held : Option (RowKey × Xid)) w
   abbrev read : Step → Answer (Option ℕ)
   read step = record { told = ended_by step.act; made = resource_asked s m (own_step (answering t held) 0 step) }
 
-  of_no_local : (o : Open) (w : Owner) → local_by o w ≡ None → still act.Ignored ≡ rules.lock_answer s m.left.records m.opens (next_ticket m) o w held
+  of_no_local : (o : Open) (w : Owner) → local_by o w ≡ None → still act.Ignored ≡ rules.lock_answer o w held
   of_no_local o (OfCall manager x c w) e = refl
   of_no_local o (OfLocal n) e = absurd cc
 
@@ -76,10 +76,10 @@ module _ (opens : List Open) (t : Ticket) where
     owner = owner_none txn.xid.0 txn.manager txn.call txn.work none
 
     answers : (s : Setup) (m : Memory) (held : Option (RowKey × Xid)) → m.opens ≡ opens
-        → rules.lock_answer s m.left.records m.opens (next_ticket m) (open_of txn) (OfLocal txn.call) held ≡ resource_answer s m (answering t held)
+        → rules.lock_answer (open_of txn) (OfLocal txn.call) held ≡ resource_answer s m (answering t held)
     answers s m held same = sym (
         ap (λ (o : Option Open). rules.on_lock_answer s m.left.records m.opens (next_ticket m) o held) (ap (λ (os : List Open). open_at os t) same ∙ here)
-        ∙ ap (λ (w : Owner). rules.lock_answer s m.left.records m.opens (next_ticket m) (open_of txn) w held) owner)
+        ∙ ap (λ (w : Owner). rules.lock_answer (open_of txn) w held) owner)
 
     pub drops : Drops opens t (Some txn.call)
     drops = λ s m key holder same. ap (λ (st : Step). ended_by st.act) (answers s m (Some (key, holder)) same)

@@ -1,12 +1,14 @@
 //! Guarded local transactions.
 ghost use Rattle.std.specs.Prelude.{◌≡◌, ◌<◌, ◌≤◌, ◌^◌, ◌-◌, false, None, [], length, IfSome};
 ghost use Rattle.seata_types.specs.declared.limits.TheConstants.{FIELD_ITEMS};
+ghost use Rattle.local_tables.specs.Calls.{effect};
 ghost use Rattle.durable_records.specs.declared.resources.ResourceRecord.TheVariants as log;
 ghost use Rattle.local_txn.specs.OpenTickets.{open_at};
 ghost use Rattle.resource_rules.specs.Locals.{lock_answered};
 ghost use Rattle.resource_store.specs.Keeping.{known, is_down};
 ghost use Rattle.resource_store.specs.Answers.{Gives, Leaves, TakesRows};
 ghost use Rattle.rule_calls.specs.Calls.{told_of};
+ghost use Rattle.rule_calls.specs.Openings.{TellsLocal};
 ghost use Rattle.local_guard.specs.Locals.{closed, ended_by, tickets_after, Drops, Frees, MayCommit, OpensLocal};
 
 use disk_model::Disk;
@@ -28,7 +30,8 @@ pub fn open_local<D: Disk>(
 ) -> Result<Ticket, ExecError>
     requires statements { length stmts.now ≤ FIELD_ITEMS }
     requires tickets { txns.old.opened < 2 ^ 32 - 1 }
-    ensures { OpensLocal (known store.now).tables number stmts.now result txns.old txns.new }
+    ensures opens { OpensLocal (known store.now).tables number stmts.now result txns.old txns.new }
+    ensures rules { TellsLocal txns.old number (effect (known store.now).tables stmts.now) result }
 {
     txns.execute(alloc, Xid(0), number, 0, stmts, store.tables())
 }

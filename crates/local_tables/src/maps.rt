@@ -8,7 +8,7 @@ ghost use Rattle.local_tables.specs.Rows.{key_in, row_at};
 
 use crate::row_map::RowMap;
 use crate::schemas::TableDef;
-use seata_types::{Duplicate, List, NoMemory, Row, RowKey, Value};
+use seata_types::{Boxed, Duplicate, List, NoMemory, Row, RowKey, Value};
 use std::alloc::Global;
 use std::collections::BTreeMap;
 
@@ -18,6 +18,19 @@ pub fn copied<T: Duplicate>(alloc: Global, value: Option<&T>) -> Result<Option<T
 {
     match value {
         Some(value) => Ok(Some(value.copy(alloc)?)),
+        None => Ok(None),
+    }
+}
+
+/// A copy of a value that is there, in a box.
+pub fn boxed<T: Duplicate + Drop>(
+    alloc: Global,
+    value: Option<&T>,
+) -> Result<Option<Boxed<T>>, NoMemory>
+    ensures { IfOk result (λ copy. copy ≡ option_copied value.entry) }
+{
+    match value {
+        Some(value) => Ok(Some(Boxed::new(alloc, value.copy(alloc)?)?)),
         None => Ok(None),
     }
 }

@@ -13,7 +13,7 @@ use crate::row_map::RowMap;
 use crate::schemas::TableDef;
 use crate::typing::has_types;
 use seata_types::limits::CALL_ROWS;
-use seata_types::{Row, RowKey, Stmt, StmtError};
+use seata_types::{Boxed, Row, RowKey, Stmt, StmtError};
 use std::collections::BTreeMap;
 
 /// The first of the errors that the definition alone shows.
@@ -132,8 +132,8 @@ pub fn duplicate_in<'a>(
 /// The first of the errors that the rows show: rows seen, a row that can't be computed, a key taken, rows that fit.
 pub fn fault(
     seen: usize,
-    overflow: Option<RowKey>,
-    taken: Option<RowKey>,
+    overflow: Option<Boxed<RowKey>>,
+    taken: Option<Boxed<RowKey>>,
     fits: bool,
 ) -> Option<StmtError>
     ensures { result ≡ fault seen overflow taken fits }

@@ -1,7 +1,7 @@
 //! The statements of a call, one after the other, on the tables as the earlier ones left them.
 use crate::checking::table_of;
 use crate::conditions::table_named;
-use crate::maps::copied;
+use crate::maps::boxed;
 use crate::refusing::{duplicate_in, fault, overflow_in, refusal};
 use crate::schemas::TableDef;
 use crate::state::{CallState, rows_fit};
@@ -56,8 +56,8 @@ impl Tables {
         let (number, rows) = (self.resource, &self.rows);
         let made = touches(alloc, number, def, stmt, rows, &call.changes)?;
         let read = readings(alloc, number, def, stmt, rows, &call.changes)?;
-        let overflow = copied(alloc, overflow_in(stmt, &made))?;
-        let taken = copied(alloc, duplicate_in(stmt, rows, &call.changes, &made))?;
+        let overflow = boxed(alloc, overflow_in(stmt, &made))?;
+        let taken = boxed(alloc, duplicate_in(stmt, rows, &call.changes, &made))?;
         call.go_on(made, read)?;
         let fits = rows_fit(rows, &call.changes);
         Ok(fault(call.rows_seen(), overflow, taken, fits))

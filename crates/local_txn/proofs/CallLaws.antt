@@ -2,9 +2,11 @@
 use Rattle.std.proofs.Common.{◌≡◌, ◌+◌, ◌-◌, ◌≤◌, not, ℕ, true, cond, List, [], ◌∷◌, Option, Some, None, is_some, option_map, Result, Ok, Err, refl, ap, sym, subst, ◌∙◌, arith}
 use Rattle.seata_types.specs.declared.errors.StmtError.{StmtError}
 use Rattle.seata_types.specs.declared.ids.Ticket.{Ticket}
+use Rattle.seata_types.specs.declared.ids.Xid.{Xid}
 use Rattle.seata_types.specs.declared.rows.Image.{Image}
 use Rattle.seata_types.specs.declared.rows.ReadRow.{ReadRow}
 use Rattle.seata_types.specs.declared.rows.RowKey.{RowKey}
+use Rattle.seata_types.specs.declared.statements.Work.{Work}
 use Rattle.local_tables.specs.Calls.{Means}
 use Rattle.local_tables.specs.declared.schemas.Effect.{Effect}
 use Rattle.local_tables.specs.declared.schemas.EffectError.{EffectError}
@@ -13,12 +15,13 @@ use Rattle.durable_records.specs.Branches.{same_ticket}
 use Rattle.durable_records.specs.ResourceOrder.{image_keys, read_keys}
 use Rattle.local_txn.specs.declared.transactions.ExecError.{ExecError}
 use Rattle.local_txn.specs.declared.transactions.ExecError.TheVariants as error
-use Rattle.local_txn.specs.OpenTickets.{Owner, Open, open_at, without, with_first, sent_again, lesser_row, busy_row, opening_of}
-use Rattle.local_txn.specs.Answers.{Tickets, raised, counted, new_ticket, last_ticket, with_open, with_opens, taken_back, refusal, Executes, TellsBusy}
+use Rattle.local_txn.specs.declared.transactions.OpenTxn.{OpenTxn}
+use Rattle.local_txn.specs.OpenTickets.{Open, open_at, without, with_first, sent_again, has_row, ticket_with, lesser_row, busy_row, opening_of}
+use Rattle.local_txn.specs.Answers.{Tickets, open_of, owner_by, raised, counted, new_ticket, last_ticket, with_open, with_opens, taken_back, at_opening, free_effect, unless_busy, plan, refusal, Executes, Plans, TellsBusy}
 use Rattle.local_txn.specs.RowIndex.{Index, at, first_at, has_either, IsIndex, AreApart, KeepsRows}
 use Rattle.local_txn.proofs.Tests.{false_true, ticket_itself}
 use Rattle.local_txn.proofs.OpenLaws.{found_counted, found_ticket, without_none, apart_counting, rows_counting, apart_back}
-use Rattle.local_txn.proofs.IndexLaws.{least_is_busy}
+use Rattle.local_txn.proofs.IndexLaws.{free_rows, least_is_busy}
 
 -- nothing is open
 pub keeps_none : (boot : ℕ) → KeepsRows boot 0 [] []
@@ -110,23 +113,69 @@ keeps_counted boot opened opens rows t (Some o) k = record {
   index = λ r. k.index r ∙ sym (rows_counting t (raised o) opens r);
 }
 
--- ---- an opening
+-- ---- a plan
 
--- statements without an effect open nothing
-pub not_executed : (old : Tickets) (owner : Owner) (meaning : Result Effect (ℕ × StmtError)) (err : EffectError) → Means meaning (Err err) → Executes old owner meaning (Err (refusal err)) old
-not_executed old owner meaning (fault.At index why) means = (means, refl)
-not_executed old owner meaning fault.NoMemory means = refl
+module _ (ts : Tickets) (x : Xid) (c m : ℕ) (w : Work) where
+  -- statements without an effect
+  pub not_planned : (meaning : Result Effect (ℕ × StmtError)) (err : EffectError) → Means meaning (Err err) → Plans ts x c m w meaning (Err (refusal err))
+  not_planned meaning (fault.At index why) means = sym (ap (λ r. plan ts x c m w (free_effect ts.opens r)) means)
+  not_planned meaning fault.NoMemory means = tt
 
-module _ (old : Tickets) (owner : Owner) (meaning : Result Effect (ℕ × StmtError)) (e : Effect) (means : meaning ≡ Ok e) where
-  pub told_busy : (k : RowKey) (t : Ticket) (err : ExecError) → busy_row old.opens e ≡ Some (k, t) → TellsBusy k t err → Executes old owner meaning (Err err) old
-  told_busy k t (error.Stmt index why) b told = absurd told
-  told_busy k t (error.Busy key by) b told =
-      (record { effect = e; means = means; busy = b ∙ ap (λ r. Some (r, t)) (sym told.0) ∙ ap (λ u. Some (key, u)) (sym told.1) }, refl)
-  told_busy k t error.NoMemory b told = refl
+  module _ (meaning : Result Effect (ℕ × StmtError)) (e : Effect) (means : meaning ≡ Ok e) where
+    comes_to : (b : Option (RowKey × Ticket)) → busy_row ts.opens e ≡ b → plan ts x c m w (free_effect ts.opens meaning) ≡ plan ts x c m w (unless_busy e b)
+    comes_to b is = ap (λ r. plan ts x c m w (free_effect ts.opens r)) means ∙ ap (λ r. plan ts x c m w (unless_busy e r)) is
 
-  pub executed : (t : Ticket) (new : Tickets) (o : Open) → busy_row old.opens e ≡ None → t ≡ new_ticket old → new ≡ with_open old o → o ≡ opening_of t owner e
-      → Executes old owner meaning (Ok t) new
-  executed t new o free is left opened = record { effect = e; means = means; free = free; ticket = is; opens = left ∙ ap (with_open old) opened }
+    pub told_busy : (k : RowKey) (t : Ticket) (err : ExecError) → busy_row ts.opens e ≡ Some (k, t) → TellsBusy k t err → Plans ts x c m w meaning (Err err)
+    told_busy k t (error.Stmt index why) b told = absurd told
+    told_busy k t (error.Busy key by) b told = (λ i. Err (error.Busy (told.0 i) (told.1 i))) ∙ sym (comes_to (Some (k, t)) b)
+    told_busy k t error.NoMemory b told = tt
+
+    pub planned : (txn : OpenTxn) → busy_row ts.opens e ≡ None → txn ≡ at_opening (new_ticket ts) x c m w e → Plans ts x c m w meaning (Ok txn)
+    planned txn free is = ap Ok is ∙ sym (comes_to None free)
+
+  -- ---- and its opening
+
+  -- a local transaction that is planned
+  pub record IsPlanned (meaning : Result Effect (ℕ × StmtError)) (txn : OpenTxn) : Type 0 where
+    pub effect : Effect
+    pub means : meaning ≡ Ok effect
+    pub free : busy_row ts.opens effect ≡ None
+    pub is : txn ≡ at_opening (new_ticket ts) x c m w effect
+
+  same_ok : (a b : OpenTxn) → ◌≡◌ {A = Result OpenTxn ExecError} (Ok a) (Ok b) → a ≡ b
+  same_ok a b e = cc
+
+  pub is_planned : (meaning : Result Effect (ℕ × StmtError)) (txn : OpenTxn) → Plans ts x c m w meaning (Ok txn) → IsPlanned meaning txn
+  is_planned (Err fault) txn plans = absurd cc
+  is_planned (Ok e) txn plans = by (busy_row ts.opens e) refl plans
+    where
+      by : (b : Option (RowKey × Ticket)) → busy_row ts.opens e ≡ b → Ok txn ≡ plan ts x c m w (unless_busy e b) → IsPlanned (Ok e) txn
+      by None free same = record { effect = e; means = refl; free = free; is = same_ok txn (at_opening (new_ticket ts) x c m w e) same }
+      by (Some p) busy same = absurd cc
+
+  refused : (f : Result Effect ExecError) (why : ExecError) → Err why ≡ plan ts x c m w f → f ≡ Err why
+  refused (Ok e) why same = absurd cc
+  refused (Err told) why same = cc
+
+  pub not_executed : (meaning : Result Effect (ℕ × StmtError)) (why : ExecError) → Plans ts x c m w meaning (Err why) → Executes ts (owner_by x.0 m c w) meaning (Err why) ts
+  not_executed meaning (error.Stmt index fault) plans = (refused (free_effect ts.opens meaning) (error.Stmt index fault) plans, refl)
+  not_executed meaning (error.Busy key by) plans = (refused (free_effect ts.opens meaning) (error.Busy key by) plans, refl)
+  not_executed meaning error.NoMemory plans = refl
+
+  module _ (meaning : Result Effect (ℕ × StmtError)) (txn : OpenTxn) (p : IsPlanned meaning txn) where
+    pub rows_free : (q : RowKey) → has_row q (open_of txn) ≡ true → ticket_with ts.opens q ≡ None
+    rows_free q h = free_rows ts.opens p.effect q p.free (ap (λ (o : OpenTxn). has_row q (open_of o)) (sym p.is) ∙ h)
+
+    pub executed : (t : Ticket) (new : Tickets) → t ≡ txn.ticket → new ≡ with_open ts (open_of txn) → Executes ts (owner_by x.0 m c w) meaning (Ok t) new
+    executed t new same left =
+        let ticket : t ≡ new_ticket ts = same ∙ ap (λ (o : OpenTxn). o.ticket) p.is in
+        record {
+          effect = p.effect;
+          means = p.means;
+          free = p.free;
+          ticket = ticket;
+          opens = left ∙ ap (λ (o : OpenTxn). with_open ts (open_of o)) p.is ∙ ap (λ u. with_open ts (opening_of u (owner_by x.0 m c w) p.effect)) (sym ticket);
+        }
 
 -- what the index tells of an effect's slices
 pub busy_is : (boot opened : ℕ) (opens : List Open) (rows : Index) (e : Effect) (images : List Image) (reads : List ReadRow) (ts : Tickets) → tickets boot opened opens ≡ ts

@@ -3,6 +3,7 @@ use Rattle.std.specs.Prelude.{◌≡◌, ℕ, zero, suc, ◌+◌, ◌-◌, ◌^�
 use Rattle.seata_types.specs.declared.copies.NoMemory.{NoMemory}
 use Rattle.seata_types.specs.declared.errors.StmtError.{StmtError}
 use Rattle.seata_types.specs.declared.ids.Ticket.{Ticket}
+use Rattle.seata_types.specs.declared.ids.Xid.{Xid}
 use Rattle.seata_types.specs.declared.rows.RowKey.{RowKey}
 use Rattle.seata_types.specs.declared.statements.Work.{Work}
 use Rattle.local_tables.specs.declared.schemas.Effect.{Effect}
@@ -81,6 +82,32 @@ abbrev pub counted : Option Open → Ticket → List Open → List Open
 counted None t opens = opens
 counted (Some o) t opens = map (counting t (raised o)) opens
 
+-- ---- plans
+
+-- these statements have this effect, unless an open ticket has a row of it: the least such row, and that ticket
+abbrev pub unless_busy : Effect → Option (RowKey × Ticket) → Result Effect ExecError
+unless_busy e (Some (key, by)) = Err (error.Busy key by)
+unless_busy e None = Ok e
+
+-- the effect of an opening, by what its statements mean: they are refused, busy, or free
+abbrev pub free_effect : List Open → Result Effect (ℕ × StmtError) → Result Effect ExecError
+free_effect opens (Err (index, why)) = Err (error.Stmt index why)
+free_effect opens (Ok e) = unless_busy e (busy_row opens e)
+
+-- a local transaction at its opening, for work of this effect
+abbrev pub at_opening : Ticket → Xid → (call manager : ℕ) → Work → Effect → OpenTxn
+at_opening t x c m w e = record { ticket = t; xid = x; call = c; manager = m; work = w; images = e.images; reads = e.reads; conflicts = 0 }
+
+-- what an opening of work with this free effect comes to: the next local transaction
+abbrev pub plan : Tickets → Xid → (call manager : ℕ) → Work → Result Effect ExecError → Result OpenTxn ExecError
+plan ts x c m w (Ok e) = Ok (at_opening (new_ticket ts) x c m w e)
+plan ts x c m w (Err why) = Err why
+
+-- an opening of work with this meaning is planned, but for want of memory
+abbrev pub Plans : Tickets → Xid → (call manager : ℕ) → Work → Result Effect (ℕ × StmtError) → Result OpenTxn ExecError → Type 0
+Plans ts x c m w meaning (Err error.NoMemory) = Unit {0}
+Plans ts x c m w meaning planned = planned ≡ plan ts x c m w (free_effect ts.opens meaning)
+
 -- ---- openings
 
 -- a ticket is open for statements that have an effect, of rows that no open ticket has
@@ -91,19 +118,12 @@ pub record Executed (old : Tickets) (owner : Owner) (meaning : Result Effect (�
   pub ticket : t ≡ new_ticket old
   pub opens : new ≡ with_open old (opening_of t owner effect)
 
--- another open ticket has a row of the effect, this one the least such row
-pub record IsBusy (opens : List Open) (meaning : Result Effect (ℕ × StmtError)) (key : RowKey) (by : Ticket) : Type 0 where
-  pub effect : Effect
-  pub means : meaning ≡ Ok effect
-  pub busy : busy_row opens effect ≡ Some (key, by)
-
 -- statements whose meaning on the tables is this open a ticket, or tell why there is none, and then all is as before; want
 -- of memory alone is free
 abbrev pub Executes : Tickets → Owner → Result Effect (ℕ × StmtError) → Result Ticket ExecError → Tickets → Type 0
 Executes old owner meaning (Ok t) new = Executed old owner meaning t new
-Executes old owner meaning (Err (error.Stmt index why)) new = (meaning ≡ Err (index, why)) × (new ≡ old)
-Executes old owner meaning (Err (error.Busy key by)) new = IsBusy old.opens meaning key by × (new ≡ old)
 Executes old owner meaning (Err error.NoMemory) new = new ≡ old
+Executes old owner meaning (Err why) new = (free_effect old.opens meaning ≡ Err why) × (new ≡ old)
 
 -- the answer where statements have no effect
 abbrev pub refusal : EffectError → ExecError

@@ -40,13 +40,13 @@ impl Model for LocalTxns {
 }
 
 impl LocalTxns {
-    ghost use Rattle.std.specs.Prelude.{◌≡◌, ◌<◌, ◌≤◌, ◌^◌, ◌-◌, true, Some, None, is_some, length, find, option_map, OnOk, OnErr, IfOk};
+    ghost use Rattle.std.specs.Prelude.{◌≡◌, ◌<◌, ◌≤◌, ◌^◌, ◌-◌, true, Some, None, Ok, is_some, length, find, option_map, OnOk, OnErr, IfOk};
     ghost use Rattle.std.specs.Option.{option_copied};
     ghost use Rattle.seata_types.specs.declared.limits.TheConstants.{FIELD_ITEMS};
     ghost use Rattle.seata_types.specs.declared.statements.Work.TheVariants as work;
     ghost use Rattle.local_tables.specs.Calls.{effect};
-    ghost use Rattle.local_txn.specs.OpenTickets.{AreDistinct, Open, open_at, without, sent_again, last_of, has_row, ticket_with, busy_row};
-    ghost use Rattle.local_txn.specs.Answers.{open_of, owner_by, is_for, ticket_of, no_tickets, new_ticket, last_ticket, with_open, with_opens, taken_back, raised, counted, Executes, Prepares, TakesBack};
+    ghost use Rattle.local_txn.specs.OpenTickets.{AreDistinct, Open, open_at, without, sent_again, last_of, has_row, ticket_with, no_effect, busy_row};
+    ghost use Rattle.local_txn.specs.Answers.{open_of, owner_by, is_for, ticket_of, no_tickets, new_ticket, last_ticket, with_open, with_opens, taken_back, raised, counted, Plans, Executes, Prepares, TakesBack};
     ghost use Rattle.seata_types.specs.declared.rows.RowKey.{RowKey as Key};
 
     /// No ticket was opened since this boot; takes no memory.
@@ -61,9 +61,52 @@ impl LocalTxns {
         }
     }
 
-    /// Opens a local transaction for statements of a call, which is then the one that was sent last; with transaction 0
-    /// for a guarded local transaction, whose number is the call. The tables stay as they are. After an error all is as
-    /// before.
+    /// What an opening of a call's statements comes to, and nothing changes: the local transaction that `open` takes, or why
+    /// there is none. With transaction 0 it is a guarded local transaction, whose number is the call.
+    pub fn plan(
+        &self,
+        alloc: Global,
+        xid: Xid,
+        call: u16,
+        manager: u16,
+        stmts: &Shared<List<Stmt>>,
+        tables: &Tables,
+    ) -> Result<OpenTxn, ExecError>
+        requires statements { length stmts.now ≤ FIELD_ITEMS }
+        requires tickets { self.now.opened < 2 ^ 32 - 1 }
+        ensures { Plans self.now xid call manager (work.At stmts.now) (effect tables.now stmts.now) result }
+    {
+        let effect = match tables.effect(alloc, stmts.get().as_slice()) {
+            Ok(effect) => effect,
+            Err(error) => return Err(opening::refused(error)),
+        };
+        if let Some((key, by)) = self.busy(&effect) {
+            return Err(opening::busy(alloc, key, by));
+        }
+        match opening::at_call(alloc, self.next(), xid, call, manager, stmts, effect) {
+            Ok(txn) => Ok(txn),
+            Err(NoMemory) => Err(ExecError::NoMemory),
+        }
+    }
+
+    /// The same of the Try of a call, of no rows yet: nothing but memory can be wanting.
+    pub fn plan_try(
+        &self,
+        alloc: Global,
+        xid: Xid,
+        call: u16,
+        manager: u16,
+        action: &Shared<Action>,
+    ) -> Result<OpenTxn, NoMemory>
+        requires { self.now.opened < 2 ^ 32 - 1 }
+        ensures { IfOk result (λ txn.
+            Plans self.now xid call manager (work.Tcc action.now) (Ok no_effect) (Ok txn)) }
+    {
+        opening::tcc_call(alloc, self.next(), xid, call, manager, action)
+    }
+
+    /// Opens a local transaction for statements of a call, as it is planned, which is then the one that was sent last. The
+    /// tables stay as they are. After an error all is as before.
     pub fn execute(
         &mut self,
         alloc: Global,
@@ -77,16 +120,9 @@ impl LocalTxns {
         requires tickets { self.old.opened < 2 ^ 32 - 1 }
         ensures { Executes self.old (owner_by xid.0 manager call (work.At stmts.now)) (effect tables.now stmts.now) result self.new }
     {
-        let effect = match tables.effect(alloc, stmts.get().as_slice()) {
-            Ok(effect) => effect,
-            Err(error) => return Err(opening::refused(error)),
-        };
-        if let Some((key, by)) = self.busy(&effect) {
-            return Err(opening::busy(alloc, key, by));
-        }
-        let ticket = self.next();
-        let Ok(txn) = opening::at_call(alloc, ticket, xid, call, manager, stmts, effect) else {
-            return Err(ExecError::NoMemory);
+        let txn = match self.plan(alloc, xid, call, manager, stmts, tables) {
+            Ok(txn) => txn,
+            Err(why) => return Err(why),
         };
         match self.open(alloc, txn) {
             Ok(ticket) => Ok(ticket),
@@ -106,8 +142,7 @@ impl LocalTxns {
         requires { self.old.opened < 2 ^ 32 - 1 }
         ensures { Prepares self.old (owner_by xid.0 manager call (work.Tcc action.now)) result self.new }
     {
-        let ticket = self.next();
-        let txn = opening::tcc_call(alloc, ticket, xid, call, manager, action)?;
+        let txn = self.plan_try(alloc, xid, call, manager, action)?;
         self.open(alloc, txn)
     }
 

@@ -1,8 +1,8 @@
-//! The parts of an opening: what is kept of a call, and the answer where nothing is opened.
+//! The parts of a plan: what is kept of a call, and the answer where nothing is opened.
 ghost use Rattle.std.specs.Prelude.{◌≡◌, IfOk};
 ghost use Rattle.seata_types.specs.declared.statements.Work.TheVariants as work;
-ghost use Rattle.local_txn.specs.OpenTickets.{opening_of, no_effect};
-ghost use Rattle.local_txn.specs.Answers.{open_of, owner_by, refusal, TellsBusy};
+ghost use Rattle.local_txn.specs.OpenTickets.{no_effect};
+ghost use Rattle.local_txn.specs.Answers.{at_opening, refusal, TellsBusy};
 
 use crate::transactions::{ExecError, OpenTxn};
 use local_tables::{Effect, EffectError};
@@ -39,7 +39,7 @@ pub(crate) fn at_call(
     stmts: &Shared<List<Stmt>>,
     effect: Effect,
 ) -> Result<OpenTxn, NoMemory>
-    ensures { IfOk result (λ txn. open_of txn ≡ opening_of ticket (owner_by xid.0 manager call (work.At stmts.now)) effect) }
+    ensures { IfOk result (λ txn. txn ≡ at_opening ticket xid call manager (work.At stmts.now) effect) }
 {
     let work = Work::At(stmts.copy(alloc)?);
     let Effect { images, reads, .. } = effect;
@@ -64,7 +64,7 @@ pub(crate) fn tcc_call(
     manager: u16,
     action: &Shared<Action>,
 ) -> Result<OpenTxn, NoMemory>
-    ensures { IfOk result (λ txn. open_of txn ≡ opening_of ticket (owner_by xid.0 manager call (work.Tcc action.now)) no_effect) }
+    ensures { IfOk result (λ txn. txn ≡ at_opening ticket xid call manager (work.Tcc action.now) no_effect) }
 {
     Ok(OpenTxn {
         ticket,

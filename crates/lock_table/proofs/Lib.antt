@@ -3,10 +3,10 @@ pub mod Places
 pub mod Puts
 pub mod Holders
 pub mod Changes
-pub mod TakenOut
 pub mod Firsts
 pub mod Released
+pub mod Times
+pub mod Counted
 pub mod Parts
 pub mod Answered
 pub mod Own
-pub mod GivenBack

@@ -1,5 +1,5 @@
 -- The branches of one transaction, which stand next to each other: from its least branch on, up to one of another.
-use Rattle.std.proofs.Common.{◌≡◌, ℕ, ◌<◌, Bool, true, false, cond, ◌||◌, ◌&&◌, ◌==◌, List, [], ◌∷◌, Option, Some, None, Ordering, Less, Equal, Greater, refl, sym, arith}
+use Rattle.std.proofs.Common.{◌≡◌, ℕ, ◌<◌, true, false, cond, ◌&&◌, ◌==◌, List, [], ◌∷◌, Option, Some, None, Ordering, Less, Equal, Greater, refl, sym, arith}
 use Rattle.std.specs.List.{AllByRecursion}
 use Rattle.std.specs.List.Sorted.{IsStrictlySortedBy}
 use Rattle.std.specs.Map.{keys_of}
@@ -11,13 +11,7 @@ use Rattle.std.proofs.lemmas.Bool.{ne_eqb, eq-eqb}
 use Rattle.seata_types.specs.declared.ids.Xid.{Xid}
 use Rattle.seata_types.specs.declared.ids.Leg.{Leg}
 use Rattle.seata_types.specs.declared.rows.RowKey.{RowKey}
-use Rattle.durable_records.specs.Locks.{has_key}
-use Rattle.lock_table.specs.Locks.{Holds, leg_cmp, least_leg, leg_of, holds}
-
--- whether one of the first branches, all of x, holds the row
-abbrev pub own_holds : Holds → Xid → RowKey → Bool
-own_holds [] x r = false
-own_holds (e ∷ es) x r = cond (e.0.xid.0 == x.0) (has_key e.1 r || own_holds es x r) false
+use Rattle.lock_table.specs.Locks.{Holds, leg_cmp, least_leg, leg_of}
 
 -- the first branch, where it is of x
 abbrev pub own_leg : Holds → Xid → Option Leg
@@ -39,12 +33,6 @@ not_own : (x : Xid) (leg : Leg) → x.0 < leg.xid.0 → (leg.xid.0 == x.0) ≡ f
 not_own x leg low = ne_eqb leg.xid.0 x.0 (λ same. omega (arith, low, same))
 
 module _ (x : Xid) (first : Leg) (low : x.0 < first.xid.0) where
-  none_held : (es : Holds) (r : RowKey) → AllByRecursion (λ k. leg_cmp first k ≡ Less) (keys_of es) → holds es x r ≡ false
-  none_held [] r above = refl
-  none_held (e ∷ es) r above =
-      let later : x.0 < e.0.xid.0 = later_by x.0 first.xid.0 e.0.xid.0 (nat_cmp first.xid.0 e.0.xid.0) (nat_cmp first.branch.0 e.0.branch.0) refl low above.0 in
-      rw (not_own x e.0 later) (none_held es r above.1)
-
   none_own : (es : Holds) → AllByRecursion (λ k. leg_cmp first k ≡ Less) (keys_of es) → leg_of es x ≡ None
   none_own [] above = refl
   none_own (e ∷ es) above =
@@ -55,7 +43,7 @@ head_below : (e : Leg × List RowKey) (es : Holds) → IsStrictlySortedBy leg_cm
 unfolding IsStrictlySortedBy
 head_below e es sorted = sorted.0
 
-tail_sorted : (e : Leg × List RowKey) (es : Holds) → IsStrictlySortedBy leg_cmp (keys_of (e ∷ es)) → IsStrictlySortedBy leg_cmp (keys_of es)
+pub tail_sorted : (e : Leg × List RowKey) (es : Holds) → IsStrictlySortedBy leg_cmp (keys_of (e ∷ es)) → IsStrictlySortedBy leg_cmp (keys_of es)
 unfolding IsStrictlySortedBy
 tail_sorted e es sorted = sorted.1
 
@@ -68,24 +56,6 @@ least_by b Greater is = let none : b < 0 = ranked 0 b Greater is in absurd (omeg
 
 least_is : (b : ℕ) → is_le (nat_cmp 0 b) ≡ true
 least_is b = least_by b (nat_cmp 0 b) refl
-
-held_by : (x : Xid) (e : Leg × List RowKey) (es rest : Holds) (r : RowKey) (o : Ordering) → o ≡ nat_cmp x.0 e.0.xid.0 → AllByRecursion (λ k. leg_cmp e.0 k ≡ Less) (keys_of es) → own_holds rest x r ≡ holds es x r →
-    own_holds (cond (is_le (ordering_then o (nat_cmp 0 e.0.branch.0)) && true) (e ∷ rest) rest) x r ≡ (((e.0.xid.0 == x.0) && has_key e.1 r) || holds es x r)
-held_by x e es rest r Less is below later =
-    let low : x.0 < e.0.xid.0 = ranked x.0 e.0.xid.0 Less is in
-    rw (not_own x e.0 low, none_held x e.0 low es r below) refl
-held_by x e es rest r Equal is below later =
-    let same : x.0 ≡ e.0.xid.0 = ranked x.0 e.0.xid.0 Equal is in
-    let own : (e.0.xid.0 == x.0) ≡ true = eq-eqb e.0.xid.0 x.0 (sym same) in
-    rw (least_is e.0.branch.0, own, later) refl
-held_by x e es rest r Greater is below later =
-    let low : e.0.xid.0 < x.0 = ranked x.0 e.0.xid.0 Greater is in
-    let other : (e.0.xid.0 == x.0) ≡ false = ne_eqb e.0.xid.0 x.0 (λ same. omega (arith, low, same)) in
-    rw (other) later
-
-pub own_is : (x : Xid) (hs : Holds) (r : RowKey) → IsStrictlySortedBy leg_cmp (keys_of hs) → own_holds (legs_from x hs) x r ≡ holds hs x r
-own_is x [] r sorted = refl
-own_is x (e ∷ es) r sorted = held_by x e es (legs_from x es) r (nat_cmp x.0 e.0.xid.0) refl (head_below e es sorted) (own_is x es r (tail_sorted e es sorted))
 
 leg_by : (x : Xid) (e : Leg × List RowKey) (es rest : Holds) (o : Ordering) → o ≡ nat_cmp x.0 e.0.xid.0 → AllByRecursion (λ k. leg_cmp e.0 k ≡ Less) (keys_of es) → own_leg rest x ≡ leg_of es x →
     own_leg (cond (is_le (ordering_then o (nat_cmp 0 e.0.branch.0)) && true) (e ∷ rest) rest) x ≡ cond (e.0.xid.0 == x.0) (Some e.0) (leg_of es x)

@@ -10,7 +10,6 @@ use Rattle.seata_types.specs.declared.ids.Xid.{Xid}
 use Rattle.seata_types.specs.declared.ids.Leg.{Leg}
 use Rattle.seata_types.specs.declared.rows.RowKey.{RowKey}
 use Rattle.local_tables.specs.Rows.{is_key}
-use Rattle.local_tables.specs.Lookups.{IsRising}
 use Rattle.durable_records.specs.Locks.{has_key}
 
 -- ---- rows with their holders
@@ -56,11 +55,6 @@ HaveOneHolder hs = (x y : Xid) (r : RowKey) → holds hs x r ≡ true → holds 
 abbrev pub is_holder : Option Xid → Xid → Bool
 is_holder None x = false
 is_holder (Some y) x = y.0 == x.0
-
--- these rows stand in order, and each has the holder that the branches say
-pub record IsIndex (ls : Locks) (hs : Holds) : Type 0 where
-  pub order : IsRising ls
-  pub agrees : (x : Xid) (r : RowKey) → is_holder (locked ls r) x ≡ holds hs x r
 
 abbrev pub locks_on : Xid → List RowKey → Locks → Locks
 locks_on x [] ls = ls

@@ -4,6 +4,7 @@
 #![tactic(auto)]
 
 mod errors;
+mod holder;
 mod holding;
 mod index;
 mod steps;

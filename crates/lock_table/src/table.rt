@@ -4,6 +4,7 @@ ghost use Rattle.lock_table.specs.Locks.{HaveOneHolder, locks, holder, first_hel
 ghost use Rattle.lock_table.specs.Answers.{FindsConflict, TakesRows};
 
 use crate::errors::HoldError;
+use crate::holder::Holder;
 use crate::steps::Steps;
 use crate::{holding, index};
 use seata_types::{Duplicate, Leg, List, NoMemory, RowKey, Xid};
@@ -16,12 +17,13 @@ use std::sync::ledger::Ledger;
 /// holders.
 #[derive(Drop)]
 pub struct LockTable {
-    rows: Vec<(RowKey, Xid)>,
+    rows: Vec<(RowKey, Holder)>,
     holds: BTreeMap<Leg, List<RowKey>>,
 }
 
 impl Model for LockTable {
-    ghost use Rattle.lock_table.specs.Locks.{Holds, IsIndex};
+    ghost use Rattle.lock_table.specs.Locks.{Holds};
+    ghost use Rattle.lock_table.specs.Counts.{IsIndex};
 
     ghost Value = { Holds };
 
@@ -113,8 +115,10 @@ impl LockTable {
     {
         let keys = holding::copies(alloc, hold)?;
         let all = holding::with_rows(alloc, &self.holds, leg, hold)?;
+        prove!(all.as_slice().len() <= usize::MAX);
         self.rows.reserve(hold.len())?;
         self.holds.insert(leg, all)?;
+        prove!(self.holds.len() <= usize::MAX);
         holding::put_all(&mut self.rows, keys, leg.xid, steps);
         Ok(())
     }
@@ -132,9 +136,7 @@ impl LockTable {
     pub fn release(&mut self, leg: Leg)
         ensures { self.new ≡ without_leg self.old leg }
     {
-        if let Some(keys) = self.holds.remove(&leg) {
-            holding::take_out_all(&mut self.rows, &self.holds, keys.as_slice(), leg.xid);
-        }
+        holding::give_leg(&mut self.rows, &mut self.holds, leg);
     }
 
     /// Gives back all rows of a transaction; takes no memory.

@@ -297,7 +297,7 @@ impl Talk {
     {
         match given {
             Input::Turn => self.turn(alloc),
-            Input::Message { from: _, message } => self.hear(alloc, message),
+            Input::Message { from: _, message } => self.hear(alloc, message.get()),
             Input::Local { .. } | Input::Outside { .. } => Ok(still(Act::Ignored)),
         }
     }

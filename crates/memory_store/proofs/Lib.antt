@@ -6,3 +6,5 @@ pub mod Settled
 pub mod TwinFacts
 pub mod Damages
 pub mod DiskFacts
+pub mod Lists
+pub mod ListKeeping

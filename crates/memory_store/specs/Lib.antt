@@ -7,3 +7,5 @@ pub mod Keeping
 pub mod Adding
 pub mod Openings
 pub mod Readings
+pub mod Lists
+pub mod ListKeeping

@@ -71,7 +71,8 @@ pub trait StateMachine {
         requires can { (meaning self.now).can_write memory.now ≡ true }
         requires few { (meaning self.now).acts memory.now < ACTS }
         requires sound { (meaning self.now).IsSound memory.now }
-        ensures { IfOk result (λ bytes. bytes.items ≡ (meaning self.now).snapshot_bytes memory.now) };
+        ensures { IfOk result
+            (λ bytes. bytes.items ≡ (meaning self.now).snapshot_bytes memory.now) };
 
     /// What always holds of it.
     ghost lawful: { (machine : Self) → IsLawful (meaning machine) };

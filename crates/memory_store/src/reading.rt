@@ -47,7 +47,8 @@ fn take_in<M: StateMachine>(
     body: &[u8],
 ) -> Result<(), ReadError>
     ensures taken { TakesIn (M.meaning machine.now) memory.old body.now result memory.new }
-    ensures sound { (M.meaning machine.now).IsSound memory.old → (M.meaning machine.now).IsSound memory.new }
+    ensures sound { (M.meaning machine.now).IsSound memory.old →
+        (M.meaning machine.now).IsSound memory.new }
 {
     let item = machine.read_record(alloc, body)?;
     let counted = machine.acts(memory) < u32::MAX;
@@ -71,9 +72,11 @@ fn replay<M: StateMachine>(
     records: &[List<u8>],
 ) -> Result<(), OpenError>
     ensures replayed { from + row_length records.now < 2 ^ 64 →
-        Replays (replayed (M.meaning machine.now) memory.old from records.now) second result memory.new }
+        Replays (replayed (M.meaning machine.now) memory.old from records.now) second result
+        memory.new }
     ensures error { IfErr result IsReadingError }
-    ensures sound { (M.meaning machine.now).IsSound memory.old → (M.meaning machine.now).IsSound memory.new }
+    ensures sound { (M.meaning machine.now).IsSound memory.old →
+        (M.meaning machine.now).IsSound memory.new }
 {
     let mut at = from;
     for record in records {

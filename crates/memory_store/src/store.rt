@@ -44,7 +44,8 @@ impl<K: Drop, M: StateMachine<Memory = K> + Drop, D: Disk> Store<M, K, D> {
         requires first { IsSettled (D.state first) }
         requires second { IsSettled (D.state second) }
 
-        ensures reads { ReadsDisks D.state (M.meaning machine) (λ store. store) first second result }
+        ensures reads { ReadsDisks D.state (M.meaning machine) (λ store. store) first second
+            result }
         ensures machine { IfOk result (λ store. machine_of store ≡ machine) }
         ensures sound { IfOk result (λ store. (M.meaning machine).IsSound (memory_of store)) }
     {
@@ -80,7 +81,8 @@ impl<K: Drop, M: StateMachine<Memory = K> + Drop, D: Disk> Store<M, K, D> {
         requires first { IsSettled (D.state first) }
         requires second { IsSettled (D.state second) }
 
-        ensures opens { OpensDisks D.state (M.meaning machine) (λ store. store) (GoesOn (M.meaning machine)) first second result }
+        ensures opens { OpensDisks D.state (M.meaning machine) (λ store. store)
+            (GoesOn (M.meaning machine)) first second result }
         ensures machine { IfOk result (λ store. machine_of store ≡ machine) }
         ensures sound { IfOk result (λ store. (M.meaning machine).IsSound (memory_of store)) }
     {
@@ -101,10 +103,14 @@ impl<K: Drop, M: StateMachine<Memory = K> + Drop, D: Disk> Store<M, K, D> {
     pub fn fits(&self, body: usize) -> Result<(), Full>
         requires { body ≤ BODY_BYTES }
         ensures ok { OnOk result (HasRoomFor D.state body self.now) }
-        ensures room { OnOk result ((M.meaning (machine_of self.now)).acts (memory_of self.now) + 1 < 2 ^ 32) }
+        ensures room { OnOk result
+            ((M.meaning (machine_of self.now)).acts (memory_of self.now) + 1 < 2 ^ 32) }
         // It is exact, since no disk has room for as many records as can be counted.
-        ensures full { IfErr result (λ full. IsFullFor D.state body self.now full ⊎ IsAtEnd (M.meaning (machine_of self.now)) self.now) }
-        ensures exact { (found : Found) → Keeps D.state (M.meaning (machine_of self.now)) found self.now → IfErr result (IsFullFor D.state body self.now) }
+        ensures full { IfErr result (λ full. IsFullFor D.state body self.now full ⊎
+            IsAtEnd (M.meaning (machine_of self.now)) self.now) }
+        ensures exact { (found : Found) →
+            Keeps D.state (M.meaning (machine_of self.now)) found self.now →
+            IfErr result (IsFullFor D.state body self.now) }
     {
         if let Err(full) = self.twin.fits(body) {
             return Err(full);
@@ -124,11 +130,13 @@ impl<K: Drop, M: StateMachine<Memory = K> + Drop, D: Disk> Store<M, K, D> {
     /// memory then has the record, and the disks may have it.
     pub fn add(&mut self, alloc: Global, item: &M::Record, body: &[u8]) -> Result<(), StoreError>
         requires up { is_down self.old ≡ false }
-        requires allowed { (M.meaning (machine_of self.old)).may_come (memory_of self.old) item.now ≡ true }
+        requires allowed { (M.meaning (machine_of self.old)).may_come (memory_of self.old)
+            item.now ≡ true }
         requires is { (M.meaning (machine_of self.old)).record_of body.now ≡ Some item.now }
         requires small { length body.now ≤ BODY_BYTES }
 
-        ensures { Adds D.state (M.meaning (machine_of self.old)) item.now body.now result self.old self.new }
+        ensures { Adds D.state (M.meaning (machine_of self.old)) item.now body.now result self.old
+            self.new }
     {
         if let Err(full) = self.fits(body.len()) {
             return Err(StoreError::Full(full));
@@ -148,11 +156,13 @@ impl<K: Drop, M: StateMachine<Memory = K> + Drop, D: Disk> Store<M, K, D> {
     /// memory then has the record, and the disks may have it.
     pub fn take(&mut self, alloc: Global, item: M::Record, body: &[u8]) -> Result<(), StoreError>
         requires up { is_down self.old ≡ false }
-        requires allowed { (M.meaning (machine_of self.old)).may_come (memory_of self.old) item ≡ true }
+        requires allowed { (M.meaning (machine_of self.old)).may_come (memory_of self.old)
+            item ≡ true }
         requires is { (M.meaning (machine_of self.old)).record_of body.now ≡ Some item }
         requires small { length body.now ≤ BODY_BYTES }
 
-        ensures { Adds D.state (M.meaning (machine_of self.old)) item body.now result self.old self.new }
+        ensures { Adds D.state (M.meaning (machine_of self.old)) item body.now result self.old
+            self.new }
     {
         if let Err(full) = self.fits(body.len()) {
             drop(item);
@@ -174,17 +184,21 @@ impl<K: Drop, M: StateMachine<Memory = K> + Drop, D: Disk> Store<M, K, D> {
         requires small { length body.now ≤ BODY_BYTES }
         requires fits { HasRoomFor D.state (length body.now) self.old }
 
-        ensures acknowledged { OnOk result ((found : Found) → KeepsPair D.state found (twin_of self.old) →
+        ensures acknowledged { OnOk result ((found : Found) →
+            KeepsPair D.state found (twin_of self.old) →
             KeepsPair D.state (with_record found body.now) (twin_of self.new)) }
         ensures any_moment { (found : Found) → KeepsPair D.state found (twin_of self.old) →
-            LeavesPairs (disks D.state (twin_of self.old)) (disks D.state (twin_of self.new)) (Either found (with_record found body.now)) }
+            LeavesPairs (disks D.state (twin_of self.old)) (disks D.state (twin_of self.new))
+            (Either found (with_record found body.now)) }
         ensures not_begun { (found : Found) → KeepsPair D.state found (twin_of self.old) →
-            (calls : ℕ) → (D.state (active_disk (twin_of self.old))).counts.left ≡ Some calls → calls < 2 →
-            LeavesPairs (disks D.state (twin_of self.old)) (disks D.state (twin_of self.new)) (PairStandsFor found) }
+            (calls : ℕ) → (D.state (active_disk (twin_of self.old))).counts.left ≡ Some calls →
+            calls < 2 → LeavesPairs (disks D.state (twin_of self.old))
+            (disks D.state (twin_of self.new)) (PairStandsFor found) }
 
         ensures took { OnOk result (Takes D.state (twin_of self.old) (twin_of self.new)) }
         ensures extent { OnOk result
-            (twin_extent (twin_of self.new) ≡ longer (length body.now) (twin_extent (twin_of self.old))) }
+            (twin_extent (twin_of self.new) ≡ longer (length body.now)
+            (twin_extent (twin_of self.old))) }
         ensures failed { OnErr result (Falls D.state (twin_of self.old) (twin_of self.new)) }
         ensures down { is_down self.new ≡ is_err result }
         ensures memory { memory_of self.new ≡ memory_of self.old }
@@ -215,10 +229,13 @@ impl<K: Drop, M: StateMachine<Memory = K> + Drop, D: Disk> Store<M, K, D> {
         requires { pick ≤ LAST_PICK }
 
         // What it knows is exactly what the pair of images that came back holds.
-        ensures back { OnOk result (IsTold (D.state (first_disk (twin_of self.old))) → IsTold (D.state (second_disk (twin_of self.old))) →
+        ensures back { OnOk result (IsTold (D.state (first_disk (twin_of self.old))) →
+            IsTold (D.state (second_disk (twin_of self.old))) →
             IsBack D.state (M.meaning (machine_of self.old)) pick self.old self.new) }
-        ensures comes { ComesBack D.state (M.meaning (machine_of self.old)) twin_of (GoesOn (M.meaning (machine_of self.old))) pick self.old self.new result }
-        ensures sound { OnOk result ((M.meaning (machine_of self.old)).IsSound (memory_of self.new)) }
+        ensures comes { ComesBack D.state (M.meaning (machine_of self.old)) twin_of
+            (GoesOn (M.meaning (machine_of self.old))) pick self.old self.new result }
+        ensures sound { OnOk result
+            ((M.meaning (machine_of self.old)).IsSound (memory_of self.new)) }
         ensures memory { OnErr result (memory_of self.new ≡ memory_of self.old) }
         ensures machine { machine_of self.new ≡ machine_of self.old }
         ensures found { found_of self.new ≡ found_of self.old }
@@ -239,10 +256,15 @@ impl<K: Drop, M: StateMachine<Memory = K> + Drop, D: Disk> Store<M, K, D> {
     // Takes over what its disks hold, as they were read.
     fn recover(&mut self, alloc: Global, found: &Found) -> Result<(), OpenError>
         requires up { is_down self.old ≡ false }
-        ensures ok { OnOk result ((a b : List ℕ) → present (D.state (first_disk (twin_of self.old))) ≡ Some a → present (D.state (second_disk (twin_of self.old))) ≡ Some b →
-            PairStandsFor found.now a b → KeepsPair D.state found.now (twin_of self.old) → IsOf D.state (M.meaning (machine_of self.old)) a b self.new) }
-        ensures over { TakesOver D.state (M.meaning (machine_of self.old)) found.now (twin_of self.old) (twin_of self.new) result }
-        ensures sound { OnOk result ((M.meaning (machine_of self.old)).IsSound (memory_of self.new)) }
+        ensures ok { OnOk result ((a b : List ℕ) →
+            present (D.state (first_disk (twin_of self.old))) ≡ Some a →
+            present (D.state (second_disk (twin_of self.old))) ≡ Some b →
+            PairStandsFor found.now a b → KeepsPair D.state found.now (twin_of self.old) →
+            IsOf D.state (M.meaning (machine_of self.old)) a b self.new) }
+        ensures over { TakesOver D.state (M.meaning (machine_of self.old)) found.now
+            (twin_of self.old) (twin_of self.new) result }
+        ensures sound { OnOk result
+            ((M.meaning (machine_of self.old)).IsSound (memory_of self.new)) }
         ensures memory { OnErr result (memory_of self.new ≡ memory_of self.old) }
         ensures up { OnOk result (is_down self.new ≡ false) }
         ensures machine { machine_of self.new ≡ machine_of self.old }

@@ -4,6 +4,8 @@ use denote.Param.Send.{IsSend, sendable, struct_send, recorded_send, view_send}
 use denote.Struct.Declared.{shape}
 use Rattle.std.proofs.Crossing.{crosses}
 use Rattle.history_text.proofs.entries.Entry.TheSendSync.{the_send as entry_send}
+use Rattle.history_text.proofs.notes.Note.TheSendSync.{the_send as note_send}
+use Rattle.seata_types.proofs.boxes.Boxed.TheSendSync.{the_send as boxed_send}
 use Rattle.link_queue.proofs.Sendable.{send_seat_send, take_seat_send}
 use Rattle.node_steps.specs.declared.nodes.Node.{Ghosts as OfNode}
 use Rattle.node_seat.specs.declared.names.RunName.{Ghosts as OfRun}
@@ -13,7 +15,7 @@ use Rattle.node_seat.specs.contracts.seats.Seat as seat
 use Rattle.node_seat.specs.contracts.seats.Seat.TheInside as inside
 use Rattle.node_seat.specs.contracts.stations.Station as station
 
--- the node, its trace, whether it runs, its plan, three counts, the ends of its links, the one that is next, and its fault
+-- the node, its trace, room for a note, whether it runs, its plan, three counts, the ends of its links, the one that is next, and its fault
 station_send : (N : RattleType) → IsSend N → IsSend (station.the_field N).row
 station_send N s =
     struct_send
@@ -22,18 +24,21 @@ station_send N s =
       (
         search (crosses, entry_send) depth 12,
         (
-          search sendable,
+          search (sendable, crosses, boxed_send, note_send) depth 12,
           (
-            plan_send,
+            search sendable,
             (
-              search sendable,
+              plan_send,
               (
                 search sendable,
                 (
                   search sendable,
                   (
-                    search (crosses, take_seat_send) depth 12,
-                    (search (crosses, send_seat_send) depth 12, (search sendable, (search (sendable, fault_send) depth 12, tt))),
+                    search sendable,
+                    (
+                      search (crosses, take_seat_send) depth 12,
+                      (search (crosses, send_seat_send) depth 12, (search sendable, (search (sendable, fault_send) depth 12, tt))),
+                    ),
                   ),
                 ),
               ),

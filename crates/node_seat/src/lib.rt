@@ -2,7 +2,7 @@
 //! the node is what the trace replays to, and what went over its links is what the trace received and sent.
 #![tactic(auto)]
 
-mod entering;
+pub mod entering;
 pub mod faults;
 mod hearing;
 pub mod names;
@@ -15,6 +15,7 @@ mod stations;
 mod taking;
 pub mod turned;
 
+pub use entering::enter;
 pub use faults::{RunFault, open_fault};
 pub use names::RunName;
 pub use places::is_same;

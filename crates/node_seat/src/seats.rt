@@ -107,6 +107,7 @@ impl<N: Node, K: RunName> Seat<N, K> {
         enter(
             &mut station.node,
             &mut station.trace,
+            &mut station.room,
             alloc,
             stamp,
             now,
@@ -170,8 +171,10 @@ impl<N: Node, K: RunName> Seat<N, K> {
             trace,
             takers,
             senders,
+            room,
             ..
         } = self.station;
+        drop(room);
         (node, List::of(trace), List::of(takers), List::of(senders))
     }
 }

@@ -7,10 +7,10 @@ use crate::plans::Plan;
 use crate::taking::take_any;
 use crate::turned::Turned;
 use frame_codec::Packet;
-use history_text::{Cause, Entry};
+use history_text::{Cause, Entry, Note};
 use link_queue::{SendSeat, TakeSeat};
 use node_steps::Node;
-use seata_types::{Input, List, Message, NoMemory, Place};
+use seata_types::{Boxed, Input, List, Message, NoMemory, Place};
 use std::alloc::Global;
 use std::sync::Wait;
 
@@ -27,6 +27,8 @@ const USUAL_PICK: u16 = 1;
 pub struct Station<N> {
     pub node: N,
     pub trace: Vec<Entry>,
+    /// Room for what its next entry shows of the message that it sends.
+    pub room: Option<Boxed<Note>>,
     pub runs: bool,
     pub plan: Plan,
     pub restarts: u32,
@@ -63,6 +65,7 @@ impl<N: Node> Station<N> {
         Station {
             node,
             trace: Vec::new(alloc),
+            room: None,
             runs,
             plan,
             restarts: 0,
@@ -112,6 +115,7 @@ impl<N: Node> Station<N> {
         match enter(
             &mut self.node,
             &mut self.trace,
+            &mut self.room,
             alloc,
             stamp,
             now,
@@ -194,7 +198,7 @@ impl<N: Node> Station<N> {
         rt: &R,
         alloc: Global,
         from: Place,
-        message: Message,
+        message: Boxed<Message>,
         sent: u32,
     ) -> Result<(), RunFault>
         requires goes { CanGoOn (N.state self.old.node) (seated_of self.old) }
@@ -240,6 +244,9 @@ impl<N: Node> Station<N> {
             drop(message);
             return Err(RunFault::Other);
         }
+        let Ok(message) = Boxed::new(alloc, message) else {
+            return Err(RunFault::NoMemory);
+        };
         match self.deliver(rt, alloc, from, message, sent) {
             Ok(()) => Ok(Turned::Took),
             Err(fault) => Err(fault),

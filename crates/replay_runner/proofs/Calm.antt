@@ -12,8 +12,8 @@ use Rattle.node_steps.specs.Nodes.{place_of}
 use Rattle.node_seat.specs.declared.faults.RunFault.{RunFault}
 use Rattle.node_seat.specs.declared.faults.RunFault.TheVariants as fault
 use Rattle.scenario_nodes.specs.Nodes.{Held, HoldAll, Holds, Server, server_names, servers_of}
-use Rattle.scenario_nodes.specs.Opening.{AreNotOpened, HaveCounted}
-use Rattle.scenario_nodes.specs.Shelves.{AllTell, AreGivenBack, IsDiskName, pair_of, second_name}
+use Rattle.scenario_nodes.specs.Opening.{AreNotOpened, IsItsFault}
+use Rattle.scenario_nodes.specs.Shelves.{AreGivenBack, IsDiskName, pair_of, second_name}
 use Rattle.scenario_nodes.specs.Together.{AreEach, IsOfOne}
 use Rattle.scenario_nodes.proofs.Returned.{still}
 use Rattle.scenario_nodes.proofs.Together.{all_behind}
@@ -48,27 +48,27 @@ module _ {D : Type 0} (state : D → DiskState) (s : Scenario) (old new : ShelfS
   not_played disks back q counted = let none = none_at disks back q in omega (arith, counted, none)
 
   -- nor while the nodes were opened
-  not_counted : (held : Held) (before behind : List Server) (v : Server) → servers_of s held ≡ before ++ v ∷ behind → (d : D × D) → AreGivenBack old new v.name d → (at q : Place) → HaveCounted at (pair_of state d) (fault.Store q) → ⊥
+  not_counted : (held : Held) (before behind : List Server) (v : Server) → servers_of s held ≡ before ++ v ∷ behind → (d : D × D) → AreGivenBack old new v.name d → (at q : Place) → IsItsFault at (pair_of state d) (fault.Store q) → ⊥
   not_counted held before behind v all d back at q counted = let none = none_counted v.name d (of_server s held before behind v all) back in let some = counted.1 in omega (arith, some, none)
 
   not_opened : (held : Held) (q : Place) → AreNotOpened state s (servers_of s held) old new (fault.Store q) → ⊥
   not_opened held q (inl t) =
-      ⊎_elim (λ n. calm.shelf n.cause.1) (λ b. not_counted held t.before t.behind t.server t.all b.disks b.back (place_of t.server.role) q b.shows.counted) t.refused
-  not_opened held q (inr t) = not_counted held t.before t.behind t.server t.all t.refused.disks t.refused.back (place_of t.server.role) q t.refused.counted
+      ⊎_elim (λ n. calm.shelf n.cause.1) (λ b. not_counted held t.before t.behind t.server t.all b.disks b.back (place_of t.server.role) q b.shows.blames) t.refused
+  not_opened held q (inr t) = not_counted held t.before t.behind t.server t.all t.refused.disks t.refused.back (place_of t.server.role) q t.refused.blames
 
 -- disks that hold records are not damaged, and of no other scenario
-module _ {D : Type 0} (state : D → DiskState) (all : AllTell state) (s : Scenario) (held : Held) (old new : ShelfState D) (holds : HoldAll state old s held) where
+module _ {D : Type 0} (state : D → DiskState) (s : Scenario) (held : Held) (old new : ShelfState D) (holds : HoldAll state old s held) where
   -- those of one of the nodes
   holds_at : (before behind servers : List Server) (v : Server) → servers ≡ before ++ v ∷ behind → AllByRecursion (Holds state old s) servers → Holds state old s v
   holds_at before behind servers v is each = (all_behind (Holds state old s) before (v ∷ behind) (subst (AllByRecursion (Holds state old s)) is each)).0
 
   not_damaged : (q : Place) (second : Bool) (offset : ℕ) → AreNotOpened state s (servers_of s held) old new (fault.Damaged q second offset) → ⊥
-  not_damaged q second offset (inl t) = ⊎_elim (λ n. n.cause) (λ b. b.shows.cause all (holds_at t.before t.behind (servers_of s held) t.server t.all holds)) t.refused
-  not_damaged q second offset (inr t) = (t.refused.unopened all (holds_at t.before t.behind (servers_of s held) t.server t.all holds)).cause
+  not_damaged q second offset (inl t) = ⊎_elim (λ n. n.cause) (λ b. b.shows.cause (holds_at t.before t.behind (servers_of s held) t.server t.all holds)) t.refused
+  not_damaged q second offset (inr t) = (t.refused.unopened (holds_at t.before t.behind (servers_of s held) t.server t.all holds)).cause
 
   not_other : AreNotOpened state s (servers_of s held) old new fault.Other → ⊥
-  not_other (inl t) = ⊎_elim (λ n. n.cause) (λ b. b.shows.cause all (holds_at t.before t.behind (servers_of s held) t.server t.all holds)) t.refused
-  not_other (inr t) = (t.refused.unopened all (holds_at t.before t.behind (servers_of s held) t.server t.all holds)).cause
+  not_other (inl t) = ⊎_elim (λ n. n.cause) (λ b. b.shows.cause (holds_at t.before t.behind (servers_of s held) t.server t.all holds)) t.refused
+  not_other (inr t) = (t.refused.unopened (holds_at t.before t.behind (servers_of s held) t.server t.all holds)).cause
 
 -- what disks show once the nodes went on isn't damage, nor another scenario
 pub record NeverDamaged (Shows : Showing) : Type 1 where
@@ -82,10 +82,10 @@ module _ {D : Type 0} (Shows : Held → Showing) (state : D → DiskState) (s : 
   ends_calmly (Err fault.NoMemory) same r calm = tt
   ends_calmly (Err (fault.Store q)) same (inl g) calm = not_played state s old new calm (still old.tells new.tells same calm.tells) g.disks g.back q g.counted
   ends_calmly (Err (fault.Store q)) same (inr t) calm = not_opened state s old new calm (still old.tells new.tells same calm.tells) held q (t held)
-  ends_calmly (Err (fault.Damaged q second offset)) same (inl g) calm = never.damaged (map (pair_of state) g.disks) q second offset (g.leaves calm.told held holds)
-  ends_calmly (Err (fault.Damaged q second offset)) same (inr t) calm = not_damaged state calm.told s held old new holds q second offset (t held)
-  ends_calmly (Err fault.Other) same (inl g) calm = never.other (map (pair_of state) g.disks) (g.leaves calm.told held holds)
-  ends_calmly (Err fault.Other) same (inr t) calm = not_other state calm.told s held old new holds (t held)
+  ends_calmly (Err (fault.Damaged q second offset)) same (inl g) calm = never.damaged (map (pair_of state) g.disks) q second offset (g.leaves held holds)
+  ends_calmly (Err (fault.Damaged q second offset)) same (inr t) calm = not_damaged state s held old new holds q second offset (t held)
+  ends_calmly (Err fault.Other) same (inl g) calm = never.other (map (pair_of state) g.disks) (g.leaves held holds)
+  ends_calmly (Err fault.Other) same (inr t) calm = not_other state s held old new holds (t held)
 
 -- so of a replay
 pub never_damaged : (s : Scenario) (held : Held) → NeverDamaged (Leaves s held)

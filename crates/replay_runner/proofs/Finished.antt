@@ -15,7 +15,6 @@ use Rattle.history_text.specs.Worlds.{items_of, world_of}
 use Rattle.node_seat.specs.declared.faults.RunFault.{RunFault}
 use Rattle.node_seat.specs.declared.faults.RunFault.TheVariants as fault
 use Rattle.scenario_nodes.specs.Nodes.{Held, HoldAll, server_names}
-use Rattle.scenario_nodes.specs.Shelves.{AllTell}
 use Rattle.scenario_nodes.specs.Together.{Takes}
 use Rattle.scenario_nodes.specs.Together.{GivesBack as GivesDisks}
 use Rattle.scenario_nodes.proofs.Returned.{all_same, keeps_then}
@@ -174,7 +173,7 @@ module _ {D : Type 0} (Shows : Held → Showing) (state : D → DiskState) (s : 
   unopened old new missed o = record { uses = inr o.refused; returned = o.shelf.returned; keeps = o.shelf.keeps }
 
   -- they were, and went on, over what their disks held where these tell it
-  pub played_on : (Begins : Held → Type 0) (old mid new : ShelfState D) (result : Result (List Entry) RunFault) → (AllTell state → (held : Held) → HoldAll state old s held → Begins held) → Takes (server_names s) old mid
+  pub played_on : (Begins : Held → Type 0) (old mid new : ShelfState D) (result : Result (List Entry) RunFault) → ((held : Held) → HoldAll state old s held → Begins held) → Takes (server_names s) old mid
       → Closes Begins Shows state s mid new result → RunsOn Shows state s old new result
   played_on Begins old mid new result begins takes c = record {
     uses = inl (record {
@@ -182,7 +181,7 @@ module _ {D : Type 0} (Shows : Held → Showing) (state : D → DiskState) (s : 
       taken = have_still mid new (server_names s) (λ n. (c.gives.places n).1) takes.both;
       back = backs_since (server_names s) c.disks (IsServerDisk s) old mid new takes.keeps c.gives.back;
       counted = c.counted;
-      leaves = λ all held holds. c.leaves held (begins all held holds);
+      leaves = λ held holds. c.leaves held (begins held holds);
     });
     returned = returned_all (server_names s) c.disks old mid mid new takes refl (all_same mid) c.gives;
     keeps = keeps_then (IsServerDisk s) (IsServerDisk s) (IsServerDisk s) old mid new (λ n its. its) (λ n its. its) takes.keeps c.gives.keeps;

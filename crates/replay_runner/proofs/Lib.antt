@@ -29,7 +29,6 @@ pub mod Shown
 mod Failed
 mod Starting
 pub mod Servers
-mod Modes
 pub mod Safe
 mod Exact
 pub mod Finished

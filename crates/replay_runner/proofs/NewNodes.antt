@@ -29,7 +29,6 @@ use Rattle.resource_core.specs.NodeStanding as resource
 use Rattle.manager_core.specs.declared.nodes.Manager.{Manager}
 use Rattle.node_seat.specs.Keeping.{IsBehind}
 use Rattle.scenario_nodes.specs.Nodes.{HaveSize, Held, HoldAll, Holds, IsNewManager, IsNewResource, ServesAll, coordinator_role, manager_role, resource_role, resource_server}
-use Rattle.scenario_nodes.specs.Shelves.{AllTell}
 use Rattle.scenario_nodes.specs.Together.{AreEach, numbered}
 use Rattle.scenario_nodes.proofs.Together.{AreFirst, each_at, each_length, each_then, first_all, first_next, first_none}
 use Rattle.replay_runner.specs.declared.members.Member.{Member}
@@ -165,7 +164,7 @@ module _ {D K : Type 0} (state : D → DiskState) (shelf : ShelfState D) (s : Sc
   manager_new = new_at (IsNewManager s) s.managers n.managers.items new.managers
 
   -- where the disks tell their bytes, they stand for the empty history over what these held
-  module _ (all : AllTell state) (held : Held) (holds : HoldAll state shelf s held) where
+  module _ (held : Held) (holds : HoldAll state shelf s held) where
     server : {N : Type 0} (node_state : N → NodeState) (p : Place) (role : Role) (begun : Extent) (m : Member N K) → (node_state m.seat.node).stands_for role [] → (node_state m.seat.node).lies role begun s.disk [] → AreTold (node_state m.seat.node).disks
         → HaveSize s.disk (node_state m.seat.node).disks → m.seat.trace ≡ [] → m.turned ≡ 0 → IsServer node_state p role begun s.disk m []
     server node_state p role begun m stands lies told sized traced turned = record {
@@ -179,7 +178,7 @@ module _ {D K : Type 0} (state : D → DiskState) (shelf : ShelfState D) (s : Sc
     has_coordinator : IsServer (coordinator.node_state state) place.Tc (coordinator_role s held) (held.starts place.Tc) s.disk n.coordinator []
     has_coordinator =
         let c = new.coordinator in
-        server (coordinator.node_state state) place.Tc (coordinator_role s held) (held.starts place.Tc) n.coordinator (c.node.stands held holds.0 (c.node.told all)) (c.node.lies held holds.0 (c.node.told all)) (c.node.told all) c.node.sized c.traced c.turned
+        server (coordinator.node_state state) place.Tc (coordinator_role s held) (held.starts place.Tc) n.coordinator (c.node.stands held holds.0 (c.node.told held holds.0)) (c.node.lies held holds.0 (c.node.told held holds.0)) (c.node.told held holds.0) c.node.sized c.traced c.turned
 
     has_resource : (k : ℕ) (def : ResourceDef) → slice_get s.resources k ≡ Some def → HasNode state held s.disk n [] (place.Res (k + 1)) (resource_role s held (k + 1) def)
     has_resource k def here =
@@ -190,7 +189,7 @@ module _ {D K : Type 0} (state : D → DiskState) (shelf : ShelfState D) (s : Sc
         let its = held_at state shelf s held holds k def here in (
           m,
           counted_next n.resources.items k ∙ there,
-          server (resource.node_state state) (place.Res (k + 1)) (resource_role s held (k + 1) def) (held.starts (place.Res (k + 1))) m (r.node.stands held its (r.node.told all)) (r.node.lies held its (r.node.told all)) (r.node.told all) r.node.sized r.traced r.turned,
+          server (resource.node_state state) (place.Res (k + 1)) (resource_role s held (k + 1) def) (held.starts (place.Res (k + 1))) m (r.node.stands held its (r.node.told held its)) (r.node.lies held its (r.node.told held its)) (r.node.told held its) r.node.sized r.traced r.turned,
         )
 
     has_manager : (k : ℕ) (def : ManagerDef) → slice_get s.managers k ≡ Some def → HasNode state held s.disk n [] (place.Man (k + 1)) (manager_role s (k + 1) def)

@@ -27,7 +27,7 @@ use Rattle.node_seat.specs.declared.faults.RunFault.{RunFault}
 use Rattle.node_seat.specs.declared.faults.RunFault.TheVariants as fault
 use Rattle.scenario_nodes.specs.Nodes.{HaveSize, Held, HoldAll, server_names, servers_of, store_setting}
 use Rattle.scenario_nodes.specs.Opening.{NodesNotOpened}
-use Rattle.scenario_nodes.specs.Shelves.{AllTell, AreGivenBack, pair_of}
+use Rattle.scenario_nodes.specs.Shelves.{AreGivenBack, pair_of}
 use Rattle.scenario_nodes.specs.Together.{AreEach, HaveBoth, IsOfOne}
 use Rattle.replay_runner.specs.Ends.{IsCause}
 
@@ -139,7 +139,7 @@ pub record GivesBack {D : Type 0} (Shows : Held → Showing) (state : D → Disk
   pub taken : HaveBoth new (server_names s)
   pub back : AreAllBack old new s disks
   pub counted : CountsFailure (map (pair_of state) disks) result
-  pub leaves : AllTell state → (held : Held) → HoldAll state old s held → Shows held (map (pair_of state) disks) result
+  pub leaves : (held : Held) → HoldAll state old s held → Shows held (map (pair_of state) disks) result
 
 -- the nodes weren't opened, and no entry was made
 abbrev pub EndsAtOpening : {D : Type 0} → (D → DiskState) → (old new : ShelfState D) → Scenario → Result (List Entry) RunFault → Type 0
@@ -156,11 +156,10 @@ Replays state old new s result = UsesShelf (Leaves s) state old new s result
 
 -- ---- where nothing fails
 
--- The shelf tells what was given back to it, and its disks their bytes. In a call it didn't fail, and no disk of a node of the scenario
--- that was given back to it has counted a fault.
+-- The shelf tells what was given back to it. In a call it didn't fail, and no disk of a node of the scenario that was given back to it has
+-- counted a fault.
 pub record IsCalmShelf {D : Type 0} (state : D → DiskState) (s : Scenario) (old new : ShelfState D) : Type 0 where
   pub tells : IsTrue old.tells
-  pub told : AllTell state
   pub shelf : ¬ Rose old.faults new.faults
   pub disks : (name : List ℕ) (disk : D) → IsServerDisk s name → new.given_back name disk → (state disk).counts.faults ≡ 0
 

@@ -5,7 +5,7 @@ ghost use Rattle.replay_runner.specs.Letters.{letter_with, receiver_in, delivery
 
 use frame_codec::Packet;
 use history_text::Entry;
-use seata_types::{Message, NoMemory, Place};
+use seata_types::{Boxed, Message, NoMemory, Place};
 use std::alloc::Global;
 
 /// A message on its way between two nodes, as its frame.
@@ -21,7 +21,7 @@ pub struct Letter {
 pub struct Delivery {
     pub from: Place,
     pub to: Place,
-    pub message: Message,
+    pub message: Boxed<Message>,
 }
 
 /// The message that each entry sent, and whether an entry delivered it. All before `waiting` are delivered, or there was none.
@@ -51,6 +51,7 @@ fn open(alloc: Global, letter: &Letter) -> Result<Delivery, NoMemory>
     ensures framable { IsFramable letter.now.packet.message }
 {
     let (message, _) = letter.packet.open(alloc)?;
+    let message = Boxed::new(alloc, message)?;
     Ok(Delivery {
         from: letter.from,
         to: letter.to,

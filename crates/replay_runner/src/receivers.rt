@@ -32,7 +32,7 @@ pub fn fits(managers: usize, resources: usize, delivery: &Delivery) -> bool
     ensures { result ≡ going.fits_delivery managers resources delivery.now.to delivery.now.message }
 {
     match delivery.to {
-        Place::Tc => may_hear(managers, resources, &delivery.message),
+        Place::Tc => may_hear(managers, resources, delivery.message.get()),
         Place::Res(n) => is_counted(resources, n),
         Place::Man(n) => is_counted(managers, n),
         Place::Net => false,

@@ -4,6 +4,7 @@ use Rattle.std.specs.Prelude.{IfOk}
 use Rattle.seata_types.specs.declared.copies.NoMemory.{NoMemory}
 use Rattle.seata_types.specs.declared.limits.TheConstants.{HISTORY_BYTES}
 use Rattle.scenario_form.specs.declared.scenarios.Scenario.{Scenario}
+use Rattle.scenario_reader.proofs.RunnableFacts.{given}
 use Rattle.scenario_reader.specs.Reading.{IsScenario, IsFault}
 use Rattle.scenario_reader.specs.declared.errors.ScenarioError.{ScenarioError}
 use Rattle.scenario_reader.specs.declared.errors.ScenarioError.TheVariants as fault
@@ -11,6 +12,7 @@ use Rattle.history_rules.specs.Chains.{IsBlankPast}
 use Rattle.history_rules.specs.Nodes.{no_past}
 use Rattle.history_law.proofs.SafetyHistory.{safety_law}
 use Rattle.history_text.specs.Worlds.{world_of}
+use Rattle.verdict_law.proofs.Modes.{is_world}
 use Rattle.report_judge.specs.Lines.{behind_line, first_line}
 use Rattle.report_judge.specs.Judging.{IsBehindScenario, IsFound, Judges}
 use Rattle.report_judge.specs.Safe.{HasSafeReport}
@@ -59,5 +61,5 @@ is_safe bytes j =
       history = reported.history;
       legal = reported.legal;
       text = reported.holds;
-      safe = λ w. safety_law (world_of j.scenario) no_past reported.history w blank reported.legal;
+      safe = safety_law (world_of j.scenario) no_past reported.history (is_world j.scenario (given (first_line bytes) j.scenario j.is_scenario)) blank reported.legal;
     }

@@ -5,7 +5,6 @@ use Rattle.scenario_reader.specs.Reading.{IsScenario}
 use Rattle.history_rules.specs.Nodes.{no_past}
 use Rattle.history_rules.specs.Histories.{Moment, Legal}
 use Rattle.history_law.specs.Safety.{IsSafeHistory}
-use Rattle.history_law.specs.Safety.{IsScenario as IsWorld}
 use Rattle.history_text.specs.Report.{report}
 use Rattle.history_text.specs.Worlds.{world_of}
 use Rattle.report_judge.specs.Lines.{first_line, behind_line}
@@ -19,7 +18,7 @@ pub record HasSafeReport (bytes : List ℕ) : Type 0 where
   pub history : List Moment
   pub legal : Legal (world_of scenario) no_past history
   pub text : behind_line bytes ≡ report scenario no_past history
-  pub safe : IsWorld (world_of scenario) → IsSafeHistory (world_of scenario) no_past history
+  pub safe : IsSafeHistory (world_of scenario) no_past history
 
 -- an input that is judged legal has one
 abbrev pub LegalIsSafe : Type 0

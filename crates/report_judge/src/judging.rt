@@ -103,7 +103,8 @@ fn is_memory(error: &ScenarioError) -> bool
 
 /// What is found of a first line that is no scenario.
 fn refused(error: ScenarioError) -> Result<Judgement, NoMemory>
-    ensures { IfOk result (λ found. (error ≢ fault.NoMemory) × (found ≡ judgement.NoScenario error)) }
+    ensures { IfOk result (λ found. (error ≢ fault.NoMemory) ×
+        (found ≡ judgement.NoScenario error)) }
 {
     if is_memory(&error) {
         drop(error);

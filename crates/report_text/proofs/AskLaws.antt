@@ -80,18 +80,18 @@ module _ (s : Setup) (m : Memory) where
     called x c w = Given (input.Message from (message.Call (xid_of x) man res c w))
 
     free_asks : (x c : ℕ) (w : Work) (e : Effect) (busy : Option (RowKey × Ticket))
-        → ActAsks m (called x c w) (ResourceRules.free_call s rs m.opens next man x c w e busy).act
+        → ActAsks m (called x c w) (ResourceRules.free_call s.number next man x c w e busy).act
     free_asks x c w e (Some (key, by)) = tt
     free_asks x c w e None = (from, man, res, w, refl)
 
-    new_asks : (x c : ℕ) (w : Work) (r : Result Effect (ℕ × StmtError)) → ActAsks m (called x c w) (ResourceRules.new_call s rs m.opens next man x c w r).act
+    new_asks : (x c : ℕ) (w : Work) (r : Result Effect (ℕ × StmtError)) → ActAsks m (called x c w) (ResourceRules.new_call s.number m.opens next man x c w r).act
     new_asks x c w (Err (index, error)) = tt
     new_asks x c w (Ok e) = free_asks x c w e (busy_row m.opens e)
 
-    call_asks : (x c : ℕ) (w : Work) (b : Option ℕ) (waits : Option Open) → ActAsks m (called x c w) (ResourceRules.call_answer s rs m.opens next man x c w b waits).act
+    call_asks : (x c : ℕ) (w : Work) (b : Option ℕ) (waits : Option Open) → ActAsks m (called x c w) (ResourceRules.call_answer s.number db m.opens next man x c w b waits).act
     call_asks x c w (Some b) waits = tt
     call_asks x c w None (Some o) = tt
-    call_asks x c w None None = new_asks x c w (ResourceRules.meaning s rs m.opens next w)
+    call_asks x c w None None = new_asks x c w (ResourceRules.meaning db w)
 
     on_call_asks : (x c : ℕ) (w : Work) → ActAsks m (called x c w) (ResourceRules.on_call s rs m.opens next man x c w).act
     on_call_asks zero c w = tt
@@ -101,31 +101,31 @@ module _ (s : Setup) (m : Memory) where
   -- ---- answers to a registration
 
   module _ (event : Event) (o : Open) (man x c : ℕ) where
-    at_asks : (b : ℕ) (u : Option Undo) (marked : Bool) → ActAsks m event (ResourceRules.at_granted s rs m.opens next o man x c b u marked).act
+    at_asks : (b : ℕ) (u : Option Undo) (marked : Bool) → ActAsks m event (ResourceRules.at_granted o man x c b u marked).act
     at_asks b (Some u) marked = tt
     at_asks b None true = tt
     at_asks b None false = tt
 
-    touched_asks : (b : ℕ) (none : Option ℕ) → ActAsks m event (ResourceRules.try_touched s rs m.opens next o man x c b none).act
+    touched_asks : (b : ℕ) (none : Option ℕ) → ActAsks m event (ResourceRules.try_touched o man x c b none).act
     touched_asks b (Some index) = tt
     touched_asks b None = tt
 
-    meant_asks : (b : ℕ) (r : Result Effect (ℕ × StmtError)) → ActAsks m event (ResourceRules.try_meant s rs m.opens next o man x c b r).act
+    meant_asks : (b : ℕ) (r : Result Effect (ℕ × StmtError)) → ActAsks m event (ResourceRules.try_meant o man x c b r).act
     meant_asks b (Err (index, error)) = tt
     meant_asks b (Ok e) = touched_asks b (untouched 1 e.touched)
 
-    tcc_asks : (b : ℕ) (a : Action) (f : FenceAnswer) → ActAsks m event (ResourceRules.tcc_granted s rs m.opens next o man x c b a f).act
+    tcc_asks : (b : ℕ) (a : Action) (f : FenceAnswer) → ActAsks m event (ResourceRules.tcc_granted o man x c b (effect db a.tries) f).act
     tcc_asks b a Runs = meant_asks b (effect db a.tries)
     tcc_asks b a WasDone = tt
     tcc_asks b a Suspends = tt
     tcc_asks b a Refuses = tt
 
     last_asks : (holder : Xid) (count : ℕ) (last : Bool)
-        → ActAsks m event (if last then ResourceRules.drops s rs m.opens next o man x c why.Tries else still (act.Conflicted o.ticket count)).act
+        → ActAsks m event (if last then ResourceRules.drops o man x c why.Tries else still (act.Conflicted o.ticket count)).act
     last_asks holder count true = tt
     last_asks holder count false = tt
 
-    conflict_asks : (holder : Xid) (rolling : Bool) → ActAsks m event (ResourceRules.conflict_answer s rs m.opens next o man x c holder rolling).act
+    conflict_asks : (holder : Xid) (rolling : Bool) → ActAsks m event (ResourceRules.conflict_answer s.tries o man x c holder rolling).act
     conflict_asks holder true = tt
     conflict_asks holder false = last_asks holder (o.conflicts + 1) (nat_le s.tries (o.conflicts + 1))
 
@@ -156,22 +156,22 @@ module _ (s : Setup) (m : Memory) where
     abbrev rolls : BranchKind → Event
     rolls k = Given (input.Message from (message.BranchRollback (xid_of x) (branch_of b) k man c))
 
-    at_commit_asks : (event : Event) (u : Option Undo) → ActAsks m event (ResourceRules.at_commit s rs m.opens next x b u).act
+    at_commit_asks : (event : Event) (u : Option Undo) → ActAsks m event (ResourceRules.at_commit x b u).act
     at_commit_asks event (Some u) = tt
     at_commit_asks event None = tt
 
-    confirm_asks : (k : BranchKind) (r : Result Effect (ℕ × StmtError)) → ActAsks m (commits k) (ResourceRules.confirm_runs s rs m.opens next x b r).act
+    confirm_asks : (k : BranchKind) (r : Result Effect (ℕ × StmtError)) → ActAsks m (commits k) (ResourceRules.confirm_runs x b r).act
     confirm_asks k (Err (index, error)) = tt
     confirm_asks k (Ok e) = (from, k, man, c, refl)
 
-    tcc_commit_asks : (k : BranchKind) (a : Action) (f : FenceAnswer) → ActAsks m (commits k) (ResourceRules.tcc_commit s rs m.opens next x b a f).act
+    tcc_commit_asks : (k : BranchKind) (a : Action) (f : FenceAnswer) → ActAsks m (commits k) (ResourceRules.tcc_commit x b (effect db a.confirms) f).act
     tcc_commit_asks k a WasDone = tt
     tcc_commit_asks k a Runs = confirm_asks k (effect db a.confirms)
     tcc_commit_asks k a Suspends = tt
     tcc_commit_asks k a Refuses = tt
 
     action_commit_asks : (k : BranchKind) (o : Option Action)
-        → ActAsks m (commits k) (ResourceRules.with_action s rs m.opens next (λ a. ResourceRules.tcc_commit s rs m.opens next x b a (on_confirm (fence rs x b))) o).act
+        → ActAsks m (commits k) (ResourceRules.with_action (λ a. ResourceRules.tcc_commit x b (effect db a.confirms) (on_confirm (fence rs x b))) o).act
     action_commit_asks k None = tt
     action_commit_asks k (Some a) = tcc_commit_asks k a (on_confirm (fence rs x b))
 
@@ -179,31 +179,31 @@ module _ (s : Setup) (m : Memory) where
     commit_asks kind.At = at_commit_asks (commits kind.At) (undo_of rs x b)
     commit_asks kind.Tcc = action_commit_asks kind.Tcc (action_of s man c)
 
-    undo_asks : (event : Event) (dirty : Option Image) → ActAsks m event (ResourceRules.at_undo s rs m.opens next x b dirty).act
+    undo_asks : (event : Event) (dirty : Option Image) → ActAsks m event (ResourceRules.at_undo db x b dirty).act
     undo_asks event (Some i) = tt
     undo_asks event None = tt
 
-    record_asks : (event : Event) (u : Undo) (busy : Option (RowKey × Ticket)) → ActAsks m event (ResourceRules.at_record s rs m.opens next x b u busy).act
+    record_asks : (event : Event) (u : Undo) (busy : Option (RowKey × Ticket)) → ActAsks m event (ResourceRules.at_record db x b u.images busy).act
     record_asks event u (Some (key, by)) = tt
     record_asks event u None = undo_asks event (dirty_image db u.images)
 
-    at_rollback_asks : (event : Event) (marked : Bool) → is_marked rs x b ≡ marked → (u : Option Undo) → ActAsks m event (ResourceRules.at_rollback s rs m.opens next x b marked u).act
+    at_rollback_asks : (event : Event) (marked : Bool) → is_marked rs x b ≡ marked → (u : Option Undo) → ActAsks m event (ResourceRules.at_rollback db m.opens x b marked u).act
     at_rollback_asks event true is u = tt
     at_rollback_asks event false is None = is
     at_rollback_asks event false is (Some u) = record_asks event u (busy_in m.opens (image_keys u.images))
 
-    cancel_asks : (k : BranchKind) (r : Result Effect (ℕ × StmtError)) → ActAsks m (rolls k) (ResourceRules.cancel_runs s rs m.opens next x b r).act
+    cancel_asks : (k : BranchKind) (r : Result Effect (ℕ × StmtError)) → ActAsks m (rolls k) (ResourceRules.cancel_runs x b r).act
     cancel_asks k (Err (index, error)) = tt
     cancel_asks k (Ok e) = (from, k, man, c, refl)
 
-    tcc_rollback_asks : (k : BranchKind) (a : Action) (f : FenceAnswer) → ActAsks m (rolls k) (ResourceRules.tcc_rollback s rs m.opens next x b a f).act
+    tcc_rollback_asks : (k : BranchKind) (a : Action) (f : FenceAnswer) → ActAsks m (rolls k) (ResourceRules.tcc_rollback x b (effect db a.cancels) f).act
     tcc_rollback_asks k a WasDone = tt
     tcc_rollback_asks k a Refuses = tt
     tcc_rollback_asks k a Suspends = tt
     tcc_rollback_asks k a Runs = cancel_asks k (effect db a.cancels)
 
     action_rollback_asks : (k : BranchKind) (o : Option Action)
-        → ActAsks m (rolls k) (ResourceRules.with_action s rs m.opens next (λ a. ResourceRules.tcc_rollback s rs m.opens next x b a (on_cancel (fence rs x b))) o).act
+        → ActAsks m (rolls k) (ResourceRules.with_action (λ a. ResourceRules.tcc_rollback x b (effect db a.cancels) (on_cancel (fence rs x b))) o).act
     action_rollback_asks k None = tt
     action_rollback_asks k (Some a) = tcc_rollback_asks k a (on_cancel (fence rs x b))
 
@@ -213,15 +213,15 @@ module _ (s : Setup) (m : Memory) where
 
   -- ---- local transactions and outside writes
 
-  local_free_asks : (k : ℕ) (e : Effect) (busy : Option (RowKey × Ticket)) → ActAsks m (Given (input.Local k)) (ResourceRules.local_free s rs m.opens next k e busy).act
+  local_free_asks : (k : ℕ) (e : Effect) (busy : Option (RowKey × Ticket)) → ActAsks m (Given (input.Local k)) (ResourceRules.local_free s.number next k e busy).act
   local_free_asks k e (Some (key, by)) = tt
   local_free_asks k e None = refl
 
-  local_meant_asks : (k : ℕ) (r : Result Effect (ℕ × StmtError)) → ActAsks m (Given (input.Local k)) (ResourceRules.local_meant s rs m.opens next k r).act
+  local_meant_asks : (k : ℕ) (r : Result Effect (ℕ × StmtError)) → ActAsks m (Given (input.Local k)) (ResourceRules.local_meant s.number m.opens next k r).act
   local_meant_asks k (Err (index, error)) = tt
   local_meant_asks k (Ok e) = local_free_asks k e (busy_row m.opens e)
 
-  local_asks : (k : ℕ) (stmts : List Stmt) (o : Option Open) → ActAsks m (Given (input.Local k)) (ResourceRules.local_answer s rs m.opens next k stmts o).act
+  local_asks : (k : ℕ) (stmts : List Stmt) (o : Option Open) → ActAsks m (Given (input.Local k)) (ResourceRules.local_answer s.number db m.opens next k stmts o).act
   local_asks k stmts (Some o) = tt
   local_asks k stmts None = local_meant_asks k (effect db stmts)
 
@@ -229,7 +229,7 @@ module _ (s : Setup) (m : Memory) where
   on_local_asks k None = tt
   on_local_asks k (Some stmts) = local_asks k stmts (find (λ o. is_for_local k o.owner) m.opens)
 
-  lock_by : (event : Event) (o : Open) (owner : Owner) (held : Option (RowKey × Xid)) → ActAsks m event (ResourceRules.lock_answer s rs m.opens next o owner held).act
+  lock_by : (event : Event) (o : Open) (owner : Owner) (held : Option (RowKey × Xid)) → ActAsks m event (ResourceRules.lock_answer o owner held).act
   lock_by event o (OfLocal k) (Some (key, holder)) = tt
   lock_by event o (OfLocal k) None = tt
   lock_by event o (OfCall man x c w) held = tt
@@ -238,11 +238,11 @@ module _ (s : Setup) (m : Memory) where
   lock_asks event None held = tt
   lock_asks event (Some o) held = lock_by event o o.owner held
 
-  outside_free_asks : (event : Event) (k : ℕ) (busy : Option (RowKey × Ticket)) → ActAsks m event (ResourceRules.outside_free s rs m.opens next k busy).act
+  outside_free_asks : (event : Event) (k : ℕ) (busy : Option (RowKey × Ticket)) → ActAsks m event (ResourceRules.outside_free k busy).act
   outside_free_asks event k (Some (key, by)) = tt
   outside_free_asks event k None = tt
 
-  outside_meant_asks : (event : Event) (k : ℕ) (r : Result Effect (ℕ × StmtError)) → ActAsks m event (ResourceRules.outside_meant s rs m.opens next k r).act
+  outside_meant_asks : (event : Event) (k : ℕ) (r : Result Effect (ℕ × StmtError)) → ActAsks m event (ResourceRules.outside_meant m.opens k r).act
   outside_meant_asks event k (Err (index, error)) = tt
   outside_meant_asks event k (Ok e) = outside_free_asks event k (busy_row m.opens e)
 

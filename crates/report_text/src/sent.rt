@@ -84,7 +84,7 @@ fn note_of(found: &Entry) -> Option<&Note>
     ensures { option_copied result ≡ option_map note_in found.entry.now.sent }
 {
     match &found.sent {
-        Some(sent) => Some(&sent.note),
+        Some(sent) => Some(sent.note.get()),
         None => None,
     }
 }

@@ -22,13 +22,14 @@ use Rattle.seata_types.specs.declared.statements.Work.TheVariants as work
 use Rattle.seata_types.specs.declared.statuses.BranchKind.{BranchKind}
 use Rattle.seata_types.specs.declared.statuses.BranchKind.TheVariants as kind
 use Rattle.local_tables.specs.Calls.{effect}
+use Rattle.local_tables.specs.Rows.{Database}
 use Rattle.local_tables.specs.declared.schemas.Effect.{Effect}
 use Rattle.local_txn.specs.OpenTickets.{Open, Owner, OfCall, OfLocal, open_at}
 use Rattle.local_txn.proofs.OpenLaws.{found_ticket}
 use Rattle.durable_records.specs.declared.resources.ResourceRecord.{ResourceRecord}
-use Rattle.durable_records.specs.Fences.{FenceAnswer, Runs, WasDone, Suspends, Refuses, fence, on_cancel, on_confirm}
+use Rattle.durable_records.specs.Fences.{FenceAnswer, Runs, WasDone, Suspends, Refuses, fence, on_cancel, on_confirm, on_try}
 use Rattle.durable_records.specs.RowsKept.{tables}
-use Rattle.durable_records.specs.UndoRecords.{Undo}
+use Rattle.durable_records.specs.UndoRecords.{Undo, undo_of, is_marked}
 use Rattle.history_rules.specs.Devices.{down_after}
 use Rattle.history_rules.specs.Own.{still}
 use Rattle.history_rules.specs.CoordinatorRules.{branch_of, xid_of}
@@ -47,6 +48,9 @@ is_recorded asked act.Armed = false
 is_recorded asked _ = true
 
 module _ (s : Setup) (mem : Memory) (given : Input) where
+  abbrev db : Database
+  db = tables (opening_tables s) mem.left.records
+
   -- it leaves the node up, and where it is durable it asks for a record
   abbrev IsAsked : Step → Type 0
   IsAsked step = is_recorded (resource_asked s mem (own_step given 0 step)) step.act ≡ true
@@ -60,15 +64,15 @@ module _ (s : Setup) (mem : Memory) (given : Input) where
 
   -- ---- calls
 
-  free_asked : (m x c : ℕ) (w : Work) (e : Effect) (b : Option (RowKey × Ticket)) → IsAsked (rules.free_call s mem.left.records mem.opens (next_ticket mem) m x c w e b)
+  free_asked : (m x c : ℕ) (w : Work) (e : Effect) (b : Option (RowKey × Ticket)) → IsAsked (rules.free_call s.number (next_ticket mem) m x c w e b)
   free_asked m x c w e (Some (key, by)) = refl
   free_asked m x c w e None = refl
 
-  new_asked : (m x c : ℕ) (w : Work) (r : Result Effect (ℕ × StmtError)) → IsAsked (rules.new_call s mem.left.records mem.opens (next_ticket mem) m x c w r)
+  new_asked : (m x c : ℕ) (w : Work) (r : Result Effect (ℕ × StmtError)) → IsAsked (rules.new_call s.number mem.opens (next_ticket mem) m x c w r)
   new_asked m x c w (Err (index, error)) = refl
   new_asked m x c w (Ok e) = free_asked m x c w e _
 
-  answer_asked : (m x c : ℕ) (w : Work) (done : Option ℕ) (o : Option Open) → IsAsked (rules.call_answer s mem.left.records mem.opens (next_ticket mem) m x c w done o)
+  answer_asked : (m x c : ℕ) (w : Work) (done : Option ℕ) (o : Option Open) → IsAsked (rules.call_answer s.number db mem.opens (next_ticket mem) m x c w done o)
   answer_asked m x c w (Some b) o = refl
   answer_asked m x c w None (Some o) = refl
   answer_asked m x c w None None = new_asked m x c w _
@@ -79,35 +83,35 @@ module _ (s : Setup) (mem : Memory) (given : Input) where
 
   -- ---- answers to a registration
 
-  at_asked : (o : Open) → IsOpen o → (m x c b : ℕ) (u : Option Undo) (marked : Bool) → IsAsked (rules.at_granted s mem.left.records mem.opens (next_ticket mem) o m x c b u marked)
+  at_asked : (o : Open) → IsOpen o → (m x c b : ℕ) (u : Option Undo) (marked : Bool) → IsAsked (rules.at_granted o m x c b u marked)
   at_asked o found m x c b (Some u) marked = refl
   at_asked o found m x c b None true = refl
   at_asked o found m x c b None false = ap (λ (p : Option Open). is_some (option_map (committed_of (xid_of x) (branch_of b)) p)) found
 
-  touched_asked : (o : Open) → IsOpen o → (m x c b : ℕ) (index : Option ℕ) → IsAsked (rules.try_touched s mem.left.records mem.opens (next_ticket mem) o m x c b index)
+  touched_asked : (o : Open) → IsOpen o → (m x c b : ℕ) (index : Option ℕ) → IsAsked (rules.try_touched o m x c b index)
   touched_asked o found m x c b (Some index) = refl
-  touched_asked o found m x c b None = ap (λ (p : Option Open). is_some (option_map (tried_of (xid_of x) (branch_of b) (tables (opening_tables s) mem.left.records)) p)) found
+  touched_asked o found m x c b None = ap (λ (p : Option Open). is_some (option_map (tried_of (xid_of x) (branch_of b) db) p)) found
 
-  meant_asked : (o : Open) → IsOpen o → (m x c b : ℕ) (r : Result Effect (ℕ × StmtError)) → IsAsked (rules.try_meant s mem.left.records mem.opens (next_ticket mem) o m x c b r)
+  meant_asked : (o : Open) → IsOpen o → (m x c b : ℕ) (r : Result Effect (ℕ × StmtError)) → IsAsked (rules.try_meant o m x c b r)
   meant_asked o found m x c b (Err (index, error)) = refl
   meant_asked o found m x c b (Ok e) = touched_asked o found m x c b _
 
-  tcc_asked : (o : Open) → IsOpen o → (m x c b : ℕ) (a : Action) (answer : FenceAnswer) → IsAsked (rules.tcc_granted s mem.left.records mem.opens (next_ticket mem) o m x c b a answer)
-  tcc_asked o found m x c b a Runs = meant_asked o found m x c b (effect (tables (opening_tables s) mem.left.records) a.tries)
-  tcc_asked o found m x c b a WasDone = refl
-  tcc_asked o found m x c b a Suspends = refl
-  tcc_asked o found m x c b a Refuses = refl
+  tcc_asked : (o : Open) → IsOpen o → (m x c b : ℕ) (r : Result Effect (ℕ × StmtError)) (answer : FenceAnswer) → IsAsked (rules.tcc_granted o m x c b r answer)
+  tcc_asked o found m x c b r Runs = meant_asked o found m x c b r
+  tcc_asked o found m x c b r WasDone = refl
+  tcc_asked o found m x c b r Suspends = refl
+  tcc_asked o found m x c b r Refuses = refl
 
   granted_asked : (o : Open) → IsOpen o → (w : Owner) (b : ℕ) → IsAsked (rules.granted_answer s mem.left.records mem.opens (next_ticket mem) o w b)
-  granted_asked o found (OfCall m x c (work.At stmts)) b = at_asked o found m x c b _ _
-  granted_asked o found (OfCall m x c (work.Tcc action)) b = tcc_asked o found m x c b action _
+  granted_asked o found (OfCall m x c (work.At stmts)) b = at_asked o found m x c b (undo_of mem.left.records x b) (is_marked mem.left.records x b)
+  granted_asked o found (OfCall m x c (work.Tcc action)) b = tcc_asked o found m x c b (effect db action.tries) (on_try (fence mem.left.records x b))
   granted_asked o found (OfLocal k) b = refl
 
-  met_asked : (o : Open) (m x c : ℕ) (holder : Xid) (rolling : Bool) → IsAsked (rules.conflict_answer s mem.left.records mem.opens (next_ticket mem) o m x c holder rolling)
+  met_asked : (o : Open) (m x c : ℕ) (holder : Xid) (rolling : Bool) → IsAsked (rules.conflict_answer s.tries o m x c holder rolling)
   met_asked o m x c holder true = refl
   met_asked o m x c holder false = by (nat_le s.tries (o.conflicts + 1))
     where
-      by : (b : Bool) → IsAsked (cond b (rules.drops s mem.left.records mem.opens (next_ticket mem) o m x c why.Tries) (still (act.Conflicted o.ticket (o.conflicts + 1))))
+      by : (b : Bool) → IsAsked (cond b (rules.drops o m x c why.Tries) (still (act.Conflicted o.ticket (o.conflicts + 1))))
       by true = refl
       by false = refl
 
@@ -126,66 +130,66 @@ module _ (s : Setup) (mem : Memory) (given : Input) where
 
   -- ---- second phases
 
-  clear_asked : (x b : ℕ) (u : Option Undo) → IsAsked (rules.at_commit s mem.left.records mem.opens (next_ticket mem) x b u)
+  clear_asked : (x b : ℕ) (u : Option Undo) → IsAsked (rules.at_commit x b u)
   clear_asked x b (Some u) = refl
   clear_asked x b None = refl
 
-  undo_asked : (x b : ℕ) (dirty : Option Image) → IsAsked (rules.at_undo s mem.left.records mem.opens (next_ticket mem) x b dirty)
+  undo_asked : (x b : ℕ) (dirty : Option Image) → IsAsked (rules.at_undo db x b dirty)
   undo_asked x b (Some i) = refl
   undo_asked x b None = refl
 
-  record_asked : (x b : ℕ) (u : Undo) (busy : Option (RowKey × Ticket)) → IsAsked (rules.at_record s mem.left.records mem.opens (next_ticket mem) x b u busy)
-  record_asked x b u (Some (key, by)) = refl
-  record_asked x b u None = undo_asked x b _
+  record_asked : (x b : ℕ) (images : List Image) (busy : Option (RowKey × Ticket)) → IsAsked (rules.at_record db x b images busy)
+  record_asked x b images (Some (key, by)) = refl
+  record_asked x b images None = undo_asked x b _
 
-  roll_asked : (x b : ℕ) (marked : Bool) (u : Option Undo) → IsAsked (rules.at_rollback s mem.left.records mem.opens (next_ticket mem) x b marked u)
+  roll_asked : (x b : ℕ) (marked : Bool) (u : Option Undo) → IsAsked (rules.at_rollback db mem.opens x b marked u)
   roll_asked x b true u = refl
   roll_asked x b false None = refl
-  roll_asked x b false (Some u) = record_asked x b u _
+  roll_asked x b false (Some u) = record_asked x b u.images _
 
-  confirmed_asked : (x b : ℕ) (r : Result Effect (ℕ × StmtError)) → IsAsked (rules.confirm_runs s mem.left.records mem.opens (next_ticket mem) x b r)
+  confirmed_asked : (x b : ℕ) (r : Result Effect (ℕ × StmtError)) → IsAsked (rules.confirm_runs x b r)
   confirmed_asked x b (Err (index, error)) = refl
   confirmed_asked x b (Ok e) = refl
 
-  confirm_asked : (x b : ℕ) (a : Action) (answer : FenceAnswer) → IsAsked (rules.tcc_commit s mem.left.records mem.opens (next_ticket mem) x b a answer)
-  confirm_asked x b a Runs = confirmed_asked x b _
-  confirm_asked x b a WasDone = refl
-  confirm_asked x b a Suspends = refl
-  confirm_asked x b a Refuses = refl
+  confirm_asked : (x b : ℕ) (r : Result Effect (ℕ × StmtError)) (answer : FenceAnswer) → IsAsked (rules.tcc_commit x b r answer)
+  confirm_asked x b r Runs = confirmed_asked x b r
+  confirm_asked x b r WasDone = refl
+  confirm_asked x b r Suspends = refl
+  confirm_asked x b r Refuses = refl
 
-  cancelled_asked : (x b : ℕ) (r : Result Effect (ℕ × StmtError)) → IsAsked (rules.cancel_runs s mem.left.records mem.opens (next_ticket mem) x b r)
+  cancelled_asked : (x b : ℕ) (r : Result Effect (ℕ × StmtError)) → IsAsked (rules.cancel_runs x b r)
   cancelled_asked x b (Err (index, error)) = refl
   cancelled_asked x b (Ok e) = refl
 
-  cancel_asked : (x b : ℕ) (a : Action) (answer : FenceAnswer) → IsAsked (rules.tcc_rollback s mem.left.records mem.opens (next_ticket mem) x b a answer)
-  cancel_asked x b a Runs = cancelled_asked x b _
-  cancel_asked x b a WasDone = refl
-  cancel_asked x b a Suspends = refl
-  cancel_asked x b a Refuses = refl
+  cancel_asked : (x b : ℕ) (r : Result Effect (ℕ × StmtError)) (answer : FenceAnswer) → IsAsked (rules.tcc_rollback x b r answer)
+  cancel_asked x b r Runs = cancelled_asked x b r
+  cancel_asked x b r WasDone = refl
+  cancel_asked x b r Suspends = refl
+  cancel_asked x b r Refuses = refl
 
-  with_asked : (answer : Action → Step) → ((a : Action) → IsAsked (answer a)) → (o : Option Action) → IsAsked (rules.with_action s mem.left.records mem.opens (next_ticket mem) answer o)
+  with_asked : (answer : Action → Step) → ((a : Action) → IsAsked (answer a)) → (o : Option Action) → IsAsked (rules.with_action answer o)
   with_asked answer each None = refl
   with_asked answer each (Some a) = each a
 
   commit_asked : (x b : ℕ) (k : BranchKind) (m c : ℕ) → IsAsked (rules.on_commit s mem.left.records mem.opens (next_ticket mem) x b k m c)
   commit_asked x b kind.At m c = clear_asked x b _
-  commit_asked x b kind.Tcc m c = with_asked (λ a. rules.tcc_commit s mem.left.records mem.opens (next_ticket mem) x b a (on_confirm (fence mem.left.records x b))) (λ a. confirm_asked x b a (on_confirm (fence mem.left.records x b))) (action_of s m c)
+  commit_asked x b kind.Tcc m c = with_asked (λ a. rules.tcc_commit x b (effect db a.confirms) (on_confirm (fence mem.left.records x b))) (λ a. confirm_asked x b (effect db a.confirms) (on_confirm (fence mem.left.records x b))) (action_of s m c)
 
   rollback_asked : (x b : ℕ) (k : BranchKind) (m c : ℕ) → IsAsked (rules.on_rollback s mem.left.records mem.opens (next_ticket mem) x b k m c)
   rollback_asked x b kind.At m c = roll_asked x b _ _
-  rollback_asked x b kind.Tcc m c = with_asked (λ a. rules.tcc_rollback s mem.left.records mem.opens (next_ticket mem) x b a (on_cancel (fence mem.left.records x b))) (λ a. cancel_asked x b a (on_cancel (fence mem.left.records x b))) (action_of s m c)
+  rollback_asked x b kind.Tcc m c = with_asked (λ a. rules.tcc_rollback x b (effect db a.cancels) (on_cancel (fence mem.left.records x b))) (λ a. cancel_asked x b (effect db a.cancels) (on_cancel (fence mem.left.records x b))) (action_of s m c)
 
   -- ---- local transactions and outside writes
 
-  local_free_asked : (k : ℕ) (e : Effect) (b : Option (RowKey × Ticket)) → IsAsked (rules.local_free s mem.left.records mem.opens (next_ticket mem) k e b)
+  local_free_asked : (k : ℕ) (e : Effect) (b : Option (RowKey × Ticket)) → IsAsked (rules.local_free s.number (next_ticket mem) k e b)
   local_free_asked k e (Some (key, by)) = refl
   local_free_asked k e None = refl
 
-  local_meant_asked : (k : ℕ) (r : Result Effect (ℕ × StmtError)) → IsAsked (rules.local_meant s mem.left.records mem.opens (next_ticket mem) k r)
+  local_meant_asked : (k : ℕ) (r : Result Effect (ℕ × StmtError)) → IsAsked (rules.local_meant s.number mem.opens (next_ticket mem) k r)
   local_meant_asked k (Err (index, error)) = refl
   local_meant_asked k (Ok e) = local_free_asked k e _
 
-  local_answer_asked : (k : ℕ) (stmts : List Stmt) (o : Option Open) → IsAsked (rules.local_answer s mem.left.records mem.opens (next_ticket mem) k stmts o)
+  local_answer_asked : (k : ℕ) (stmts : List Stmt) (o : Option Open) → IsAsked (rules.local_answer s.number db mem.opens (next_ticket mem) k stmts o)
   local_answer_asked k stmts (Some o) = refl
   local_answer_asked k stmts None = local_meant_asked k _
 
@@ -193,7 +197,7 @@ module _ (s : Setup) (mem : Memory) (given : Input) where
   local_asked k None = refl
   local_asked k (Some stmts) = local_answer_asked k stmts _
 
-  lock_asked : (o : Open) → IsOpen o → (w : Owner) (held : Option (RowKey × Xid)) → IsAsked (rules.lock_answer s mem.left.records mem.opens (next_ticket mem) o w held)
+  lock_asked : (o : Open) → IsOpen o → (w : Owner) (held : Option (RowKey × Xid)) → IsAsked (rules.lock_answer o w held)
   lock_asked o found (OfLocal k) (Some (key, holder)) = refl
   lock_asked o found (OfLocal k) None = ap (λ (p : Option Open). is_some (option_map (local_committed_of k) p)) found
   lock_asked o found (OfCall m x c w) held = refl
@@ -202,11 +206,11 @@ module _ (s : Setup) (mem : Memory) (given : Input) where
   locked_asked t None is held = refl
   locked_asked t (Some o) is held = lock_asked o (open_as t o is) o.owner held
 
-  outside_free_asked : (k : ℕ) (b : Option (RowKey × Ticket)) → IsAsked (rules.outside_free s mem.left.records mem.opens (next_ticket mem) k b)
+  outside_free_asked : (k : ℕ) (b : Option (RowKey × Ticket)) → IsAsked (rules.outside_free k b)
   outside_free_asked k (Some (key, by)) = refl
   outside_free_asked k None = refl
 
-  outside_meant_asked : (k : ℕ) (r : Result Effect (ℕ × StmtError)) → IsAsked (rules.outside_meant s mem.left.records mem.opens (next_ticket mem) k r)
+  outside_meant_asked : (k : ℕ) (r : Result Effect (ℕ × StmtError)) → IsAsked (rules.outside_meant mem.opens k r)
   outside_meant_asked k (Err (index, error)) = refl
   outside_meant_asked k (Ok e) = outside_free_asked k _
 

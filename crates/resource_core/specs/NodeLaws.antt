@@ -14,7 +14,7 @@ use Rattle.history_rules.specs.Devices.{calls_left, fault_entries, in_flight, ma
 use Rattle.history_rules.specs.Nodes.{Role, Coordinator, Manager}
 use Rattle.history_rules.specs.Nodes.{Resource as ResourceRole}
 use Rattle.history_rules.specs.ResourceMemory.{Memory, Setup, memory, opening_tables}
-use Rattle.node_steps.specs.Durable.{AreRecords, StandsForRecords, StandsForLeft, of_resource, keepable, own_faults, AreNodeDisks}
+use Rattle.node_steps.specs.Durable.{StandsForRecords, StandsForLeft, of_resource, keepable, own_faults, AreNodeDisks}
 use Rattle.node_steps.specs.Ends.{AreLaid, extent, resource_recording}
 use Rattle.node_steps.specs.Nodes.{IsLawful, KeepsStill, Tells, has_disks, lost, own_entry, place_of}
 use Rattle.resource_log.specs.Records.{record_bytes}
@@ -30,12 +30,8 @@ use Rattle.resource_core.specs.Shown.{store_of, setup_in, stands_at, is_down, di
 
 -- ---- what disks stand for, in the words of histories
 
-are_records : (t : Setting) (snapshot : Option (List ℕ)) (bodies : List (List ℕ)) (rs : List ResourceRecord) → store.AreRecords t snapshot bodies rs → AreRecords (of_resource (opening_of t)) snapshot bodies rs
-are_records t None bodies rs e = e
-are_records t (Some bytes) bodies rs (first, is, few, e) = (first, is, e)
-
 pub stands_for_records : (t : Setting) (rs : List ResourceRecord) (a b : List ℕ) → store.StandsForRecords t rs a b → StandsForRecords (of_resource (opening_of t)) rs a b
-stands_for_records t rs a b s = record { found = s.found; pair = s.pair; records = are_records t s.found.snapshot s.found.records rs s.list.records }
+stands_for_records t rs a b s = record { found = s.found; pair = s.pair; records = s.list.records }
 
 -- ---- laws
 

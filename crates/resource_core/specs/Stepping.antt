@@ -23,7 +23,8 @@ use Rattle.resource_core.specs.declared.branches.Branches.{Branches}
 
 -- ---- errors
 
--- what a store's error is at an act: where that is durable, it is in flight after a failure
+-- what a store's error is at an act: where that is durable, it is in flight after a failure. A store fails only at a record, whose act
+-- is durable, so no step meets a failure without an act
 abbrev pub node_error : StoreError → Option Durable → NodeError
 node_error store_error.Failed (Some at) = error.Failed at
 node_error store_error.Failed None = error.NoMemory

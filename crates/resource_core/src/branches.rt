@@ -84,7 +84,8 @@ impl<D: Disk> Branches<D> {
     }
 }
 
-// What a store's error is at an act: where that is durable, it is in flight after a failure.
+// What a store's error is at an act: where that is durable, it is in flight after a failure. A store fails only at a record, and
+// the act of an answer that asks for one is durable, so no call meets a failure without an act.
 fn node_error(error: StoreError, at: Option<Durable>) -> NodeError
     ensures { result ≡ node_error error at }
 {

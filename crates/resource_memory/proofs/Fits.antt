@@ -1,5 +1,5 @@
 -- Images and reads that fit the tables: what the tests say.
-use Rattle.std.proofs.Common.{◌≡◌, ◌&&◌, ℕ, ◌+◌, Bool, true, All, List, [], ◌∷◌, length, Option, Some, None, option_map, Less, refl, ap, ◌∙◌}
+use Rattle.std.proofs.Common.{◌≡◌, ◌≤◌, ◌&&◌, ℕ, ◌+◌, Bool, true, All, List, [], ◌∷◌, length, Option, Some, None, option_map, Less, refl, ap, ◌∙◌, arith}
 use Rattle.std.specs.List.{list_all, IsDistinct}
 use Rattle.std.specs.List.Sorted.{IsStrictlySortedBy}
 use Rattle.std.specs.Ordering.{is_lt}
@@ -131,3 +131,11 @@ fit_alike one other images reads p q =
   where
     at : ℕ → Schema → Bool
     at n s = list_all (is_image n s) images && (list_all (is_read n s) reads && (rise (image_keys images) && (rise (read_keys reads) && are_few images reads)))
+
+-- images that fit without their reads
+pub fit_alone : (db : Database) (images : List Image) (reads : List ReadRow) → fit db images reads ≡ true → fit db images [] ≡ true
+fit_alone db images reads e =
+    let f = fits db images reads e in
+    let all = leb-true (length images + length (only_read images reads)) CALL_ROWS f.few in
+    let few : length images + 0 ≤ CALL_ROWS = omega (arith, all) in
+    and_from _ _ f.touched (and_from _ _ refl (and_from _ _ f.images_rise (and_from _ _ refl (le-leb (length images + 0) CALL_ROWS few))))

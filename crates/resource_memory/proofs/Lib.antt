@@ -5,6 +5,7 @@ pub mod EffectFits
 pub mod RowLaws
 pub mod UndoLaws
 pub mod CallLaws
+pub mod DoneCalls
 pub mod KeptLaws
 pub mod Steps
 pub mod Listed

@@ -1,11 +1,13 @@
 -- What a resource's memory owes to its records.
-use Rattle.std.specs.Prelude.{◌≡◌, ℕ, ◌≤◌, true, List, ◌∷◌, All, option_map}
+use Rattle.std.specs.Prelude.{◌≡◌, ℕ, ◌≤◌, true, List, ◌∷◌, All, map, option_map}
 use Rattle.seata_types.specs.declared.ids.Leg.{Leg}
 use Rattle.local_tables.specs.Rows.{Database}
 use Rattle.durable_records.specs.declared.resources.ResourceRecord.{ResourceRecord}
 use Rattle.durable_records.specs.Fences.{tried_of_call}
 use Rattle.durable_records.specs.ResourceOrder.{Allowed, May}
-use Rattle.undo_log.specs.Entries.{entry_at}
+use Rattle.durable_records.specs.UndoRecords.{Undo, undos_of_call}
+use Rattle.undo_log.specs.Entries.{entry_at, record_of_call}
+use Rattle.undo_log.specs.declared.records.UndoRecord.{UndoRecord}
 use Rattle.local_tables.specs.declared.schemas.Schema.{Schema}
 use Rattle.resource_log.specs.declared.states.ResourceSnapshot.{ResourceSnapshot}
 use Rattle.resource_log.specs.Records.{FitsRecord}
@@ -33,6 +35,19 @@ AllowsRecords =
 abbrev pub FindsUndoRecords : Type 0
 FindsUndoRecords =
     (opening : Database) (rs : List ResourceRecord) → Allowed opening rs → (leg : Leg) → entry_at (undo_log_of rs) leg ≡ entry_now rs leg.xid.0 leg.branch.0
+
+-- the branch of an undo record, in the log and by the records
+abbrev pub branch_of_record : UndoRecord → ℕ
+branch_of_record r = r.leg.branch.0
+
+abbrev pub branch_of_undo : Undo → ℕ
+branch_of_undo u = u.branch
+
+-- the undo record that is found of a call is that of the least branch that the records say it has
+abbrev pub FindsUndosOfCalls : Type 0
+FindsUndosOfCalls =
+    (opening : Database) (rs : List ResourceRecord) → Allowed opening rs → (x c : ℕ) →
+    option_map branch_of_record (record_of_call x c (undo_log_of rs)) ≡ least_branch (map branch_of_undo (undos_of_call rs x c))
 
 -- a call that was tried is found at the least branch that was tried for it
 abbrev pub FindsTriedCalls : Type 0

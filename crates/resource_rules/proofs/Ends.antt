@@ -1,9 +1,7 @@
 -- The second phase of AT branches: what stands in the undo log at a branch is what the records say, and so each answer is the rules'.
-use Rattle.std.proofs.Common.{◌≡◌, ◌∙◌, ◌<◌, ◌^◌, ℕ, Bool, true, false, List, Option, Some, None, is_some, Result, Ok, Err, refl, sym, ap, ap₂, subst, arith}
-use Rattle.std.specs.Prelude.{IfOk, IfSome}
-use Rattle.seata_types.specs.declared.acts.Act.{Act}
+use Rattle.std.proofs.Common.{◌≡◌, ◌∙◌, ◌<◌, ◌^◌, ℕ, Bool, true, false, List, [], Option, Some, None, is_some, Result, Ok, Err, refl, sym, ap, ap₂, arith}
+use Rattle.std.specs.Prelude.{IfOk}
 use Rattle.seata_types.specs.declared.acts.Act.TheVariants as act
-use Rattle.seata_types.specs.declared.acts.Durable.{Durable}
 use Rattle.seata_types.specs.declared.acts.Durable.TheVariants as durable
 use Rattle.seata_types.specs.declared.copies.NoMemory.{NoMemory}
 use Rattle.seata_types.specs.declared.ids.Leg.{Leg}
@@ -12,14 +10,11 @@ use Rattle.seata_types.specs.declared.ids.Ticket.{Ticket}
 use Rattle.seata_types.specs.declared.messages.Input.{Input}
 use Rattle.seata_types.specs.declared.messages.Input.TheVariants as input
 use Rattle.seata_types.specs.declared.messages.Message.TheVariants as message
-use Rattle.seata_types.specs.declared.messages.Step.{Step}
 use Rattle.seata_types.specs.declared.rows.Image.{Image}
 use Rattle.seata_types.specs.declared.rows.RowKey.{RowKey}
 use Rattle.seata_types.specs.declared.statuses.BranchKind.TheVariants as kind
 use Rattle.seata_types.specs.declared.statuses.BranchStatus.TheVariants as branch
-use Rattle.frame_codec.specs.Limits.{IsFramable}
 use Rattle.local_tables.specs.Rows.{Database}
-use Rattle.durable_records.specs.declared.resources.ResourceRecord.{ResourceRecord}
 use Rattle.durable_records.specs.declared.resources.ResourceRecord.TheVariants as log
 use Rattle.durable_records.specs.ResourceOrder.{image_keys}
 use Rattle.durable_records.specs.RowsKept.{tables}
@@ -30,19 +25,17 @@ use Rattle.undo_log.specs.declared.records.UndoEntry.TheVariants as entry
 use Rattle.undo_log.specs.declared.records.UndoRecord.{UndoRecord}
 use Rattle.local_txn.specs.OpenTickets.{Open, busy_in}
 use Rattle.local_txn.specs.Answers.{Tickets}
-use Rattle.history_rules.specs.ResourceMemory.{Setup, Memory, next_ticket, opening_tables}
+use Rattle.history_rules.specs.ResourceMemory.{Setup, Memory, opening_tables}
 use Rattle.history_rules.specs.ResourceRules as rules
-use Rattle.history_rules.specs.ResourceRules.{dirty_image}
+use Rattle.history_rules.specs.ResourceRules.{dirty_image, resource_answer, tells_committed, tells_rollbacked}
 use Rattle.resource_memory.specs.Changes.{is_undo_record}
 use Rattle.resource_memory.specs.Known.{Known}
 use Rattle.resource_memory.specs.Lookups.{entry_by}
 use Rattle.resource_memory.proofs.RecordLaws.{unmarked}
-use Rattle.resource_rules.specs.Answers.{Answers, IsDurable, IsTakenBy, OpensNext, Shows, answer, opens_by, tells_committed, tells_rollbacked}
+use Rattle.resource_rules.specs.Answers.{Answers, Shows, answer, answer_by}
 use Rattle.resource_rules.specs.Apart.{RollsBack}
-use Rattle.resource_rules.specs.Ends.{IsUndo, at_undo, at_record, empty}
-use Rattle.resource_rules.specs.Ready.{AreTicketsWithin, ServesWithin}
+use Rattle.resource_rules.specs.Ends.{empty, undoing}
 use Rattle.resource_rules.specs.declared.answers.Answer.{Answer}
-use Rattle.resource_rules.specs.declared.answers.Change.{Change}
 use Rattle.resource_rules.specs.declared.answers.Change.TheVariants as change
 use Rattle.resource_rules.specs.declared.setups.Setup.{Setup as TheSetup}
 use Rattle.resource_rules.proofs.AnswerLaws.{rests, asks, cleared_placed, marked_placed, undone_placed}
@@ -66,18 +59,6 @@ none_by (Some v) marked e = absurd cc
 none_by None true e = absurd cc
 none_by None false e = (refl, refl)
 
--- ---- the rule at what was looked up
-
-module _ (s : Setup) (m : Memory) (leg : Leg) where
-  undo_is : (dirty : Option Image) → at_undo (tables (opening_tables s) m.left.records) leg dirty ≡ rules.at_undo s m.left.records m.opens (next_ticket m) leg.xid.0 leg.branch.0 dirty
-  undo_is (Some i) = refl
-  undo_is None = refl
-
-  record_is : (v : Undo) (busy : Option (RowKey × Ticket)) → at_record (tables (opening_tables s) m.left.records) leg v.images busy
-      ≡ rules.at_record s m.left.records m.opens (next_ticket m) leg.xid.0 leg.branch.0 v busy
-  record_is v (Some (key, by)) = refl
-  record_is v None = undo_is (dirty_image (tables (opening_tables s) m.left.records) v.images)
-
 -- ---- the answers
 
 module _ (is : TheSetup) (k : Known) (ts : Tickets) (leg : Leg) where
@@ -93,17 +74,16 @@ module _ (is : TheSetup) (k : Known) (ts : Tickets) (leg : Leg) where
     at o e = sym (entry_seen s m sh leg) ∙ e
 
     rolls : (v : Option Undo) (n : Bool) → undo_at ≡ v → marked_at ≡ n
-        → rules.at_rollback s m.left.records m.opens (next_ticket m) leg.xid.0 leg.branch.0 n v ≡ rules.at_rollback s m.left.records m.opens (next_ticket m) leg.xid.0 leg.branch.0 marked_at undo_at
-    rolls v n u marked = sym (ap₂ (rules.at_rollback s m.left.records m.opens (next_ticket m) leg.xid.0 leg.branch.0) marked u)
+        → rules.at_rollback (tables (opening_tables s) m.left.records) m.opens leg.xid.0 leg.branch.0 n v ≡ rules.at_rollback (tables (opening_tables s) m.left.records) m.opens leg.xid.0 leg.branch.0 marked_at undo_at
+    rolls v n u marked = sym (ap₂ (rules.at_rollback (tables (opening_tables s) m.left.records) m.opens leg.xid.0 leg.branch.0) marked u)
 
     -- by the images of the undo record
-    undoes : (r : UndoRecord) → entry_at k.undo_log leg ≡ Some (entry.Normal r) → at_record k.tables leg r.images (busy_in ts.opens (image_keys r.images))
-        ≡ rules.at_rollback s m.left.records m.opens (next_ticket m) leg.xid.0 leg.branch.0 marked_at undo_at
+    undoes : (r : UndoRecord) → entry_at k.undo_log leg ≡ Some (entry.Normal r) → rules.at_record k.tables leg.xid.0 leg.branch.0 r.images (busy_in ts.opens (image_keys r.images))
+        ≡ rules.at_rollback (tables (opening_tables s) m.left.records) m.opens leg.xid.0 leg.branch.0 marked_at undo_at
     undoes r e =
         let found = normal_by undo_at marked_at r (at (Some (entry.Normal r)) e) in
-        ap₂ (λ (db : Database) (os : List Open). at_record db leg r.images (busy_in os (image_keys r.images))) (tables_seen s m sh) (opens_seen s m sh)
-        ∙ ap (λ (is : List Image). at_record (tables (opening_tables s) m.left.records) leg is (busy_in m.opens (image_keys is))) (sym found.2)
-        ∙ record_is s m leg found.0 (busy_in m.opens (image_keys found.0.images))
+        ap₂ (λ (db : Database) (os : List Open). rules.at_record db leg.xid.0 leg.branch.0 r.images (busy_in os (image_keys r.images))) (tables_seen s m sh) (opens_seen s m sh)
+        ∙ ap (λ (is : List Image). rules.at_record (tables (opening_tables s) m.left.records) leg.xid.0 leg.branch.0 is (busy_in m.opens (image_keys is))) (sym found.2)
         ∙ rolls (Some found.0) false found.1 (unmarked (opening_tables s) m.left.records sh.allowed leg.xid.0 leg.branch.0 (ap is_some found.1))
 
   module _ (manager call : ℕ) (from : Place) where
@@ -114,14 +94,14 @@ module _ (is : TheSetup) (k : Known) (ts : Tickets) (leg : Leg) where
     rollback = input.Message from (message.BranchRollback leg.xid leg.branch kind.At manager call)
 
     pub clears : (r : UndoRecord) → entry_at k.undo_log leg ≡ Some (entry.Normal r) → leg.xid.0 < 2 ^ 64 → leg.branch.0 < 2 ^ 64 → (a : Answer)
-        → a ≡ answer (Some (log.Cleared leg.xid leg.branch)) (tells_committed leg branch.PhaseTwoCommitted 0 (act.Durable (durable.Cleared leg.xid leg.branch))) → Answers is k ts commit a
+        → a ≡ answer (Some (log.Cleared leg.xid leg.branch)) (tells_committed leg.xid.0 leg.branch.0 branch.PhaseTwoCommitted 0 (act.Durable (durable.Cleared leg.xid leg.branch))) → Answers is k ts commit a
     clears r e x b a same =
         asks change.Stays (log.Cleared leg.xid leg.branch) tt (durable.Cleared leg.xid leg.branch) _
-        (λ s m sh. sym (ap (rules.at_commit s m.left.records m.opens (next_ticket m) leg.xid.0 leg.branch.0) (normal_by (undo_at s m sh) (marked_at s m sh) r (at s m sh (Some (entry.Normal r)) e)).1))
+        (λ s m sh. sym (ap (rules.at_commit leg.xid.0 leg.branch.0) (normal_by (undo_at s m sh) (marked_at s m sh) r (at s m sh (Some (entry.Normal r)) e)).1))
         (λ s m sh. refl) (λ s m. refl) (λ n. refl) (record { allowed = ap is_undo_record e; runs = refl; placed = λ places. cleared_placed leg x b }) (λ ready served. (commit_told leg kind.At manager call branch.PhaseTwoCommitted 0 (omega arith) served, tt)) a same
 
     empties : ((s : Setup) (m : Memory) → Shows is k ts s m → undo_of m.left.records leg.xid.0 leg.branch.0 ≡ None) → (a : Answer) → a ≡ empty leg → Answers is k ts commit a
-    empties none = rests change.Stays tt _ (λ s m sh. sym (ap (rules.at_commit s m.left.records m.opens (next_ticket m) leg.xid.0 leg.branch.0) (none s m sh))) (λ s m. refl) (λ s m now sh. refl)
+    empties none = rests change.Stays tt _ (λ s m sh. sym (ap (rules.at_commit leg.xid.0 leg.branch.0) (none s m sh))) (λ s m. refl) (λ s m now sh. refl)
         (λ ready served. (commit_told leg kind.At manager call branch.PhaseTwoCommitted 0 (omega arith) served, tt))
 
     pub marked_empty : entry_at k.undo_log leg ≡ Some entry.Finished → (a : Answer) → a ≡ empty leg → Answers is k ts commit a
@@ -131,54 +111,42 @@ module _ (is : TheSetup) (k : Known) (ts : Tickets) (leg : Leg) where
     none_empty e = empties (λ s m sh. (none_by (undo_at s m sh) (marked_at s m sh) (at s m sh None e)).0)
 
     pub remarks : entry_at k.undo_log leg ≡ Some entry.Finished → (a : Answer)
-        → a ≡ answer None (tells_rollbacked leg branch.PhaseTwoRollbacked 0 (act.Remarked leg.xid leg.branch)) → Answers is k ts rollback a
+        → a ≡ answer None (tells_rollbacked leg.xid.0 leg.branch.0 branch.PhaseTwoRollbacked 0 (act.Remarked leg.xid leg.branch)) → Answers is k ts rollback a
     remarks e = rests change.Stays tt _ (λ s m sh. let found = finished_by (undo_at s m sh) (marked_at s m sh) (at s m sh (Some entry.Finished) e) in rolls s m sh None true found.0 found.1) (λ s m. refl) (λ s m now sh. refl)
         (λ ready served. (rollback_told leg kind.At manager call branch.PhaseTwoRollbacked 0 (omega arith) served, tt))
 
     pub marks : entry_at k.undo_log leg ≡ None → leg.xid.0 < 2 ^ 64 → leg.branch.0 < 2 ^ 64 → (a : Answer)
-        → a ≡ answer (Some (log.Marked leg.xid leg.branch)) (tells_rollbacked leg branch.PhaseTwoRollbacked 0 (act.Durable (durable.Marked leg.xid leg.branch))) → Answers is k ts rollback a
+        → a ≡ answer (Some (log.Marked leg.xid leg.branch)) (tells_rollbacked leg.xid.0 leg.branch.0 branch.PhaseTwoRollbacked 0 (act.Durable (durable.Marked leg.xid leg.branch))) → Answers is k ts rollback a
     marks e x b =
         asks change.Stays (log.Marked leg.xid leg.branch) tt (durable.Marked leg.xid leg.branch) _
         (λ s m sh. let found = none_by (undo_at s m sh) (marked_at s m sh) (at s m sh None e) in rolls s m sh None false found.0 found.1)
         (λ s m sh. refl) (λ s m. refl) (λ n. refl) (record { allowed = rw e refl; runs = refl; placed = λ places. marked_placed leg x b })
         (λ ready served. (rollback_told leg kind.At manager call branch.PhaseTwoRollbacked 0 (omega arith) served, tt))
 
-    undone_taken : (r : UndoRecord) → entry_at k.undo_log leg ≡ Some (entry.Normal r) → leg.xid.0 < 2 ^ 64 → leg.branch.0 < 2 ^ 64 → (o : Option ResourceRecord)
-        → IfSome o (λ q. q ≡ log.Undone leg.xid leg.branch) → IfSome o (IsTakenBy is k ts rollback)
-    undone_taken r e x b (Some q) same =
-        subst (IsTakenBy is k ts rollback) (sym same) (record { allowed = ap is_undo_record e; runs = refl; placed = λ places. undone_placed leg x b })
-    undone_taken r e x b None same = tt
+    module _ (r : UndoRecord) (e : entry_at k.undo_log leg ≡ Some (entry.Normal r)) (x : leg.xid.0 < 2 ^ 64) (b : leg.branch.0 < 2 ^ 64) where
+      looks : (dirty : Option Image) → dirty_image k.tables r.images ≡ dirty → busy_in ts.opens (image_keys r.images) ≡ None → (s : Setup) (m : Memory) → Shows is k ts s m
+          → rules.at_undo k.tables leg.xid.0 leg.branch.0 dirty ≡ resource_answer s m rollback
+      looks dirty is_dirty free s m sh =
+          ap (rules.at_undo k.tables leg.xid.0 leg.branch.0) (sym is_dirty) ∙ ap (rules.at_record k.tables leg.xid.0 leg.branch.0 r.images) (sym free) ∙ undoes s m sh r e
 
-    undo_framed : (db : Database) (dirty : Option Image) → ServesWithin rollback → IfSome (at_undo db leg dirty).sent (λ out. IsFramable out.message)
-    undo_framed db (Some i) served = rollback_told leg kind.At manager call branch.PhaseTwoRollbackFailedUnretryable 0 (omega arith) served
-    undo_framed db None served = rollback_told leg kind.At manager call branch.PhaseTwoRollbacked 0 (omega arith) served
+      dirties : (dirty : Option Image) → dirty_image k.tables r.images ≡ dirty → busy_in ts.opens (image_keys r.images) ≡ None → (a : Answer)
+          → a ≡ answer_by 0 [] [] (rules.at_undo k.tables leg.xid.0 leg.branch.0 dirty) → Answers is k ts rollback a
+      dirties (Some i) is_dirty free = rests change.Stays tt _ (looks (Some i) is_dirty free) (λ s m. refl) (λ s m now sh. refl)
+          (λ ready served. (rollback_told leg kind.At manager call branch.PhaseTwoRollbackFailedUnretryable 0 (omega arith) served, tt))
+      dirties None is_dirty free = asks change.Stays (log.Undone leg.xid leg.branch) tt (durable.Undone leg.xid leg.branch) _ (looks None is_dirty free)
+          (λ s m sh. refl) (λ s m. refl) (λ n. refl) (record { allowed = ap is_undo_record e; runs = refl; placed = λ places. undone_placed leg x b })
+          (λ ready served. (rollback_told leg kind.At manager call branch.PhaseTwoRollbacked 0 (omega arith) served, tt))
 
-    record_framed : (db : Database) (images : List Image) (busy : Option (RowKey × Ticket)) → ServesWithin rollback → IfSome (at_record db leg images busy).sent (λ out. IsFramable out.message)
-    record_framed db images (Some (key, by)) served = rollback_told leg kind.At manager call branch.PhaseTwoRollbackFailedRetryable 0 (omega arith) served
-    record_framed db images None served = undo_framed db (dirty_image db images) served
-
-    durable_as : (o : Option ResourceRecord) (done : Act) (d : Durable) → IfSome o (λ r. done ≡ act.Durable d) → IfSome o (λ r. IsDurable done)
-    durable_as (Some r) done d same = (d, same)
-    durable_as None done d same = tt
-
-    pub undone : (r : UndoRecord) → entry_at k.undo_log leg ≡ Some (entry.Normal r) → leg.xid.0 < 2 ^ 64 → leg.branch.0 < 2 ^ 64 → (a : Answer)
-        → a.step ≡ at_record k.tables leg r.images (busy_in ts.opens (image_keys r.images)) → IsUndo leg a → Answers is k ts rollback a
-    undone r e x b a step undo = record {
-      rules = λ s m sh. record { step = step ∙ undoes s m sh r e; asked = undo.asked s m rollback; left = undo.left s m rollback };
-      taken = undone_taken r e x b a.asked undo.undone;
-      at = durable_as a.asked a.step.act (durable.Undone leg.xid leg.branch) undo.at;
-      opens = subst (OpensNext ts a.asked) (sym undo.stays) tt;
-      within = λ ready served. record {
-        frames = subst (λ (st : Step). IfSome st.sent (λ out. IsFramable out.message)) (sym step) (record_framed k.tables r.images (busy_in ts.opens (image_keys r.images)) served);
-        tickets = subst (λ (c : Change). AreTicketsWithin k.tables (opens_by c ts.opens)) (sym undo.stays) ready.tickets;
-      };
-    }
+      pub undone : (busy : Option (RowKey × Ticket)) → busy_in ts.opens (image_keys r.images) ≡ busy → (a : Answer) → a ≡ undoing k.tables leg r.images busy → Answers is k ts rollback a
+      undone (Some (key, by)) is_busy = rests change.Stays tt _ (λ s m sh. ap (rules.at_record k.tables leg.xid.0 leg.branch.0 r.images) (sym is_busy) ∙ undoes s m sh r e) (λ s m. refl) (λ s m now sh. refl)
+          (λ ready served. (rollback_told leg kind.At manager call branch.PhaseTwoRollbackFailedRetryable 0 (omega arith) served, tt))
+      undone None free = dirties (dirty_image k.tables r.images) refl free
 
 -- where there is memory for it
 pub undone_ok : (k : Known) (opens : List Open) (leg : Leg) (r : UndoRecord) (db : Database) (images : List Image) (result : Result Answer NoMemory) → db ≡ k.tables → images ≡ r.images
     → entry_at k.undo_log leg ≡ Some (entry.Normal r) → leg.xid.0 < 2 ^ 64 → leg.branch.0 < 2 ^ 64
-    → IfOk result (λ a. a.step ≡ at_record db leg images (busy_in opens (image_keys images))) → IfOk result (IsUndo leg) → IfOk result (RollsBack k opens leg)
-undone_ok k opens leg r db images (Ok a) same rows e x b step undo = λ is ts manager call at from.
-    undone is k ts leg manager call from r e x b a
-    (step ∙ ap₂ (λ (t : Database) (is : List Image). at_record t leg is (busy_in opens (image_keys is))) same rows ∙ ap (λ (os : List Open). at_record k.tables leg r.images (busy_in os (image_keys r.images))) (sym at)) undo
-undone_ok k opens leg r db images (Err n) same rows e x b step undo = tt
+    → IfOk result (λ a. a ≡ undoing db leg images (busy_in opens (image_keys images))) → IfOk result (RollsBack k opens leg)
+undone_ok k opens leg r db images (Ok a) same rows e x b given = λ is ts manager call at from.
+    undone is k ts leg manager call from r e x b (busy_in ts.opens (image_keys r.images)) refl a
+    (given ∙ ap₂ (λ (t : Database) (is : List Image). undoing t leg is (busy_in opens (image_keys is))) same rows ∙ ap (λ (os : List Open). undoing k.tables leg r.images (busy_in os (image_keys r.images))) (sym at))
+undone_ok k opens leg r db images (Err n) same rows e x b given = tt

@@ -1,5 +1,5 @@
 -- The coordinator's answers for open tickets of calls: by what was looked up they are the rules'.
-use Rattle.std.proofs.Common.{◌≡◌, ◌∙◌, ◌==◌, ◌+◌, ◌-◌, ◌<◌, ◌^◌, ℕ, Bool, true, false, List, Option, Some, None, option_map, is_none, Result, Ok, Err, refl, sym, ap, subst, arith}
+use Rattle.std.proofs.Common.{◌≡◌, ◌∙◌, ◌==◌, ◌+◌, ◌-◌, ◌<◌, ◌^◌, ℕ, Bool, true, false, List, [], map, Option, Some, None, option_map, is_none, Result, Ok, Err, refl, sym, ap, subst, arith}
 use Rattle.std.specs.Prelude.{nat_le, min, if◌then◌else◌, IfOk}
 use Rattle.std.proofs.lemmas.Bool.{and_from}
 use Rattle.std.proofs.lemmas.Bool.Decides.{nat_tests}
@@ -20,11 +20,13 @@ use Rattle.seata_types.specs.declared.messages.Input.TheVariants as input
 use Rattle.seata_types.specs.declared.messages.Message.TheVariants as message
 use Rattle.seata_types.specs.declared.messages.Registered.{Registered}
 use Rattle.seata_types.specs.declared.messages.Registered.TheVariants as registered
+use Rattle.seata_types.specs.declared.messages.Step.{Step}
 use Rattle.seata_types.specs.declared.rows.RowKey.{RowKey}
 use Rattle.seata_types.specs.declared.statements.Action.{Action}
 use Rattle.seata_types.specs.declared.statements.Stmt.{Stmt}
 use Rattle.seata_types.specs.declared.statements.Work.{Work}
 use Rattle.seata_types.specs.declared.statements.Work.TheVariants as work
+use Rattle.seata_types.specs.declared.statuses.GlobalStatus.{GlobalStatus}
 use Rattle.local_tables.specs.Calls.{effect}
 use Rattle.local_tables.specs.Rows.{AreRows, Database}
 use Rattle.local_tables.specs.declared.schemas.Effect.{Effect}
@@ -36,8 +38,8 @@ use Rattle.undo_log.specs.Entries.{entry_at}
 use Rattle.undo_log.specs.declared.records.UndoEntry.{UndoEntry}
 use Rattle.undo_log.specs.declared.records.UndoEntry.TheVariants as entry
 use Rattle.tcc_fence.specs.Meanings.{fence_at}
-use Rattle.local_txn.specs.OpenTickets.{Owner, OfCall, OfLocal, Open, open_at}
-use Rattle.local_txn.specs.Answers.{Tickets, counted, open_of, raised}
+use Rattle.local_txn.specs.OpenTickets.{Owner, OfCall, OfLocal, Open, counting, open_at}
+use Rattle.local_txn.specs.Answers.{Tickets, counted, open_of}
 use Rattle.local_txn.specs.declared.transactions.OpenTxn.{OpenTxn}
 use Rattle.local_txn.proofs.OpenLaws.{found_ticket}
 use Rattle.history_rules.specs.Own.{still}
@@ -47,10 +49,10 @@ use Rattle.history_rules.specs.ResourceRules.{resource_answer, untouched}
 use Rattle.resource_log.specs.Records.{leg_of}
 use Rattle.resource_memory.specs.Changes.{runs}
 use Rattle.resource_memory.specs.Known.{Known}
-use Rattle.resource_rules.specs.Answers.{Answers, GrantPlaces, Hears, IsOpenFor, IsOpenOn, Shows, ignored}
+use Rattle.resource_rules.specs.Answers.{Answers, GrantPlaces, Hears, IsOpenFor, IsOpenOn, Shows, answer_by, ignored}
 use Rattle.resource_rules.specs.Owned.{call_by, of_call}
 use Rattle.resource_rules.specs.Ready.{AreStmtsWithin, IsCallWithin, IsOwnedWithin, IsReady, ServesWithin}
-use Rattle.resource_rules.specs.Grants.{IsCountedTry, answered, at_granted, conflicted, dropped, granted, met_with, tcc_granted, try_meant, try_touched}
+use Rattle.resource_rules.specs.Grants.{IsCountedTry, at_granted, conflicted, dropped, granted, tcc_granted, try_meant}
 use Rattle.resource_rules.specs.declared.answers.Answer.{Answer}
 use Rattle.resource_rules.specs.declared.answers.Change.TheVariants as change
 use Rattle.resource_rules.specs.declared.setups.Setup.{Setup as TheSetup}
@@ -125,30 +127,35 @@ module _ (is : TheSetup) (k : Known) (ts : Tickets) (t : Ticket) (xid : Xid) (fr
       call_here ready = call_of_ticket k.tables (open_of txn) txn.manager txn.xid.0 txn.call txn.work (subst (IsOwnedWithin k.tables (open_of txn)) (owner txn.work refl) (open_within is k ts ready t (open_of txn) here).owned)
 
       dropped_framed : (answer : Registered) (cause : Why) → (IsReady is k ts → ServesWithin (answer_input t xid from answer) → IsCause cause)
-          → Framed is k ts (answer_input t xid from answer) (change.Closes txn.ticket) (dropped txn cause).step
+          → Framed is k ts (answer_input t xid from answer) (change.Closes txn.ticket) (dropped txn txn.xid cause).step
       dropped_framed answer cause causes = λ ready served. (told_framed txn.xid txn.call (called.Failed cause) (call_here ready) (failed_told cause (causes ready served)), tt)
 
       -- it is dropped
       drops : (answer : Registered) (cause : Why) → (IsReady is k ts → ServesWithin (answer_input t xid from answer) → IsCause cause)
-          → ((s : Setup) (m : Memory) → Shows is k ts s m → (dropped txn cause).step ≡ rules.ticket_answer s m.left.records m.opens (next_ticket m) (open_of txn) (OfCall txn.manager txn.xid.0 txn.call txn.work) answer)
-          → (a : Answer) → a ≡ dropped txn cause → Answers is k ts (answer_input t xid from answer) a
+          → ((s : Setup) (m : Memory) → Shows is k ts s m → (dropped txn txn.xid cause).step ≡ rules.ticket_answer s m.left.records m.opens (next_ticket m) (open_of txn) (OfCall txn.manager txn.xid.0 txn.call txn.work) answer)
+          → (a : Answer) → a ≡ dropped txn txn.xid cause → Answers is k ts (answer_input t xid from answer) a
       drops answer cause causes rule = rests (change.Closes txn.ticket) tt _ (λ s m sh. rule s m sh ∙ answers_as answer s m sh) (λ s m. refl) (λ s m now sh. refl) (dropped_framed answer cause causes)
 
       -- ---- a conflict
 
       module _ (key : RowKey) (holder : Xid) (small : is.tries < 2 ^ 32) where
-        meets : (b : Bool) → nat_le is.tries (txn.conflicts + 1) ≡ b → (s : Setup) (m : Memory) → Shows is k ts s m
-            → (if b then (dropped txn why.Tries).step else still (act.Conflicted txn.ticket (txn.conflicts + 1))) ≡ rules.conflict_answer s m.left.records m.opens (next_ticket m) (open_of txn) txn.manager txn.xid.0 txn.call holder false
-        meets b e s m sh =
-            ap (λ (c : Bool). if c then (dropped txn why.Tries).step else still (act.Conflicted txn.ticket (txn.conflicts + 1))) (sym e ∙ ap (λ (n : ℕ). nat_le n (txn.conflicts + 1)) (sym sh.setup.tries))
+        abbrev met : Bool → Step
+        met b = if b then rules.drops (open_of txn) txn.manager txn.xid.0 txn.call why.Tries else still (act.Conflicted txn.ticket (txn.conflicts + 1))
 
-        met_as : (b : Bool) → nat_le is.tries (txn.conflicts + 1) ≡ b → (a : Answer) → a ≡ met_with txn (if b then Some why.Tries else None) → Answers is k ts (answer_input t xid from (registered.Conflict key holder false)) a
-        met_as true e = drops (registered.Conflict key holder false) why.Tries (λ ready served. record { layout = tt; limits = tt }) (meets true e)
-        met_as false e =
-            rests (change.Counts txn.ticket) tt _
-            (λ s m sh. ap (λ (n : ℕ). still (act.Conflicted txn.ticket n)) (exact is.tries txn.conflicts small e) ∙ meets false e s m sh ∙ answers_as (registered.Conflict key holder false) s m sh)
-            (λ s m. refl)
-            (λ s m now sh. ap (λ (o : Option Open). record m { opens = counted o txn.ticket m.opens }) (sym (own_at s m sh))) (λ ready served. (tt, tt))
+        met_is : (b : Bool) → nat_le is.tries (txn.conflicts + 1) ≡ b → (s : Setup) (m : Memory) → Shows is k ts s m
+            → met b ≡ rules.conflict_answer s.tries (open_of txn) txn.manager txn.xid.0 txn.call holder false
+        met_is b e s m sh = ap met (sym e ∙ ap (λ (n : ℕ). nat_le n (txn.conflicts + 1)) (sym sh.setup.tries))
+
+        counts : nat_le is.tries (txn.conflicts + 1) ≡ false → (s : Setup) (m : Memory) → Shows is k ts s m
+            → record m { opens = map (counting txn.ticket (txn.conflicts + 1)) m.opens } ≡ record m { opens = counted (open_at m.opens txn.ticket) txn.ticket m.opens }
+        counts e s m sh =
+            ap (λ (n : ℕ). record m { opens = map (counting txn.ticket n) m.opens }) (sym (exact is.tries txn.conflicts small e))
+            ∙ ap (λ (o : Option Open). record m { opens = counted o txn.ticket m.opens }) (sym (own_at s m sh))
+
+        met_as : (b : Bool) → nat_le is.tries (txn.conflicts + 1) ≡ b → (a : Answer) → a ≡ answer_by 0 [] [] (met b) → Answers is k ts (answer_input t xid from (registered.Conflict key holder false)) a
+        met_as true e = drops (registered.Conflict key holder false) why.Tries (λ ready served. record { layout = tt; limits = tt }) (met_is true e)
+        met_as false e = rests (change.Counts txn.ticket) tt _ (λ s m sh. met_is false e s m sh ∙ answers_as (registered.Conflict key holder false) s m sh)
+            (λ s m. refl) (λ s m now sh. counts e s m sh) (λ ready served. (tt, tt))
 
         pub conflicts : (rolling : Bool) (a : Answer) → a ≡ conflicted is.tries txn holder rolling → Answers is k ts (answer_input t xid from (registered.Conflict key holder rolling)) a
         conflicts true = drops (registered.Conflict key holder true) (why.Rolling holder) (λ ready served. record { layout = holder_of t xid key holder true served; limits = tt }) (λ s m sh. refl)
@@ -170,9 +177,9 @@ module _ (is : TheSetup) (k : Known) (ts : Tickets) (t : Ticket) (xid : Xid) (fr
         -- of an AT branch
         module _ (stmts : List Stmt) (e : txn.work ≡ work.At stmts) where
           at_as : (u : Option Undo) (marked : Bool) (s : Setup) (m : Memory) → Shows is k ts s m → undo_of m.left.records txn.xid.0 b.0 ≡ u → is_marked m.left.records txn.xid.0 b.0 ≡ marked
-              → rules.at_granted s m.left.records m.opens (next_ticket m) (open_of txn) txn.manager txn.xid.0 txn.call b.0 u marked ≡ resource_answer s m (answer_input t xid from (registered.Granted b))
+              → rules.at_granted (open_of txn) txn.manager txn.xid.0 txn.call b.0 u marked ≡ resource_answer s m (answer_input t xid from (registered.Granted b))
           at_as u marked s m sh eu em =
-              sym (λ i. rules.at_granted s m.left.records m.opens (next_ticket m) (open_of txn) txn.manager txn.xid.0 txn.call b.0 (eu i) (em i)) ∙ granted_as (work.At stmts) e s m sh
+              sym (λ i. rules.at_granted (open_of txn) txn.manager txn.xid.0 txn.call b.0 (eu i) (em i)) ∙ granted_as (work.At stmts) e s m sh
 
           committed_as : (s : Setup) (m : Memory) → Shows is k ts s m → Some (log.Committed txn.xid b txn.call txn.images txn.reads) ≡ option_map (committed_of txn.xid b) (open_at m.opens txn.ticket)
           committed_as s m sh =
@@ -198,9 +205,9 @@ module _ (is : TheSetup) (k : Known) (ts : Tickets) (t : Ticket) (xid : Xid) (fr
           meant r is_r s m sh = ap (λ (db : Database). effect db action.tries) (sym (tables_seen s m sh)) ∙ is_r
 
           tcc_as : (f : FenceAnswer) → on_try (fence_at k.fences leg) ≡ f → (s : Setup) (m : Memory) → Shows is k ts s m
-              → rules.tcc_granted s m.left.records m.opens (next_ticket m) (open_of txn) txn.manager txn.xid.0 txn.call b.0 action f ≡ resource_answer s m (answer_input t xid from (registered.Granted b))
+              → rules.tcc_granted (open_of txn) txn.manager txn.xid.0 txn.call b.0 (effect (tables (opening_tables s) m.left.records) action.tries) f ≡ resource_answer s m (answer_input t xid from (registered.Granted b))
           tcc_as f is_f s m sh =
-              sym (ap (rules.tcc_granted s m.left.records m.opens (next_ticket m) (open_of txn) txn.manager txn.xid.0 txn.call b.0 action) (ap on_try (sym (fence_seen s m sh leg)) ∙ is_f)) ∙ granted_as (work.Tcc action) e s m sh
+              sym (ap (rules.tcc_granted (open_of txn) txn.manager txn.xid.0 txn.call b.0 (effect (tables (opening_tables s) m.left.records) action.tries)) (ap on_try (sym (fence_seen s m sh leg)) ∙ is_f)) ∙ granted_as (work.Tcc action) e s m sh
 
           tried_as : (images : Effect) → effect k.tables action.tries ≡ Ok images → (s : Setup) (m : Memory) → Shows is k ts s m
               → Some (log.Tried txn.xid b txn.call images.images) ≡ option_map (tried_of txn.xid b (tables (opening_tables s) m.left.records)) (open_at m.opens txn.ticket)
@@ -215,16 +222,17 @@ module _ (is : TheSetup) (k : Known) (ts : Tickets) (t : Ticket) (xid : Xid) (fr
 
           module _ (ran : on_try (fence_at k.fences leg) ≡ Runs) where
             meant_as : (r : Meaning) → effect k.tables action.tries ≡ r → (s : Setup) (m : Memory) → Shows is k ts s m
-                → rules.try_meant s m.left.records m.opens (next_ticket m) (open_of txn) txn.manager txn.xid.0 txn.call b.0 r ≡ resource_answer s m (answer_input t xid from (registered.Granted b))
+                → rules.try_meant (open_of txn) txn.manager txn.xid.0 txn.call b.0 r ≡ resource_answer s m (answer_input t xid from (registered.Granted b))
             meant_as r is_r s m sh =
-                sym (ap (rules.try_meant s m.left.records m.opens (next_ticket m) (open_of txn) txn.manager txn.xid.0 txn.call b.0) (meant r is_r s m sh)) ∙ tcc_as Runs ran s m sh
+                sym (ap (rules.try_meant (open_of txn) txn.manager txn.xid.0 txn.call b.0) (meant r is_r s m sh)) ∙ tcc_as Runs ran s m sh
 
-            touches : (x : Effect) → effect k.tables action.tries ≡ Ok x → (index : Option ℕ) → untouched 1 x.touched ≡ index → (a : Answer) → a ≡ try_touched txn leg x.images index → Answers is k ts (answer_input t xid from (registered.Granted b)) a
+            touches : (x : Effect) → effect k.tables action.tries ≡ Ok x → (index : Option ℕ) → untouched 1 x.touched ≡ index → (a : Answer)
+                → a ≡ answer_by txn.call x.images [] (rules.try_touched (open_of txn) txn.manager txn.xid.0 txn.call b.0 index) → Answers is k ts (answer_input t xid from (registered.Granted b)) a
             touches x is_x (Some index) first = rests (change.Closes txn.ticket) tt _
-                (λ s m sh. sym (ap (rules.try_touched s m.left.records m.opens (next_ticket m) (open_of txn) txn.manager txn.xid.0 txn.call b.0) first) ∙ meant_as (Ok x) is_x s m sh)
+                (λ s m sh. sym (ap (rules.try_touched (open_of txn) txn.manager txn.xid.0 txn.call b.0) first) ∙ meant_as (Ok x) is_x s m sh)
                 (λ s m. refl) (λ s m now sh. refl) (dropped_framed (registered.Granted b) (why.NoRow index) (λ ready served. untouched_cause k.tables action.tries (tries_within ready).count x is_x index first))
             touches x is_x None first = asks (change.Closes txn.ticket) (log.Tried txn.xid b txn.call x.images) tt (durable.Tried txn.xid b txn.ticket) _
-                (λ s m sh. sym (ap (rules.try_touched s m.left.records m.opens (next_ticket m) (open_of txn) txn.manager txn.xid.0 txn.call b.0) first) ∙ meant_as (Ok x) is_x s m sh)
+                (λ s m sh. sym (ap (rules.try_touched (open_of txn) txn.manager txn.xid.0 txn.call b.0) first) ∙ meant_as (Ok x) is_x s m sh)
                 (tried_as x is_x) (λ s m. refl) (λ n. refl)
                 (record { allowed = and_from _ _ (ap runs ran) (images_fit k.tables action.tries x rows is_x); runs = refl; placed = λ places. places_as (work.Tcc action) e places x is_x })
                 (λ ready served. (told_framed txn.xid txn.call (called.Done b) (call_here ready) (done_told b (branch_granted t xid b served)), tt))
@@ -234,7 +242,7 @@ module _ (is : TheSetup) (k : Known) (ts : Tickets) (t : Ticket) (xid : Xid) (fr
             means (Err (index, error)) is_r = rests (change.Closes txn.ticket) tt _ (λ s m sh. meant_as (Err (index, error)) is_r s m sh) (λ s m. refl) (λ s m now sh. refl)
                 (dropped_framed (registered.Granted b) (why.Stmt index error) (λ ready served. fault_cause k.tables (tables_within k ready.knows) ready.knows.resource action.tries (tries_within ready) index error is_r))
 
-          fenced : Framed is k ts (answer_input t xid from (registered.Granted b)) (change.Closes txn.ticket) (dropped txn why.Fence).step
+          fenced : Framed is k ts (answer_input t xid from (registered.Granted b)) (change.Closes txn.ticket) (dropped txn txn.xid why.Fence).step
           fenced = dropped_framed (registered.Granted b) why.Fence (λ ready served. record { layout = tt; limits = tt })
 
           tcc_by : (f : FenceAnswer) → on_try (fence_at k.fences leg) ≡ f → (a : Answer) → a ≡ tcc_granted txn leg (effect k.tables action.tries) f → Answers is k ts (answer_input t xid from (registered.Granted b)) a
@@ -243,20 +251,38 @@ module _ (is : TheSetup) (k : Known) (ts : Tickets) (t : Ticket) (xid : Xid) (fr
           tcc_by Suspends is_f = rests (change.Closes txn.ticket) tt _ (λ s m sh. tcc_as Suspends is_f s m sh) (λ s m. refl) (λ s m now sh. refl) fenced
           tcc_by Refuses is_f = rests (change.Closes txn.ticket) tt _ (λ s m sh. tcc_as Refuses is_f s m sh) (λ s m. refl) (λ s m now sh. refl) fenced
 
-        grants : AreRows k.tables → (w : Work) → txn.work ≡ w → (a : Answer) → a ≡ granted k txn leg w → Answers is k ts (answer_input t xid from (registered.Granted b)) a
+        pub grants : AreRows k.tables → (w : Work) → txn.work ≡ w → (a : Answer) → a ≡ granted k txn leg w → Answers is k ts (answer_input t xid from (registered.Granted b)) a
         grants rows (work.At stmts) e = at_by stmts e (entry_at k.undo_log leg) refl
         grants rows (work.Tcc action) e = tcc_by action e rows (on_try (fence_at k.fences leg)) refl
 
-      -- ---- all
+      -- ---- no answer any more
 
-      pub answers : IsOpenOn k.tables (open_of txn) → AreRows k.tables → is.tries < 2 ^ 32 → (answer : Registered) (a : Answer) → a ≡ answered is.tries k txn answer → Answers is k ts (answer_input t xid from answer) a
-      answers open_on rows small (registered.Granted b) = grants b open_on rows txn.work refl
-      answers open_on rows small (registered.Conflict key holder rolling) = conflicts key holder small rolling
-      answers open_on rows small (registered.Closed status) = drops (registered.Closed status) (why.Closed status) (λ ready served. record { layout = tt; limits = tt }) (λ s m sh. refl)
-      answers open_on rows small registered.Late = drops registered.Late why.Late (λ ready served. record { layout = tt; limits = tt }) (λ s m sh. refl)
+      pub closes : (status : GlobalStatus) (a : Answer) → a ≡ dropped txn txn.xid (why.Closed status) → Answers is k ts (answer_input t xid from (registered.Closed status)) a
+      closes status = drops (registered.Closed status) (why.Closed status) (λ ready served. record { layout = tt; limits = tt }) (λ s m sh. refl)
+
+      pub comes_late : (a : Answer) → a ≡ dropped txn txn.xid why.Late → Answers is k ts (answer_input t xid from registered.Late) a
+      comes_late = drops registered.Late why.Late (λ ready served. record { layout = tt; limits = tt }) (λ s m sh. refl)
 
 -- where there is memory for it
-pub answers_ok : (is : TheSetup) (k : Known) (ts : Tickets) (t : Ticket) (txn : OpenTxn) (answer : Registered) → open_at ts.opens t ≡ Some (open_of txn) → (txn.xid.0 == 0) ≡ false → IsOpenOn k.tables (open_of txn)
-    → AreRows k.tables → is.tries < 2 ^ 32 → (result : Result Answer NoMemory) → IfOk result (λ a. a ≡ answered is.tries k txn answer) → IfOk result (λ a. (xid : Xid) → Hears is k ts (message.RegisterAnswer t xid answer) a)
-answers_ok is k ts t txn answer here one open_on rows small (Ok a) given = λ xid from. answers is k ts t xid from txn here one open_on rows small answer a given
-answers_ok is k ts t txn answer here one open_on rows small (Err n) given = tt
+module _ (is : TheSetup) (k : Known) (ts : Tickets) (t : Ticket) (txn : OpenTxn) (here : open_at ts.opens t ≡ Some (open_of txn)) (one : (txn.xid.0 == 0) ≡ false) where
+  abbrev pub Heard : Registered → Answer → Type 0
+  Heard answer a = (xid : Xid) → Hears is k ts (message.RegisterAnswer t xid answer) a
+
+  pub granted_ok : (b : BranchId) → IsOpenOn k.tables (open_of txn) → AreRows k.tables → (known : Known) → known ≡ k → (result : Result Answer NoMemory)
+      → IfOk result (λ a. a ≡ granted known txn (leg_of txn.xid b) txn.work) → IfOk result (Heard (registered.Granted b))
+  granted_ok b open_on rows known same (Ok a) given = λ xid from.
+      grants is k ts t xid from txn here one b open_on rows txn.work refl a (given ∙ ap (λ (q : Known). granted q txn (leg_of txn.xid b) txn.work) same)
+  granted_ok b open_on rows known same (Err n) given = tt
+
+  pub conflicted_ok : (key : RowKey) (holder : Xid) (rolling : Bool) → is.tries < 2 ^ 32 → (result : Result Answer NoMemory)
+      → IfOk result (λ a. a ≡ conflicted is.tries txn holder rolling) → IfOk result (Heard (registered.Conflict key holder rolling))
+  conflicted_ok key holder rolling small (Ok a) given = λ xid from. conflicts is k ts t xid from txn here one key holder small rolling a given
+  conflicted_ok key holder rolling small (Err n) given = tt
+
+  pub closed_ok : (status : GlobalStatus) (result : Result Answer NoMemory) → IfOk result (λ a. a ≡ dropped txn txn.xid (why.Closed status)) → IfOk result (Heard (registered.Closed status))
+  closed_ok status (Ok a) given = λ xid from. closes is k ts t xid from txn here one status a given
+  closed_ok status (Err n) given = tt
+
+  pub late_ok : (result : Result Answer NoMemory) → IfOk result (λ a. a ≡ dropped txn txn.xid why.Late) → IfOk result (Heard registered.Late)
+  late_ok (Ok a) given = λ xid from. comes_late is k ts t xid from txn here one a given
+  late_ok (Err n) given = tt

@@ -17,7 +17,6 @@ pub mod AskedLaws
 pub mod Places
 pub mod TurnAnswers
 pub mod MeaningLaws
-pub mod DoneCalls
 pub mod CallAnswers
 pub mod RulingLaws
 pub mod TakenIn

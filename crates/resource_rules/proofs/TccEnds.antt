@@ -1,43 +1,38 @@
 -- The second phase of TCC branches: what the fence of a branch answers and what statements mean are what the records say, and so each
 -- answer is the rules'.
-use Rattle.std.proofs.Common.{◌≡◌, ◌∙◌, ◌+◌, ◌≤◌, ◌<◌, ◌^◌, ℕ, true, List, [], length, Option, Some, None, Result, Ok, Err, refl, sym, ap, ap₂, arith}
+use Rattle.std.proofs.Common.{◌≡◌, ◌∙◌, ◌<◌, ◌^◌, ℕ, true, List, [], Option, Some, None, Result, Ok, Err, refl, sym, ap, ap₂, arith}
 use Rattle.std.specs.Prelude.{IfOk}
-use Rattle.std.specs.List.{list_all}
-use Rattle.std.proofs.lemmas.Bool.{and_from, and_parts, leb-true, le-leb}
+use Rattle.std.proofs.lemmas.Bool.{and_from}
 use Rattle.seata_types.specs.declared.acts.Durable.TheVariants as durable
 use Rattle.seata_types.specs.declared.copies.NoMemory.{NoMemory}
 use Rattle.seata_types.specs.declared.errors.StmtError.{StmtError}
 use Rattle.seata_types.specs.declared.ids.Leg.{Leg}
 use Rattle.seata_types.specs.declared.ids.Place.{Place}
-use Rattle.seata_types.specs.declared.limits.TheConstants.{CALL_ROWS}
 use Rattle.seata_types.specs.declared.messages.Input.{Input}
 use Rattle.seata_types.specs.declared.messages.Input.TheVariants as input
 use Rattle.seata_types.specs.declared.messages.Message.TheVariants as message
-use Rattle.seata_types.specs.declared.rows.Image.{Image}
-use Rattle.seata_types.specs.declared.rows.ReadRow.{ReadRow}
 use Rattle.seata_types.specs.declared.statements.Action.{Action}
 use Rattle.seata_types.specs.declared.statements.Stmt.{Stmt}
 use Rattle.seata_types.specs.declared.statuses.BranchKind.TheVariants as kind
 use Rattle.seata_types.specs.declared.statuses.BranchStatus.TheVariants as branch
 use Rattle.local_tables.specs.Calls.{effect}
-use Rattle.local_tables.specs.Fitting.{is_image, is_read}
 use Rattle.local_tables.specs.Rows.{AreRows, Database}
 use Rattle.local_tables.specs.declared.schemas.Effect.{Effect}
 use Rattle.durable_records.specs.declared.resources.ResourceRecord.TheVariants as log
 use Rattle.durable_records.specs.Fences.{FenceAnswer, Runs, WasDone, Suspends, Refuses, fence, on_confirm, on_cancel}
-use Rattle.durable_records.specs.ResourceOrder.{image_keys, read_keys, only_read}
 use Rattle.durable_records.specs.RowsKept.{tables}
 use Rattle.tcc_fence.specs.Meanings.{fence_at}
 use Rattle.local_txn.specs.Answers.{Tickets}
-use Rattle.history_rules.specs.ResourceMemory.{Setup, Memory, action_in, action_of, confirms_of, cancels_of, effect_on, next_ticket, opening_tables, or_none}
+use Rattle.history_rules.specs.ResourceMemory.{Setup, Memory, action_in, action_of, confirms_of, cancels_of, effect_on, opening_tables, or_none}
 use Rattle.history_rules.specs.ResourceRules as rules
 use Rattle.history_rules.specs.ResourceRules.{resource_answer}
-use Rattle.resource_memory.specs.Changes.{fit, rise, runs, suspends}
+use Rattle.resource_memory.specs.Changes.{fit, runs, suspends}
 use Rattle.resource_memory.specs.Known.{Known}
 use Rattle.resource_memory.proofs.EffectFits.{effects_fit}
+use Rattle.resource_memory.proofs.Fits.{fit_alone}
 use Rattle.resource_rules.specs.Answers.{Answers, Shows, ignored}
 use Rattle.resource_rules.specs.Apart.{CancelsWith, ConfirmsWith, cancels_on, confirms_on}
-use Rattle.resource_rules.specs.Ends.{confirming, cancelling, tcc_commit, tcc_rollback}
+use Rattle.resource_rules.specs.Ends.{confirming, cancelling}
 use Rattle.resource_rules.specs.Setups.{actions_of}
 use Rattle.resource_rules.specs.declared.answers.Answer.{Answer}
 use Rattle.resource_rules.specs.declared.answers.Change.TheVariants as change
@@ -48,17 +43,6 @@ use Rattle.resource_rules.proofs.ReadyLaws.{action_within, commit_told, rollback
 use Rattle.resource_rules.proofs.Seen.{action_seen, fence_seen, tables_seen}
 
 -- ---- images of an effect
-
--- images that fit without their reads
-pub fit_alone : (db : Database) (images : List Image) (reads : List ReadRow) → fit db images reads ≡ true → fit db images [] ≡ true
-fit_alone db images reads e =
-    let one = and_parts (list_all (is_image db.resource db.schema) images) _ e in
-    let two = and_parts (list_all (is_read db.resource db.schema) reads) _ one.1 in
-    let three = and_parts (rise (image_keys images)) _ two.1 in
-    let four = and_parts (rise (read_keys reads)) _ three.1 in
-    let all = leb-true (length images + length (only_read images reads)) CALL_ROWS four.1 in
-    let few : length images + 0 ≤ CALL_ROWS = omega (arith, all) in
-    and_from _ _ one.0 (and_from _ _ refl (and_from _ _ three.0 (and_from _ _ refl (le-leb (length images + 0) CALL_ROWS few))))
 
 -- those of statements fit the tables
 pub images_fit : (db : Database) (stmts : List Stmt) (e : Effect) → AreRows db → effect db stmts ≡ Ok e → fit db e.images [] ≡ true
@@ -83,12 +67,12 @@ module _ (is : TheSetup) (k : Known) (ts : Tickets) (leg : Leg) (manager call : 
   -- there are none
   pub no_commit : action_in manager call (actions_of is.actions) ≡ None → (a : Answer) → a ≡ ignored → Answers is k ts commit a
   no_commit none = rests change.Stays tt _
-      (λ s m sh. sym (ap (rules.with_action s m.left.records m.opens (next_ticket m) (λ a. rules.tcc_commit s m.left.records m.opens (next_ticket m) leg.xid.0 leg.branch.0 a (on_confirm (fence m.left.records leg.xid.0 leg.branch.0)))) (action_is None none s m sh)))
+      (λ s m sh. sym (ap (rules.with_action (λ a. rules.tcc_commit leg.xid.0 leg.branch.0 (effect (tables (opening_tables s) m.left.records) a.confirms) (on_confirm (fence m.left.records leg.xid.0 leg.branch.0)))) (action_is None none s m sh)))
       (λ s m. refl) (λ s m now sh. refl) (λ ready served. (tt, tt))
 
   pub no_rollback : action_in manager call (actions_of is.actions) ≡ None → (a : Answer) → a ≡ ignored → Answers is k ts rollback a
   no_rollback none = rests change.Stays tt _
-      (λ s m sh. sym (ap (rules.with_action s m.left.records m.opens (next_ticket m) (λ a. rules.tcc_rollback s m.left.records m.opens (next_ticket m) leg.xid.0 leg.branch.0 a (on_cancel (fence m.left.records leg.xid.0 leg.branch.0)))) (action_is None none s m sh)))
+      (λ s m sh. sym (ap (rules.with_action (λ a. rules.tcc_rollback leg.xid.0 leg.branch.0 (effect (tables (opening_tables s) m.left.records) a.cancels) (on_cancel (fence m.left.records leg.xid.0 leg.branch.0)))) (action_is None none s m sh)))
       (λ s m. refl) (λ s m now sh. refl) (λ ready served. (tt, tt))
 
   module _ (action : Action) (here : action_in manager call (actions_of is.actions) ≡ Some action) (rows : AreRows k.tables) where
@@ -98,25 +82,25 @@ module _ (is : TheSetup) (k : Known) (ts : Tickets) (leg : Leg) (manager call : 
     -- ---- commit
 
     commits : (f : FenceAnswer) → on_confirm (fence_at k.fences leg) ≡ f → (s : Setup) (m : Memory) → Shows is k ts s m
-        → rules.tcc_commit s m.left.records m.opens (next_ticket m) leg.xid.0 leg.branch.0 action f ≡ resource_answer s m commit
+        → rules.tcc_commit leg.xid.0 leg.branch.0 (effect (tables (opening_tables s) m.left.records) action.confirms) f ≡ resource_answer s m commit
     commits f e s m sh =
-        sym (ap (rules.with_action s m.left.records m.opens (next_ticket m) (λ a. rules.tcc_commit s m.left.records m.opens (next_ticket m) leg.xid.0 leg.branch.0 a (on_confirm (fence m.left.records leg.xid.0 leg.branch.0)))) (action_is (Some action) here s m sh)
-        ∙ ap (rules.tcc_commit s m.left.records m.opens (next_ticket m) leg.xid.0 leg.branch.0 action) (ap on_confirm (sym (fence_seen s m sh leg)) ∙ e))
+        sym (ap (rules.with_action (λ a. rules.tcc_commit leg.xid.0 leg.branch.0 (effect (tables (opening_tables s) m.left.records) a.confirms) (on_confirm (fence m.left.records leg.xid.0 leg.branch.0)))) (action_is (Some action) here s m sh)
+        ∙ ap (rules.tcc_commit leg.xid.0 leg.branch.0 (effect (tables (opening_tables s) m.left.records) action.confirms)) (ap on_confirm (sym (fence_seen s m sh leg)) ∙ e))
 
-    confirms : (r : Meaning) → effect k.tables action.confirms ≡ r → on_confirm (fence_at k.fences leg) ≡ Runs → (a : Answer) → a ≡ confirming leg r → Answers is k ts commit a
+    confirms : (r : Meaning) → effect k.tables action.confirms ≡ r → on_confirm (fence_at k.fences leg) ≡ Runs → (a : Answer) → a ≡ confirming leg r Runs → Answers is k ts commit a
     confirms (Ok e) means f = asks change.Stays (log.Confirmed leg.xid leg.branch e.images) tt (durable.Confirmed leg.xid leg.branch) _
-        (λ s m sh. sym (ap (rules.confirm_runs s m.left.records m.opens (next_ticket m) leg.xid.0 leg.branch.0) (meant action.confirms (Ok e) means s m sh)) ∙ commits Runs f s m sh)
+        (λ s m sh. sym (ap (rules.confirm_runs leg.xid.0 leg.branch.0) (meant action.confirms (Ok e) means s m sh)) ∙ commits Runs f s m sh)
         (λ s m sh. sym (ap (λ (o : Option Action). Some (log.Confirmed leg.xid leg.branch (effect_on (tables (opening_tables s) m.left.records) (confirms_of o)).images)) (action_is (Some action) here s m sh)
         ∙ ap (λ (q : Meaning). Some (log.Confirmed leg.xid leg.branch (or_none q).images)) (meant action.confirms (Ok e) means s m sh)))
         (λ s m. refl) (λ n. refl)
         (record { allowed = and_from _ _ (ap runs f) (images_fit k.tables action.confirms e rows means); runs = refl; placed = λ places. places action here e means })
         (λ ready served. (commit_told leg kind.Tcc manager call branch.PhaseTwoCommitted 0 (omega arith) served, tt))
     confirms (Err (index, error)) means f = rests change.Stays tt _
-        (λ s m sh. sym (ap (rules.confirm_runs s m.left.records m.opens (next_ticket m) leg.xid.0 leg.branch.0) (meant action.confirms (Err (index, error)) means s m sh)) ∙ commits Runs f s m sh)
+        (λ s m sh. sym (ap (rules.confirm_runs leg.xid.0 leg.branch.0) (meant action.confirms (Err (index, error)) means s m sh)) ∙ commits Runs f s m sh)
         (λ s m. refl) (λ s m now sh. refl)
         (λ ready served. (commit_told leg kind.Tcc manager call branch.PhaseTwoCommitFailedUnretryable index (fault_counted k.tables (tables_within k ready.knows) ready.knows.resource action.confirms (action_within is.actions manager call action ready.actions here).confirms index error means).1 served, tt))
 
-    pub confirmed : (f : FenceAnswer) → on_confirm (fence_at k.fences leg) ≡ f → (a : Answer) → a ≡ tcc_commit leg (effect k.tables action.confirms) f → Answers is k ts commit a
+    pub confirmed : (f : FenceAnswer) → on_confirm (fence_at k.fences leg) ≡ f → (a : Answer) → a ≡ confirming leg (effect k.tables action.confirms) f → Answers is k ts commit a
     confirmed Runs f = confirms (effect k.tables action.confirms) refl f
     confirmed WasDone f = rests change.Stays tt _ (commits WasDone f) (λ s m. refl) (λ s m now sh. refl) (λ ready served. (commit_told leg kind.Tcc manager call branch.PhaseTwoCommitted 0 (omega arith) served, tt))
     confirmed Suspends f = rests change.Stays tt _ (commits Suspends f) (λ s m. refl) (λ s m now sh. refl) (λ ready served. (commit_told leg kind.Tcc manager call branch.PhaseTwoCommitFailedRetryable 0 (omega arith) served, tt))
@@ -125,26 +109,26 @@ module _ (is : TheSetup) (k : Known) (ts : Tickets) (leg : Leg) (manager call : 
     -- ---- rollback
 
     rolls : (f : FenceAnswer) → on_cancel (fence_at k.fences leg) ≡ f → (s : Setup) (m : Memory) → Shows is k ts s m
-        → rules.tcc_rollback s m.left.records m.opens (next_ticket m) leg.xid.0 leg.branch.0 action f ≡ resource_answer s m rollback
+        → rules.tcc_rollback leg.xid.0 leg.branch.0 (effect (tables (opening_tables s) m.left.records) action.cancels) f ≡ resource_answer s m rollback
     rolls f e s m sh =
-        sym (ap (rules.with_action s m.left.records m.opens (next_ticket m) (λ a. rules.tcc_rollback s m.left.records m.opens (next_ticket m) leg.xid.0 leg.branch.0 a (on_cancel (fence m.left.records leg.xid.0 leg.branch.0)))) (action_is (Some action) here s m sh)
-        ∙ ap (rules.tcc_rollback s m.left.records m.opens (next_ticket m) leg.xid.0 leg.branch.0 action) (ap on_cancel (sym (fence_seen s m sh leg)) ∙ e))
+        sym (ap (rules.with_action (λ a. rules.tcc_rollback leg.xid.0 leg.branch.0 (effect (tables (opening_tables s) m.left.records) a.cancels) (on_cancel (fence m.left.records leg.xid.0 leg.branch.0)))) (action_is (Some action) here s m sh)
+        ∙ ap (rules.tcc_rollback leg.xid.0 leg.branch.0 (effect (tables (opening_tables s) m.left.records) action.cancels)) (ap on_cancel (sym (fence_seen s m sh leg)) ∙ e))
 
-    cancels : (r : Meaning) → effect k.tables action.cancels ≡ r → on_cancel (fence_at k.fences leg) ≡ Runs → (a : Answer) → a ≡ cancelling leg r → Answers is k ts rollback a
+    cancels : (r : Meaning) → effect k.tables action.cancels ≡ r → on_cancel (fence_at k.fences leg) ≡ Runs → (a : Answer) → a ≡ cancelling leg r Runs → Answers is k ts rollback a
     cancels (Ok e) means f = asks change.Stays (log.Cancelled leg.xid leg.branch e.images) tt (durable.Cancelled leg.xid leg.branch) _
-        (λ s m sh. sym (ap (rules.cancel_runs s m.left.records m.opens (next_ticket m) leg.xid.0 leg.branch.0) (meant action.cancels (Ok e) means s m sh)) ∙ rolls Runs f s m sh)
+        (λ s m sh. sym (ap (rules.cancel_runs leg.xid.0 leg.branch.0) (meant action.cancels (Ok e) means s m sh)) ∙ rolls Runs f s m sh)
         (λ s m sh. sym (ap (λ (o : Option Action). Some (log.Cancelled leg.xid leg.branch (effect_on (tables (opening_tables s) m.left.records) (cancels_of o)).images)) (action_is (Some action) here s m sh)
         ∙ ap (λ (q : Meaning). Some (log.Cancelled leg.xid leg.branch (or_none q).images)) (meant action.cancels (Ok e) means s m sh)))
         (λ s m. refl) (λ n. refl)
         (record { allowed = and_from _ _ (ap runs f) (images_fit k.tables action.cancels e rows means); runs = refl; placed = λ places. places action here e means })
         (λ ready served. (rollback_told leg kind.Tcc manager call branch.PhaseTwoRollbacked 0 (omega arith) served, tt))
     cancels (Err (index, error)) means f = rests change.Stays tt _
-        (λ s m sh. sym (ap (rules.cancel_runs s m.left.records m.opens (next_ticket m) leg.xid.0 leg.branch.0) (meant action.cancels (Err (index, error)) means s m sh)) ∙ rolls Runs f s m sh)
+        (λ s m sh. sym (ap (rules.cancel_runs leg.xid.0 leg.branch.0) (meant action.cancels (Err (index, error)) means s m sh)) ∙ rolls Runs f s m sh)
         (λ s m. refl) (λ s m now sh. refl)
         (λ ready served. (rollback_told leg kind.Tcc manager call branch.PhaseTwoRollbackFailedUnretryable index (fault_counted k.tables (tables_within k ready.knows) ready.knows.resource action.cancels (action_within is.actions manager call action ready.actions here).cancels index error means).1 served, tt))
 
     module _ (x : leg.xid.0 < 2 ^ 64) (b : leg.branch.0 < 2 ^ 64) where
-      pub cancelled : (f : FenceAnswer) → on_cancel (fence_at k.fences leg) ≡ f → (a : Answer) → a ≡ tcc_rollback leg (effect k.tables action.cancels) f → Answers is k ts rollback a
+      pub cancelled : (f : FenceAnswer) → on_cancel (fence_at k.fences leg) ≡ f → (a : Answer) → a ≡ cancelling leg (effect k.tables action.cancels) f → Answers is k ts rollback a
       cancelled Runs f = cancels (effect k.tables action.cancels) refl f
       cancelled WasDone f = rests change.Stays tt _ (rolls WasDone f) (λ s m. refl) (λ s m now sh. refl) (λ ready served. (rollback_told leg kind.Tcc manager call branch.PhaseTwoRollbacked 0 (omega arith) served, tt))
       cancelled Suspends f = asks change.Stays (log.Suspended leg.xid leg.branch) tt (durable.Suspended leg.xid leg.branch) _
@@ -155,27 +139,27 @@ module _ (is : TheSetup) (k : Known) (ts : Tickets) (leg : Leg) (manager call : 
 -- ---- where there is memory for it
 
 module _ (k : Known) (leg : Leg) (rows : AreRows k.tables) (db : Database) (stmts : List Stmt) (f : FenceAnswer) (same : db ≡ k.tables) where
-  pub confirmed_ok : (result : Result Answer NoMemory) → on_confirm (fence_at k.fences leg) ≡ f → IfOk result (λ a. a ≡ tcc_commit leg (effect db stmts) f) → IfOk result (ConfirmsWith k leg stmts)
+  pub confirmed_ok : (result : Result Answer NoMemory) → on_confirm (fence_at k.fences leg) ≡ f → IfOk result (λ a. a ≡ confirming leg (effect db stmts) f) → IfOk result (ConfirmsWith k leg stmts)
   confirmed_ok (Ok a) e given = λ is ts manager call action here of from.
-      confirmed is k ts leg manager call from action here rows f e a (given ∙ ap₂ (λ (t : Database) (ss : List Stmt). tcc_commit leg (effect t ss) f) same of)
+      confirmed is k ts leg manager call from action here rows f e a (given ∙ ap₂ (λ (t : Database) (ss : List Stmt). confirming leg (effect t ss) f) same of)
   confirmed_ok (Err n) e given = tt
 
   pub cancelled_ok : leg.xid.0 < 2 ^ 64 → leg.branch.0 < 2 ^ 64 → (result : Result Answer NoMemory) → on_cancel (fence_at k.fences leg) ≡ f
-      → IfOk result (λ a. a ≡ tcc_rollback leg (effect db stmts) f) → IfOk result (CancelsWith k leg stmts)
+      → IfOk result (λ a. a ≡ cancelling leg (effect db stmts) f) → IfOk result (CancelsWith k leg stmts)
   cancelled_ok x b (Ok a) e given = λ is ts manager call action here of from.
-      cancelled is k ts leg manager call from action here rows x b f e a (given ∙ ap₂ (λ (t : Database) (ss : List Stmt). tcc_rollback leg (effect t ss) f) same of)
+      cancelled is k ts leg manager call from action here rows x b f e a (given ∙ ap₂ (λ (t : Database) (ss : List Stmt). cancelling leg (effect t ss) f) same of)
   cancelled_ok x b (Err n) e given = tt
 
 -- and by what is known
 module _ (k : Known) (leg : Leg) (db : Database) (stmts : List Stmt) (f : FenceAnswer) (same : db ≡ k.tables) where
-  pub confirmed_known : (result : Result Answer NoMemory) → on_confirm (fence_at k.fences leg) ≡ f → IfOk result (λ a. a ≡ tcc_commit leg (effect db stmts) f)
+  pub confirmed_known : (result : Result Answer NoMemory) → on_confirm (fence_at k.fences leg) ≡ f → IfOk result (λ a. a ≡ confirming leg (effect db stmts) f)
       → IfOk result (λ a. a ≡ confirms_on k leg stmts)
-  confirmed_known (Ok a) e given = given ∙ ap₂ (λ (t : Database) (g : FenceAnswer). tcc_commit leg (effect t stmts) g) same (sym e)
+  confirmed_known (Ok a) e given = given ∙ ap₂ (λ (t : Database) (g : FenceAnswer). confirming leg (effect t stmts) g) same (sym e)
   confirmed_known (Err n) e given = tt
 
-  pub cancelled_known : (result : Result Answer NoMemory) → on_cancel (fence_at k.fences leg) ≡ f → IfOk result (λ a. a ≡ tcc_rollback leg (effect db stmts) f)
+  pub cancelled_known : (result : Result Answer NoMemory) → on_cancel (fence_at k.fences leg) ≡ f → IfOk result (λ a. a ≡ cancelling leg (effect db stmts) f)
       → IfOk result (λ a. a ≡ cancels_on k leg stmts)
-  cancelled_known (Ok a) e given = given ∙ ap₂ (λ (t : Database) (g : FenceAnswer). tcc_rollback leg (effect t stmts) g) same (sym e)
+  cancelled_known (Ok a) e given = given ∙ ap₂ (λ (t : Database) (g : FenceAnswer). cancelling leg (effect t stmts) g) same (sym e)
   cancelled_known (Err n) e given = tt
 
 pub none_found : {A : Type 0} (o : Option A) → ((a : A) → o ≡ Some a → ⊥) → o ≡ None

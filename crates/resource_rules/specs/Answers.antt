@@ -3,10 +3,9 @@ use Rattle.std.specs.Prelude.{◌≡◌, ℕ, ◌+◌, ◌≤◌, ◌<◌, ◌^�
 use Rattle.seata_types.specs.declared.acts.Act.{Act}
 use Rattle.seata_types.specs.declared.acts.Act.TheVariants as act
 use Rattle.seata_types.specs.declared.acts.Durable.{Durable}
+use Rattle.seata_types.specs.declared.acts.Durable.TheVariants as durable
 use Rattle.seata_types.specs.declared.ids.BranchId.{BranchId}
-use Rattle.seata_types.specs.declared.ids.Leg.{Leg}
 use Rattle.seata_types.specs.declared.ids.Place.{Place}
-use Rattle.seata_types.specs.declared.ids.Place.TheVariants as place
 use Rattle.seata_types.specs.declared.ids.Ticket.{Ticket}
 use Rattle.seata_types.specs.declared.limits.TheConstants.{FIELD_ITEMS}
 use Rattle.seata_types.specs.declared.messages.Input.{Input}
@@ -16,11 +15,11 @@ use Rattle.seata_types.specs.declared.messages.Message.TheVariants as message
 use Rattle.seata_types.specs.declared.messages.Registered.TheVariants as registered
 use Rattle.seata_types.specs.declared.messages.Step.{Step}
 use Rattle.seata_types.specs.declared.rows.Image.{Image}
+use Rattle.seata_types.specs.declared.rows.ReadRow.{ReadRow}
 use Rattle.seata_types.specs.declared.statements.Action.{Action}
 use Rattle.seata_types.specs.declared.statements.Stmt.{Stmt}
 use Rattle.seata_types.specs.declared.statements.Work.TheVariants as work
 use Rattle.seata_types.specs.declared.statuses.BranchKind.TheVariants as kind
-use Rattle.seata_types.specs.declared.statuses.BranchStatus.{BranchStatus}
 use Rattle.frame_codec.specs.Limits.{IsFramable}
 use Rattle.local_tables.specs.Calls.{effect}
 use Rattle.local_tables.specs.Rows.{Database}
@@ -33,7 +32,7 @@ use Rattle.local_txn.specs.OpenTickets.{Owner, OfCall, OfLocal, Open, busy_row, 
 use Rattle.local_txn.specs.Answers.{Tickets, counted, new_ticket, open_of}
 use Rattle.local_txn.specs.declared.transactions.OpenTxn.{OpenTxn}
 use Rattle.history_rules.specs.CoordinatorRules.{xid_of}
-use Rattle.history_rules.specs.Own.{Given, Left, Own, sends, still}
+use Rattle.history_rules.specs.Own.{Given, Left, Own, still}
 use Rattle.history_rules.specs.ResourceMemory.{Setup, Memory, action_in, local_in, opening_tables, resource_asked, memory_after}
 use Rattle.history_rules.specs.ResourceRules.{resource_answer}
 use Rattle.resource_memory.specs.Changes as changes
@@ -57,12 +56,46 @@ answer asked s = record { step = s; asked = asked; change = change.Stays }
 abbrev pub ignored : Answer
 ignored = answer None (still act.Ignored)
 
--- the coordinator is told how a branch ended; of a statement without a meaning its number, else 0
-abbrev pub tells_committed : Leg → BranchStatus → (stmt : ℕ) → Act → Step
-tells_committed leg status stmt done = sends done place.Tc (message.BranchCommitted leg.xid leg.branch status stmt)
+-- ---- by the act
 
-abbrev pub tells_rollbacked : Leg → BranchStatus → (stmt : ℕ) → Act → Step
-tells_rollbacked leg status stmt done = sends done place.Tc (message.BranchRollbacked leg.xid leg.branch status stmt)
+-- the record that a durable act asks for, of this call and these rows
+abbrev pub record_of : (call : ℕ) → List Image → List ReadRow → Durable → Option ResourceRecord
+record_of c images reads (durable.Committed xid b t) = Some (log.Committed xid b c images reads)
+record_of c images reads (durable.Tried xid b t) = Some (log.Tried xid b c images)
+record_of c images reads (durable.Cleared xid b) = Some (log.Cleared xid b)
+record_of c images reads (durable.Undone xid b) = Some (log.Undone xid b)
+record_of c images reads (durable.Marked xid b) = Some (log.Marked xid b)
+record_of c images reads (durable.Confirmed xid b) = Some (log.Confirmed xid b images)
+record_of c images reads (durable.Cancelled xid b) = Some (log.Cancelled xid b images)
+record_of c images reads (durable.Suspended xid b) = Some (log.Suspended xid b)
+record_of c images reads (durable.LocalCommitted n t) = Some (log.LocalCommitted n images)
+record_of c images reads (durable.Outside n) = Some (log.Outside n images)
+record_of c images reads _ = None
+
+-- no other act asks for one
+abbrev pub asked_by : (call : ℕ) → List Image → List ReadRow → Act → Option ResourceRecord
+asked_by c images reads (act.Durable d) = record_of c images reads d
+asked_by c images reads _ = None
+
+-- what becomes of the open tickets at a durable act: that of a commit or of a Try is open no longer
+abbrev pub change_of : Durable → Change
+change_of (durable.Committed xid b t) = change.Closes t
+change_of (durable.Tried xid b t) = change.Closes t
+change_of (durable.LocalCommitted n t) = change.Closes t
+change_of _ = change.Stays
+
+-- and at another one that opens none
+abbrev pub change_by : Act → Change
+change_by (act.Resent t) = change.Sends t
+change_by (act.Conflicted t n) = change.Counts t
+change_by (act.Dropped xid c t cause) = change.Closes t
+change_by (act.DroppedLocal n t key holder) = change.Closes t
+change_by (act.Durable d) = change_of d
+change_by _ = change.Stays
+
+-- the answer of a step, of this call and these rows, that opens no ticket
+abbrev pub answer_by : (call : ℕ) → List Image → List ReadRow → Step → Answer
+answer_by c images reads s = record { step = s; asked = asked_by c images reads s.act; change = change_by s.act }
 
 -- ---- after an answer
 

@@ -15,7 +15,7 @@ use Rattle.local_txn.specs.Answers.{Tickets}
 use Rattle.history_rules.specs.ResourceMemory.{action_in, local_in}
 use Rattle.resource_memory.specs.Known.{Known}
 use Rattle.resource_rules.specs.Answers.{Answers, Hears}
-use Rattle.resource_rules.specs.Ends.{tcc_commit, tcc_rollback}
+use Rattle.resource_rules.specs.Ends.{confirming, cancelling}
 use Rattle.resource_rules.specs.Locals.{outside_meant}
 use Rattle.resource_rules.specs.Setups.{actions_of}
 use Rattle.resource_rules.specs.declared.answers.Answer.{Answer}
@@ -37,10 +37,10 @@ CancelsWith k leg stmts a = (is : TheSetup) (ts : Tickets) (manager call : ℕ) 
 
 -- the same by what is known
 abbrev pub confirms_on : Known → Leg → List Stmt → Answer
-confirms_on k leg stmts = tcc_commit leg (effect k.tables stmts) (on_confirm (fence_at k.fences leg))
+confirms_on k leg stmts = confirming leg (effect k.tables stmts) (on_confirm (fence_at k.fences leg))
 
 abbrev pub cancels_on : Known → Leg → List Stmt → Answer
-cancels_on k leg stmts = tcc_rollback leg (effect k.tables stmts) (on_cancel (fence_at k.fences leg))
+cancels_on k leg stmts = cancelling leg (effect k.tables stmts) (on_cancel (fence_at k.fences leg))
 
 -- to the outside write of this number, which has these statements
 abbrev pub WritesWith : Known → List Open → (number : ℕ) → List Stmt → Answer → Type 0

@@ -8,7 +8,6 @@ pub mod Apart
 pub mod Grants
 pub mod Locals
 pub mod Asked
-pub mod Openings
 pub mod Calls
 pub mod Serving
 pub mod Laws

@@ -9,7 +9,7 @@ ghost use Rattle.local_txn.specs.OpenTickets.{busy_in};
 ghost use Rattle.local_txn.specs.Answers.{Tickets};
 ghost use Rattle.resource_rules.specs.Answers.{Hears};
 ghost use Rattle.resource_rules.specs.Apart.{RollsBack};
-ghost use Rattle.resource_rules.specs.Ends.{IsUndo, at_record, empty};
+ghost use Rattle.resource_rules.specs.Ends.{empty, undoing};
 ghost use Rattle.resource_rules.specs.declared.setups.Setup.{Setup as TheSetup};
 
 use crate::answers::Answer;
@@ -20,7 +20,7 @@ use durable_records::ResourceRecord;
 use local_tables::Tables;
 use local_txn::LocalTxns;
 use resource_memory::Memory;
-use seata_types::{Act, BranchStatus, Duplicate, Durable, Image, Leg, NoMemory};
+use seata_types::{Act, Boxed, BranchStatus, Duplicate, Durable, Image, Leg, NoMemory};
 use std::alloc::Global;
 use undo_log::UndoEntry;
 
@@ -99,8 +99,7 @@ fn undo(
     leg: Leg,
     images: &[Image],
 ) -> Result<Answer, NoMemory>
-    ensures step { IfOk result (λ a. a.step ≡ at_record tables.now leg images.now (busy_in txns.now.opens (image_keys images.now))) }
-    ensures undo { IfOk result (IsUndo leg) }
+    ensures { IfOk result (λ a. a ≡ undoing tables.now leg images.now (busy_in txns.now.opens (image_keys images.now))) }
 {
     let Leg { xid, branch } = leg;
     if let Some((key, by)) = rows::first_open(txns, images) {
@@ -137,8 +136,8 @@ fn dirty(alloc: Global, tables: &Tables, leg: Leg, image: &Image) -> Result<Act,
     Ok(Act::Dirty {
         xid: leg.xid,
         branch: leg.branch,
-        key: image.key.copy(alloc)?,
-        after: image.after.copy(alloc)?,
-        now: rows::present(alloc, tables, &image.key)?,
+        key: Boxed::new(alloc, image.key.copy(alloc)?)?,
+        after: Boxed::new(alloc, image.after.copy(alloc)?)?,
+        now: Boxed::new(alloc, rows::present(alloc, tables, &image.key)?)?,
     })
 }

@@ -1,25 +1,25 @@
-//! Calls.
-ghost use Rattle.std.specs.Prelude.{◌≡◌, ℕ, ◌≤◌, ◌<◌, ◌-◌, ◌^◌, Ok, length, option_map, IfOk};
+//! Calls, and the opening of tickets.
+ghost use Rattle.std.specs.Prelude.{◌≡◌, ℕ, ◌≤◌, ◌<◌, ◌-◌, ◌^◌, ◌==◌, false, None, Some, Err, option_map, IfOk};
 ghost use Rattle.std.specs.Option.{option_copied};
-ghost use Rattle.seata_types.specs.declared.limits.TheConstants.{FIELD_ITEMS};
 ghost use Rattle.seata_types.specs.declared.messages.Message.TheVariants as message;
-ghost use Rattle.undo_log.specs.Entries.{record_of_call};
-ghost use Rattle.local_txn.specs.OpenTickets.{no_effect};
-ghost use Rattle.resource_rules.specs.Answers.{Hears};
+ghost use Rattle.seata_types.specs.declared.statements.Work.{Work as TheWork};
+ghost use Rattle.local_tables.specs.declared.schemas.Effect.{Effect};
+ghost use Rattle.local_txn.specs.Answers.{Plans, Tickets};
+ghost use Rattle.history_rules.specs.ResourceRules as rules;
+ghost use Rattle.resource_rules.specs.Answers.{answer, Hears};
 ghost use Rattle.resource_rules.specs.Calls as looked;
 
 use crate::answers::{Answer, Change};
 use crate::callers::Caller;
-use crate::meanings::meaning;
 use crate::requests::request;
 use crate::setups::Setup;
 use crate::telling::{ignored, in_range, in_ticket, is_nobody, rests, tells};
-use local_tables::{Effect, Tables};
-use local_txn::{LocalTxns, OpenTxn};
+use local_tables::Tables;
+use local_txn::{ExecError, LocalTxns, OpenTxn};
 use resource_memory::Memory;
 use seata_types::{
-    Act, BranchId, CallAnswer, Duplicate, Leg, List, NoMemory, Outgoing, Place, RowKey, Step,
-    StmtError, Ticket, Why, Work,
+    Act, BranchId, CallAnswer, Duplicate, Leg, NoMemory, Outgoing, Place, RowKey, Step, StmtError,
+    Ticket, Why, Work,
 };
 use std::alloc::Global;
 use undo_log::UndoRecord;
@@ -45,7 +45,11 @@ pub(crate) fn call(
     let Caller { xid, call, .. } = caller;
     if let Some(branch) = done_for(memory, caller, work) {
         in_range(xid.0, branch.0);
-        return Ok(again(caller, branch));
+        return Ok(told(
+            caller,
+            Act::Again { xid, call, branch },
+            CallAnswer::Done { branch },
+        ));
     }
     if txns.find_call(xid, call).is_some() {
         return Ok(rests(Act::Waiting { xid, call }, None));
@@ -83,7 +87,18 @@ fn branch_on(found: Option<Leg>) -> Option<BranchId>
     }
 }
 
-// A call for which nothing is done, and no ticket is open.
+// The manager of a call is told what was done.
+fn told(caller: Caller, act: Act, given: CallAnswer) -> Answer
+    ensures { result ≡ answer None (rules.answers caller.manager caller.xid.0 caller.call act given) }
+{
+    Answer {
+        step: tells(caller.manager, caller.xid, caller.call, act, given),
+        asked: None,
+        change: Change::Stays,
+    }
+}
+
+// A call of a transaction, for which nothing is done, and no ticket is open.
 fn new_call(
     alloc: Global,
     tables: &Tables,
@@ -92,70 +107,58 @@ fn new_call(
     caller: Caller,
     work: &Work,
 ) -> Result<Answer, NoMemory>
+    requires one { (caller.xid.0 == 0) ≡ false }
     requires room { txns.now.opened < 2 ^ 32 - 1 }
     requires statements { looked.HasFewStatements work.now }
-    ensures { IfOk result (λ a. a ≡ looked.new_call number txns.now caller work.now (looked.meaning tables.now work.now)) }
+    ensures { IfOk result (λ a. a ≡ looked.new_call number txns.now caller work.now (rules.meaning tables.now work.now)) }
 {
-    match work {
-        Work::At(stmts) => match meaning(alloc, tables, stmts.get().as_slice())? {
-            Ok(effect) => free_call(alloc, number, txns, caller, work, effect),
-            Err((index, why)) => refused(alloc, caller, index, why),
-        },
-        Work::Tcc(_) => free_call(alloc, number, txns, caller, work, no_effect(alloc)),
+    match planned(alloc, tables, txns, caller, work) {
+        Ok(txn) => opened(alloc, number, opening(&txn), txn),
+        Err(why) => unopened(alloc, caller, why),
     }
 }
 
-// A Try has no rows yet.
-fn no_effect(alloc: Global) -> Effect
-    ensures { result ≡ no_effect }
-{
-    Effect {
-        images: List::of(Vec::new(alloc)),
-        reads: List::of(Vec::new(alloc)),
-        touched: List::of(Vec::new(alloc)),
-    }
-}
-
-fn free_call(
+// What an opening for the work of a call comes to.
+fn planned(
     alloc: Global,
-    number: u16,
+    tables: &Tables,
     txns: &LocalTxns,
     caller: Caller,
     work: &Work,
-    effect: Effect,
-) -> Result<Answer, NoMemory>
-    requires { txns.now.opened < 2 ^ 32 - 1 }
-    ensures { IfOk result (λ a. a ≡ looked.new_call number txns.now caller work.now (Ok effect)) }
+) -> Result<OpenTxn, ExecError>
+    requires room { txns.now.opened < 2 ^ 32 - 1 }
+    requires statements { looked.HasFewStatements work.now }
+    ensures { Plans txns.now caller.xid caller.call caller.manager work.now (rules.meaning tables.now work.now) result }
 {
-    if let Some((key, by)) = txns.busy(&effect) {
-        return busy(alloc, caller, key, by);
+    let Caller { manager, xid, call } = caller;
+    match work {
+        Work::At(stmts) => txns.plan(alloc, xid, call, manager, stmts, tables),
+        Work::Tcc(action) => match txns.plan_try(alloc, xid, call, manager, action) {
+            Ok(txn) => Ok(txn),
+            Err(NoMemory) => Err(ExecError::NoMemory),
+        },
     }
-    let Effect { images, reads, .. } = effect;
-    let txn = OpenTxn {
-        ticket: txns.next(),
-        xid: caller.xid,
-        call: caller.call,
-        manager: caller.manager,
-        work: work.copy(alloc)?,
-        images,
-        reads,
-        conflicts: 0,
-    };
-    opened(alloc, number, txn)
 }
 
-// A ticket is opened, and asks the coordinator.
-fn opened(alloc: Global, number: u16, txn: OpenTxn) -> Result<Answer, NoMemory>
-    ensures { IfOk result (λ a. a ≡ looked.opened number txn) }
+// The act that opens the ticket of a call.
+fn opening(txn: &OpenTxn) -> Act
+    ensures { result ≡ Act.Opened txn.now.xid txn.now.call txn.now.ticket }
 {
-    let Ok(message) = request(alloc, number, &txn) else {
-        drop(txn);
-        return Err(NoMemory);
-    };
-    let act = Act::Opened {
+    Act::Opened {
         xid: txn.xid,
         call: txn.call,
         ticket: txn.ticket,
+    }
+}
+
+/// A ticket is opened with this act, and asks the coordinator.
+pub(crate) fn opened(alloc: Global, number: u16, act: Act, txn: OpenTxn) -> Result<Answer, NoMemory>
+    ensures { IfOk result (λ a. a ≡ looked.opened number act txn) }
+{
+    let Ok(message) = request(alloc, number, &txn) else {
+        drop(act);
+        drop(txn);
+        return Err(NoMemory);
     };
     Ok(Answer {
         step: Step {
@@ -170,56 +173,41 @@ fn opened(alloc: Global, number: u16, txn: OpenTxn) -> Result<Answer, NoMemory>
     })
 }
 
-// Its work is done, as this branch.
-fn again(caller: Caller, branch: BranchId) -> Answer
-    ensures { result ≡ looked.again caller branch }
+// No ticket is opened for a call, and why.
+fn unopened(alloc: Global, caller: Caller, why: ExecError) -> Result<Answer, NoMemory>
+    ensures { IfOk result (looked.Unopened caller why) }
 {
-    let Caller { manager, xid, call } = caller;
-    let act = Act::Again { xid, call, branch };
-    Answer {
-        step: tells(manager, xid, call, act, CallAnswer::Done { branch }),
-        asked: None,
-        change: Change::Stays,
+    match why {
+        ExecError::Stmt { index, why } => refused(alloc, caller, index, why),
+        ExecError::Busy { key, by } => busy(alloc, caller, key, by),
+        ExecError::NoMemory => Err(NoMemory),
     }
 }
 
 // A statement has no meaning.
 fn refused(alloc: Global, caller: Caller, index: u16, why: StmtError) -> Result<Answer, NoMemory>
-    ensures { IfOk result (λ a. a ≡ looked.refused caller index why) }
+    ensures { IfOk result (λ a. (number : ℕ) (ts : Tickets) (w : TheWork) → a ≡ looked.new_call number ts caller w (Err (index, why))) }
 {
-    let Ok(told) = why.copy(alloc) else {
+    let Ok(cause) = why.copy(alloc) else {
         drop(why);
         return Err(NoMemory);
     };
-    let Caller { manager, xid, call } = caller;
+    let Caller { xid, call, .. } = caller;
     let act = Act::Refused {
         xid,
         call,
         why: Why::Stmt { index, why },
     };
-    let cause = Why::Stmt { index, why: told };
-    Ok(Answer {
-        step: tells(manager, xid, call, act, CallAnswer::Failed { why: cause }),
-        asked: None,
-        change: Change::Stays,
-    })
+    let why = Why::Stmt { index, why: cause };
+    Ok(told(caller, act, CallAnswer::Failed { why }))
 }
 
 // An open ticket has a row.
-fn busy(alloc: Global, caller: Caller, key: &RowKey, by: Ticket) -> Result<Answer, NoMemory>
-    ensures { IfOk result (λ a. a ≡ looked.busy caller key.now by) }
+fn busy(alloc: Global, caller: Caller, key: RowKey, by: Ticket) -> Result<Answer, NoMemory>
+    ensures { IfOk result (λ a. (number : ℕ) (ts : Tickets) (w : TheWork) (e : Effect) → a ≡ looked.free_call number ts caller w e (Some (key, by))) }
 {
-    let told = key.copy(alloc)?;
-    let Caller { manager, xid, call } = caller;
-    let act = Act::Busy {
-        xid,
-        call,
-        key: key.copy(alloc)?,
-        by,
-    };
-    Ok(Answer {
-        step: tells(manager, xid, call, act, CallAnswer::Busy { key: told, by }),
-        asked: None,
-        change: Change::Stays,
-    })
+    let told_key = key.copy(alloc)?;
+    let Caller { xid, call, .. } = caller;
+    let act = Act::Busy { xid, call, key, by };
+    Ok(told(caller, act, CallAnswer::Busy { key: told_key, by }))
 }

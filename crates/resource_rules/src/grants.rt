@@ -1,13 +1,19 @@
 //! The coordinator's answers to registrations.
-ghost use Rattle.std.specs.Prelude.{◌≡◌, ◌≤◌, length, Ok, IfOk};
+ghost use Rattle.std.specs.Prelude.{◌≡◌, ◌≤◌, ◌<◌, ◌^◌, [], length, Some, None, Ok, IfOk};
 ghost use Rattle.std.specs.Option.{option_copied};
+ghost use Rattle.seata_types.specs.declared.acts.Act.TheVariants as act;
 ghost use Rattle.seata_types.specs.declared.ids.Xid.{Xid as TheXid};
 ghost use Rattle.seata_types.specs.declared.limits.TheConstants.{FIELD_ITEMS};
+ghost use Rattle.seata_types.specs.declared.messages.CallAnswer.TheVariants as called;
 ghost use Rattle.seata_types.specs.declared.messages.Message.TheVariants as message;
 ghost use Rattle.local_tables.specs.Calls.{effect};
 ghost use Rattle.tcc_fence.specs.Meanings.{answer_of};
-ghost use Rattle.resource_rules.specs.Answers.{AreOpenOn, Hears};
+ghost use Rattle.local_txn.specs.Answers.{open_of, raised};
+ghost use Rattle.history_rules.specs.Own.{still};
+ghost use Rattle.history_rules.specs.ResourceRules.{answers};
+ghost use Rattle.resource_rules.specs.Answers.{AreOpenOn, Hears, answer_by};
 ghost use Rattle.resource_rules.specs.Grants as looked;
+ghost use Rattle.resource_rules.specs.declared.answers.Change.TheVariants as change;
 
 use crate::answers::{Answer, Change};
 use crate::lookups::{call_at, entry};
@@ -19,8 +25,8 @@ use local_tables::{Effect, Tables};
 use local_txn::{LocalTxns, OpenTxn};
 use resource_memory::Memory;
 use seata_types::{
-    Act, BranchId, CallAnswer, Duplicate, Durable, Leg, NoMemory, Registered, Step, Stmt, Ticket,
-    Why, Work, Xid,
+    Act, CallAnswer, Duplicate, Durable, Leg, NoMemory, Registered, Step, Stmt, Ticket, Why, Work,
+    Xid,
 };
 use std::alloc::Global;
 use tcc_fence::FenceAnswer;
@@ -44,35 +50,23 @@ pub(crate) fn registered(
     };
     in_word(setup.tries);
     let known = memory.kept();
-    answered(alloc, known, setup.tries, txn, answer)
-}
-
-// The same for an open ticket of a call.
-fn answered(
-    alloc: Global,
-    memory: &Memory,
-    tries: u32,
-    txn: &OpenTxn,
-    answer: &Registered,
-) -> Result<Answer, NoMemory>
-    requires { looked.IsCountedTry txn.now.work }
-    ensures { IfOk result (λ a. a ≡ looked.answered tries memory.now txn.now answer.now) }
-{
     match answer {
         Registered::Granted { branch } => {
             let leg = Leg {
                 xid: txn.xid,
                 branch: *branch,
             };
-            granted(alloc, memory, txn, leg)
+            granted(alloc, known, txn, leg)
         }
         Registered::Conflict {
             key: _,
             holder,
             rolling,
-        } => conflicted(alloc, tries, txn, *holder, *rolling),
-        Registered::Closed { status } => dropped(alloc, txn, Why::Closed { status: *status }),
-        Registered::Late => dropped(alloc, txn, Why::Late),
+        } => conflicted(alloc, setup.tries, txn, *holder, *rolling),
+        Registered::Closed { status } => {
+            dropped(alloc, txn, txn.xid, Why::Closed { status: *status })
+        }
+        Registered::Late => dropped(alloc, txn, txn.xid, Why::Late),
     }
 }
 
@@ -104,7 +98,7 @@ fn at_granted(
 {
     match found {
         Some(UndoEntry::Normal(_)) => Ok(ignored()),
-        Some(UndoEntry::Finished) => dropped(alloc, txn, Why::Marker),
+        Some(UndoEntry::Finished) => dropped(alloc, txn, leg.xid, Why::Marker),
         None => {
             let Leg { xid, branch } = leg;
             let item = ResourceRecord::Committed {
@@ -119,7 +113,7 @@ fn at_granted(
                 branch,
                 ticket: txn.ticket,
             };
-            Ok(done(txn, branch, asked, item))
+            Ok(done(txn, leg, asked, item))
         }
     }
 }
@@ -138,9 +132,9 @@ fn tcc_granted(
 {
     match fence {
         FenceAnswer::Run => run_try(alloc, tables, txn, leg, stmts),
-        FenceAnswer::Already => dropped(alloc, txn, Why::Fence),
-        FenceAnswer::Suspend => dropped(alloc, txn, Why::Fence),
-        FenceAnswer::Refuse => dropped(alloc, txn, Why::Fence),
+        FenceAnswer::Already => dropped(alloc, txn, leg.xid, Why::Fence),
+        FenceAnswer::Suspend => dropped(alloc, txn, leg.xid, Why::Fence),
+        FenceAnswer::Refuse => dropped(alloc, txn, leg.xid, Why::Fence),
     }
 }
 
@@ -157,7 +151,7 @@ fn run_try(
 {
     match meaning(alloc, tables, stmts)? {
         Ok(effect) => tried(alloc, txn, leg, effect),
-        Err((index, why)) => dropped(alloc, txn, Why::Stmt { index, why }),
+        Err((index, why)) => dropped(alloc, txn, leg.xid, Why::Stmt { index, why }),
     }
 }
 
@@ -172,7 +166,7 @@ fn tried(alloc: Global, txn: &OpenTxn, leg: Leg, effect: Effect) -> Result<Answe
         ..
     } = effect;
     if let Some(index) = untouched(touched.as_slice()) {
-        return dropped(alloc, txn, Why::NoRow { index });
+        return dropped(alloc, txn, xid, Why::NoRow { index });
     }
     let item = ResourceRecord::Tried {
         xid,
@@ -185,7 +179,7 @@ fn tried(alloc: Global, txn: &OpenTxn, leg: Leg, effect: Effect) -> Result<Answe
         branch,
         ticket: txn.ticket,
     };
-    Ok(done(txn, branch, asked, item))
+    Ok(done(txn, leg, asked, item))
 }
 
 // Another transaction holds a row that a ticket asks for.
@@ -198,52 +192,75 @@ fn conflicted(
 ) -> Result<Answer, NoMemory>
     ensures { IfOk result (λ a. a ≡ looked.conflicted tries txn.now holder rolling) }
 {
-    match why_last(tries, txn.conflicts, holder, rolling) {
-        Some(cause) => dropped(alloc, txn, cause),
+    match why_last(tries, txn, holder, rolling) {
+        Some(cause) => dropped(alloc, txn, txn.xid, cause),
         None => Ok(counted(txn)),
     }
 }
 
-/// Why a ticket that met so many conflicts gives up at one more: another transaction that holds a row is rolled back, or it is the
-/// last of `tries`. Takes no memory.
-pub fn why_last(tries: u32, conflicts: u32, holder: Xid, rolling: bool) -> Option<Why>
-    ensures { result ≡ looked.why_last tries conflicts holder rolling }
+/// The act by which a conflict of the open ticket of a call is met: it is dropped where the transaction that holds the row is rolled
+/// back, or at the last of `tries`; else the conflict is counted. Takes no memory.
+pub fn conflict_act(tries: u32, txn: &OpenTxn, holder: Xid, rolling: bool) -> Act
+    ensures { result ≡ (looked.meets tries txn.now holder rolling).act }
+{
+    match why_last(tries, txn, holder, rolling) {
+        Some(why) => Act::Dropped {
+            xid: txn.xid,
+            call: txn.call,
+            ticket: txn.ticket,
+            why,
+        },
+        None => counts(txn),
+    }
+}
+
+// Why a conflict drops the ticket, if it drops it.
+fn why_last(tries: u32, txn: &OpenTxn, holder: Xid, rolling: bool) -> Option<Why>
+    ensures why { result ≡ looked.cause_of (looked.meets tries txn.now holder rolling).act }
+    ensures word { tries < 2 ^ 32 }
 {
     if rolling {
         return Some(Why::Rolling { holder });
     }
-    if conflicts.saturating_add(1) >= tries {
+    if txn.conflicts.saturating_add(1) >= tries {
         return Some(Why::Tries);
     }
     None
 }
 
-// A conflict of a ticket is counted.
-fn counted(txn: &OpenTxn) -> Answer
-    ensures { result ≡ looked.counts txn.now }
+// A conflict of a ticket is counted; the count stands still at its type's end.
+fn counts(txn: &OpenTxn) -> Act
+    ensures { result ≡ act.Conflicted txn.now.ticket (raised (open_of txn.now)) }
 {
-    let ticket = txn.ticket;
-    let count = txn.conflicts.saturating_add(1);
+    Act::Conflicted {
+        ticket: txn.ticket,
+        count: txn.conflicts.saturating_add(1),
+    }
+}
+
+fn counted(txn: &OpenTxn) -> Answer
+    ensures { result ≡ answer_by 0 [] [] (still (act.Conflicted txn.now.ticket (raised (open_of txn.now)))) }
+{
     Answer {
         step: Step {
-            act: Act::Conflicted { ticket, count },
+            act: counts(txn),
             sent: None,
         },
         asked: None,
-        change: Change::Counts(ticket),
+        change: Change::Counts(txn.ticket),
     }
 }
 
 // The ticket of a call is dropped.
-fn dropped(alloc: Global, txn: &OpenTxn, cause: Why) -> Result<Answer, NoMemory>
-    ensures { IfOk result (λ a. a ≡ looked.dropped txn.now cause) }
+fn dropped(alloc: Global, txn: &OpenTxn, xid: Xid, cause: Why) -> Result<Answer, NoMemory>
+    ensures { IfOk result (λ a. a ≡ looked.dropped txn.now xid cause) }
 {
     let Ok(told) = cause.copy(alloc) else {
         drop(cause);
         return Err(NoMemory);
     };
     let act = Act::Dropped {
-        xid: txn.xid,
+        xid,
         call: txn.call,
         ticket: txn.ticket,
         why: cause,
@@ -251,7 +268,7 @@ fn dropped(alloc: Global, txn: &OpenTxn, cause: Why) -> Result<Answer, NoMemory>
     Ok(Answer {
         step: tells(
             txn.manager,
-            txn.xid,
+            xid,
             txn.call,
             act,
             CallAnswer::Failed { why: told },
@@ -262,18 +279,17 @@ fn dropped(alloc: Global, txn: &OpenTxn, cause: Why) -> Result<Answer, NoMemory>
 }
 
 // The work of a call is done as this branch.
-fn done(txn: &OpenTxn, branch: BranchId, asked: Durable, item: ResourceRecord) -> Answer
-    ensures { result ≡ looked.done txn.now branch asked item }
+fn done(txn: &OpenTxn, leg: Leg, asked: Durable, item: ResourceRecord) -> Answer
+    ensures { result ≡ record {
+      step = answers txn.now.manager leg.xid.0 txn.now.call (act.Durable asked) (called.Done leg.branch);
+      asked = Some item;
+      change = change.Closes txn.now.ticket;
+    } }
 {
+    let Leg { xid, branch } = leg;
     let act = Act::Durable(asked);
     Answer {
-        step: tells(
-            txn.manager,
-            txn.xid,
-            txn.call,
-            act,
-            CallAnswer::Done { branch },
-        ),
+        step: tells(txn.manager, xid, txn.call, act, CallAnswer::Done { branch }),
         asked: Some(item),
         change: Change::Closes(txn.ticket),
     }

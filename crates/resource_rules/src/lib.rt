@@ -24,7 +24,7 @@ mod turns;
 pub use answers::{Answer, Change};
 pub use at_ends::{at_commit, at_rollback};
 pub use changes::follow;
-pub use grants::{granted, why_last};
+pub use grants::{conflict_act, granted};
 pub use locals::{local_answered, outside_for};
 pub use lookups::{call_at, local_at};
 pub use ruling::answer;

@@ -1,27 +1,29 @@
 //! Guarded local transactions and outside writes.
-ghost use Rattle.std.specs.Prelude.{◌≡◌, ◌≤◌, ◌<◌, ◌-◌, ◌^◌, length, Some, None, Ok, IfOk};
+ghost use Rattle.std.specs.Prelude.{◌≡◌, ◌≤◌, ◌<◌, ◌-◌, ◌^◌, List as Items, length, Some, None, Ok, Err, IfOk};
 ghost use Rattle.seata_types.specs.declared.limits.TheConstants.{FIELD_ITEMS};
 ghost use Rattle.seata_types.specs.declared.messages.Input.TheVariants as input;
 ghost use Rattle.seata_types.specs.declared.messages.Message.TheVariants as message;
 ghost use Rattle.local_tables.specs.Calls.{effect};
+ghost use Rattle.local_tables.specs.declared.schemas.Effect.{Effect as TheEffect};
+ghost use Rattle.local_txn.specs.OpenTickets.{Open};
 ghost use Rattle.resource_rules.specs.Answers.{Answers, AreCounted, AreOpenOn, Hears};
 ghost use Rattle.resource_rules.specs.Apart.{WritesWith, writes_on};
 ghost use Rattle.resource_rules.specs.Locals as looked;
 ghost use Rattle.resource_rules.specs.declared.setups.Setup.{Setup as TheSetup};
 
 use crate::answers::{Answer, Change};
+use crate::calls::opened;
 use crate::lookups::local_at;
 use crate::meanings::meaning;
-use crate::requests::request;
 use crate::setups::{Setup, local_of};
 use crate::telling::{ignored, in_ticket, rests};
 use durable_records::ResourceRecord;
 use local_tables::{Effect, Tables};
-use local_txn::{LocalTxns, OpenTxn};
+use local_txn::{ExecError, LocalTxns, OpenTxn};
 use resource_memory::Memory;
 use seata_types::{
-    Act, Duplicate, Durable, List, NoMemory, Outgoing, Place, RowKey, Shared, Step, Stmt,
-    StmtError, Ticket, Why, Work, Xid,
+    Act, Duplicate, Durable, List, NoMemory, RowKey, Shared, Step, Stmt, StmtError, Ticket, Why,
+    Xid,
 };
 use std::alloc::Global;
 
@@ -61,63 +63,31 @@ fn new_local(
     requires statements { length stmts.now ≤ FIELD_ITEMS }
     ensures { IfOk result (λ a. a ≡ looked.local_meant resource txns.now number stmts.now (effect tables.now stmts.now)) }
 {
-    match meaning(alloc, tables, stmts.get().as_slice())? {
-        Ok(effect) => free_local(alloc, resource, txns, number, stmts, effect),
-        Err((index, why)) => Ok(refused(number, index, why)),
+    match txns.plan(alloc, Xid(0), number, 0, stmts, tables) {
+        Ok(txn) => opened(alloc, resource, opening(&txn), txn),
+        Err(why) => unopened(alloc, number, why),
     }
 }
 
-fn free_local(
-    alloc: Global,
-    resource: u16,
-    txns: &LocalTxns,
-    number: u16,
-    stmts: &Shared<List<Stmt>>,
-    effect: Effect,
-) -> Result<Answer, NoMemory>
-    requires { txns.now.opened < 2 ^ 32 - 1 }
-    ensures { IfOk result (λ a. a ≡ looked.local_meant resource txns.now number stmts.now (Ok effect)) }
+// The act that opens its ticket.
+fn opening(txn: &OpenTxn) -> Act
+    ensures { result ≡ Act.OpenedLocal txn.now.call txn.now.ticket }
 {
-    if let Some((key, by)) = txns.busy(&effect) {
-        return busy(alloc, number, key, by);
-    }
-    let Effect { images, reads, .. } = effect;
-    let txn = OpenTxn {
-        ticket: txns.next(),
-        xid: Xid(0),
-        call: number,
-        manager: 0,
-        work: Work::At(stmts.copy(alloc)?),
-        images,
-        reads,
-        conflicts: 0,
-    };
-    opened(alloc, resource, txn)
-}
-
-// A ticket is opened, and asks the coordinator for its rows.
-fn opened(alloc: Global, resource: u16, txn: OpenTxn) -> Result<Answer, NoMemory>
-    ensures { IfOk result (λ a. a ≡ looked.opened resource txn) }
-{
-    let Ok(message) = request(alloc, resource, &txn) else {
-        drop(txn);
-        return Err(NoMemory);
-    };
-    let act = Act::OpenedLocal {
+    Act::OpenedLocal {
         number: txn.call,
         ticket: txn.ticket,
-    };
-    Ok(Answer {
-        step: Step {
-            act,
-            sent: Some(Outgoing {
-                to: Place::Tc,
-                message,
-            }),
-        },
-        asked: None,
-        change: Change::Opens(txn),
-    })
+    }
+}
+
+// No ticket is opened, and why.
+fn unopened(alloc: Global, number: u16, why: ExecError) -> Result<Answer, NoMemory>
+    ensures { IfOk result (looked.Unopened number why) }
+{
+    match why {
+        ExecError::Stmt { index, why } => Ok(refused(number, index, why)),
+        ExecError::Busy { key, by } => busy(alloc, number, &key, by),
+        ExecError::NoMemory => Err(NoMemory),
+    }
 }
 
 /// What the coordinator says of the rows of a ticket; ignored unless a guarded local transaction has it open.
@@ -257,7 +227,7 @@ fn outside_free(
 
 // A statement has no meaning.
 fn refused(number: u16, index: u16, why: StmtError) -> Answer
-    ensures { result ≡ looked.refused number index why }
+    ensures { (opens : Items Open) → result ≡ looked.outside_meant opens number (Err (index, why)) }
 {
     let act = Act::RefusedLocal {
         number,
@@ -268,7 +238,7 @@ fn refused(number: u16, index: u16, why: StmtError) -> Answer
 
 // An open ticket has a row.
 fn busy(alloc: Global, number: u16, key: &RowKey, by: Ticket) -> Result<Answer, NoMemory>
-    ensures { IfOk result (λ a. a ≡ looked.busy number key.now by) }
+    ensures { IfOk result (λ a. (e : TheEffect) → a ≡ looked.outside_free number e (Some (key.now, by))) }
 {
     let act = Act::BusyLocal {
         number,

@@ -32,7 +32,7 @@ pub fn answer(
 {
     match given {
         Input::Turn => turns::turn(alloc, setup, txns),
-        Input::Message { from: _, message } => hear(alloc, memory, setup, txns, message),
+        Input::Message { from: _, message } => { hear(alloc, memory, setup, txns, message.get()) }
         Input::Local { number } => locals::local(alloc, memory, setup, txns, *number),
         Input::Outside { number } => locals::outside(alloc, memory, setup, txns, *number),
     }

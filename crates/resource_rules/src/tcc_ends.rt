@@ -1,14 +1,18 @@
 //! The second phase of TCC branches.
-ghost use Rattle.std.specs.Prelude.{◌≡◌, ◌≤◌, length, IfOk};
+ghost use Rattle.std.specs.Prelude.{◌≡◌, ◌≤◌, length, None, IfOk};
+ghost use Rattle.seata_types.specs.declared.acts.Act.TheVariants as act;
 ghost use Rattle.seata_types.specs.declared.limits.TheConstants.{FIELD_ITEMS};
 ghost use Rattle.seata_types.specs.declared.messages.Message.TheVariants as message;
 ghost use Rattle.seata_types.specs.declared.statuses.BranchKind.TheVariants as kind;
+ghost use Rattle.seata_types.specs.declared.statuses.BranchStatus.TheVariants as branch;
 ghost use Rattle.local_tables.specs.Calls.{effect};
 ghost use Rattle.local_txn.specs.Answers.{Tickets};
-ghost use Rattle.resource_rules.specs.Answers.{AreCounted, Hears};
+ghost use Rattle.resource_rules.specs.Answers.{AreCounted, Hears, answer};
 ghost use Rattle.resource_rules.specs.Apart.{CancelsWith, ConfirmsWith, cancels_on, confirms_on};
 ghost use Rattle.tcc_fence.specs.Meanings.{answer_of};
-ghost use Rattle.resource_rules.specs.Ends.{confirming, cancelling, tcc_commit, tcc_rollback, unconfirmed};
+ghost use Rattle.durable_records.specs.Fences.{Runs};
+ghost use Rattle.history_rules.specs.ResourceRules.{tells_committed};
+ghost use Rattle.resource_rules.specs.Ends.{confirming, cancelling};
 
 use crate::answers::Answer;
 use crate::meanings::meaning;
@@ -66,7 +70,7 @@ fn confirm_by(
     stmts: &[Stmt],
 ) -> Result<Answer, NoMemory>
     requires { length stmts.now ≤ FIELD_ITEMS }
-    ensures { IfOk result (λ a. a ≡ tcc_commit leg (effect tables.now stmts.now) (answer_of fence)) }
+    ensures { IfOk result (λ a. a ≡ confirming leg (effect tables.now stmts.now) (answer_of fence)) }
 {
     let Leg { xid, branch } = leg;
     match fence {
@@ -82,7 +86,7 @@ fn confirm_by(
 
 // The fence refuses a Confirm.
 fn unconfirmed(leg: Leg) -> Answer
-    ensures { result ≡ unconfirmed leg }
+    ensures { result ≡ answer None (tells_committed leg.xid.0 leg.branch.0 branch.PhaseTwoCommitFailedRetryable 0 (act.Unfenced leg.xid leg.branch)) }
 {
     let Leg { xid, branch } = leg;
     let status = BranchStatus::PhaseTwoCommitFailedRetryable;
@@ -92,7 +96,7 @@ fn unconfirmed(leg: Leg) -> Answer
 // The Confirm of a branch runs.
 fn run_confirm(alloc: Global, tables: &Tables, leg: Leg, stmts: &[Stmt]) -> Result<Answer, NoMemory>
     requires { length stmts.now ≤ FIELD_ITEMS }
-    ensures { IfOk result (λ a. a ≡ confirming leg (effect tables.now stmts.now)) }
+    ensures { IfOk result (λ a. a ≡ confirming leg (effect tables.now stmts.now) Runs) }
 {
     let Leg { xid, branch } = leg;
     match meaning(alloc, tables, stmts)? {
@@ -165,7 +169,7 @@ fn cancel_by(
     stmts: &[Stmt],
 ) -> Result<Answer, NoMemory>
     requires { length stmts.now ≤ FIELD_ITEMS }
-    ensures { IfOk result (λ a. a ≡ tcc_rollback leg (effect tables.now stmts.now) (answer_of fence)) }
+    ensures { IfOk result (λ a. a ≡ cancelling leg (effect tables.now stmts.now) (answer_of fence)) }
 {
     let Leg { xid, branch } = leg;
     match fence {
@@ -192,7 +196,7 @@ fn cancel_by(
 // The Cancel of a branch runs.
 fn run_cancel(alloc: Global, tables: &Tables, leg: Leg, stmts: &[Stmt]) -> Result<Answer, NoMemory>
     requires { length stmts.now ≤ FIELD_ITEMS }
-    ensures { IfOk result (λ a. a ≡ cancelling leg (effect tables.now stmts.now)) }
+    ensures { IfOk result (λ a. a ≡ cancelling leg (effect tables.now stmts.now) Runs) }
 {
     let Leg { xid, branch } = leg;
     match meaning(alloc, tables, stmts)? {

@@ -1,7 +1,8 @@
 //! The answers that a resource gives, by their acts and what they send.
 ghost use Rattle.std.specs.Prelude.{◌≡◌, ◌<◌, ◌^◌, ◌==◌};
 ghost use Rattle.history_rules.specs.Own.{asked_act, sends, still};
-ghost use Rattle.resource_rules.specs.Answers.{answer, ignored, tells_committed, tells_rollbacked};
+ghost use Rattle.history_rules.specs.ResourceRules.{tells_committed, tells_rollbacked};
+ghost use Rattle.resource_rules.specs.Answers.{answer, ignored};
 
 use crate::answers::{Answer, Change};
 use durable_records::ResourceRecord;
@@ -63,7 +64,7 @@ pub(crate) fn committed(
     act: Act,
     asked: Option<ResourceRecord>,
 ) -> Answer
-    ensures { result ≡ answer asked (tells_committed leg status stmt act) }
+    ensures { result ≡ answer asked (tells_committed leg.xid.0 leg.branch.0 status stmt act) }
 {
     let message = Message::BranchCommitted {
         xid: leg.xid,
@@ -82,7 +83,7 @@ pub(crate) fn rollbacked(
     act: Act,
     asked: Option<ResourceRecord>,
 ) -> Answer
-    ensures { result ≡ answer asked (tells_rollbacked leg status stmt act) }
+    ensures { result ≡ answer asked (tells_rollbacked leg.xid.0 leg.branch.0 status stmt act) }
 {
     let message = Message::BranchRollbacked {
         xid: leg.xid,

@@ -1,12 +1,13 @@
 //! Turns.
-ghost use Rattle.std.specs.Prelude.{◌≡◌, IfOk, option_map};
+ghost use Rattle.std.specs.Prelude.{◌≡◌, [], IfOk, option_map};
 ghost use Rattle.std.specs.Option.{option_copied};
+ghost use Rattle.seata_types.specs.declared.acts.Act.TheVariants as act;
 ghost use Rattle.seata_types.specs.declared.messages.Input.TheVariants as input;
 ghost use Rattle.local_txn.specs.OpenTickets.{last_of};
 ghost use Rattle.local_txn.specs.Answers.{open_of};
 ghost use Rattle.resource_memory.specs.Known.{Known};
-ghost use Rattle.resource_rules.specs.Answers.{Answers};
-ghost use Rattle.resource_rules.specs.Openings.{resent};
+ghost use Rattle.history_rules.specs.ResourceRules.{requests};
+ghost use Rattle.resource_rules.specs.Answers.{Answers, answer_by};
 
 use crate::answers::{Answer, Change};
 use crate::requests::request;
@@ -37,7 +38,7 @@ fn oldest(txns: &LocalTxns) -> Option<&OpenTxn>
 }
 
 fn resent(alloc: Global, number: u16, txn: &OpenTxn) -> Result<Answer, NoMemory>
-    ensures { IfOk result (λ a. a ≡ resent number txn.now) }
+    ensures { IfOk result (λ a. a ≡ answer_by 0 [] [] (requests number (act.Resent txn.now.ticket) (open_of txn.now))) }
 {
     let message = request(alloc, number, txn)?;
     let ticket = txn.ticket;

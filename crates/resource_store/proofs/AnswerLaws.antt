@@ -1,60 +1,29 @@
 -- What calls on a resource answer, over the laws of its store: which records are taken, what is known at a branch by the
 -- records, and each way to answer.
-use Rattle.std.proofs.Common.{◌≡◌, ◌<◌, ◌^◌, ℕ, true, false, List, [], length, Option, Some, None, Ok, Err, refl, sym, ap, subst, ◌∙◌, arith}
+use Rattle.std.proofs.Common.{◌≡◌, ℕ, true, false, List, [], Option, Some, None, Ok, Err, refl, ap, ◌∙◌}
 use Rattle.std.proofs.lemmas.Bool.{and_from}
 use Rattle.disk_model.specs.Disk.{DiskState}
-use Rattle.seata_types.specs.declared.errors.StoreError.{StoreError}
 use Rattle.seata_types.specs.declared.errors.StoreError.TheVariants as store_error
 use Rattle.seata_types.specs.declared.ids.Leg.{Leg}
 use Rattle.seata_types.specs.declared.rows.Image.{Image}
 use Rattle.seata_types.specs.declared.rows.ReadRow.{ReadRow}
 use Rattle.durable_records.specs.declared.resources.ResourceRecord.{ResourceRecord}
 use Rattle.durable_records.specs.declared.resources.ResourceRecord.TheVariants as log
-use Rattle.durable_records.specs.Fences.{Runs, Suspends, fence, on_try, on_confirm, on_cancel}
+use Rattle.durable_records.specs.Fences.{Runs, fence, on_try}
 use Rattle.undo_log.specs.Entries.{entry_at}
 use Rattle.tcc_fence.specs.Meanings.{fence_at}
 use Rattle.tcc_fence.proofs.RecordLaws.{fences_stand}
-use Rattle.resource_log.specs.Records.{fields_bytes, record_bytes}
-use Rattle.resource_memory.specs.Changes.{has_no_entry, has_undo_record, runs, suspends}
-use Rattle.resource_memory.specs.Keeping.{AreRows}
+use Rattle.resource_memory.specs.Changes.{has_no_entry, runs}
 use Rattle.resource_memory.specs.Known.{Known}
 use Rattle.resource_memory.specs.Lookups.{entry_now}
 use Rattle.resource_memory.proofs.RecordLaws.{undo_now}
 use Rattle.resource_store.specs.declared.store.Store.{Store}
 use Rattle.resource_store.specs.Meaning.{Setting, opening_of}
-use Rattle.resource_store.specs.Keeping.{known, is_down, KeepsRecords, Changes, IsTaken}
-use Rattle.resource_store.specs.Answers.{Answer, only, making, Does, Gives, tables_now, TakesRows}
-use Rattle.resource_store.proofs.ListLaws.{kept_of}
+use Rattle.resource_store.specs.Keeping.{known, is_down, KeepsRecords, IsTaken}
+use Rattle.resource_store.specs.Answers.{Answer, only, Does, Gives, tables_now, TakesRows}
 use Rattle.resource_store.proofs.StoreLaws.{changes_nothing}
 
--- ---- records that are taken: of a branch alone
-
-module _ {D : Type 0} (s : Store D) (leg : Leg) (x : leg.xid.0 < 2 ^ 64) (b : leg.branch.0 < 2 ^ 64) where
-  pub undone_taken : has_undo_record (known s) leg ≡ true → IsTaken (log.Undone leg.xid leg.branch) s
-  unfolding fields_bytes
-  undone_taken has =
-      let n : length (record_bytes (log.Undone leg.xid leg.branch)) ≡ 17 = refl in
-      record { allowed = has; fits = (x, b); small = omega (arith, n) }
-
-  pub cleared_taken : has_undo_record (known s) leg ≡ true → IsTaken (log.Cleared leg.xid leg.branch) s
-  unfolding fields_bytes
-  cleared_taken has =
-      let n : length (record_bytes (log.Cleared leg.xid leg.branch)) ≡ 17 = refl in
-      record { allowed = has; fits = (x, b); small = omega (arith, n) }
-
-  pub marked_taken : has_no_entry (known s) leg ≡ true → IsTaken (log.Marked leg.xid leg.branch) s
-  unfolding fields_bytes
-  marked_taken none =
-      let n : length (record_bytes (log.Marked leg.xid leg.branch)) ≡ 17 = refl in
-      record { allowed = none; fits = (x, b); small = omega (arith, n) }
-
-  pub suspended_taken : on_cancel (fence_at (known s).fences leg) ≡ Suspends → IsTaken (log.Suspended leg.xid leg.branch) s
-  unfolding fields_bytes
-  suspended_taken answer =
-      let n : length (record_bytes (log.Suspended leg.xid leg.branch)) ≡ 17 = refl in
-      record { allowed = ap suspends answer; fits = (x, b); small = omega (arith, n) }
-
--- ---- and with images
+-- ---- records that are taken, with images
 
 module _ {D : Type 0} (s : Store D) (leg : Leg) (images : List Image) where
   pub committed_taken : (call : ℕ) (reads : List ReadRow) → has_no_entry (known s) leg ≡ true →
@@ -64,14 +33,6 @@ module _ {D : Type 0} (s : Store D) (leg : Leg) (images : List Image) where
   pub tried_taken : (call : ℕ) → on_try (fence_at (known s).fences leg) ≡ Runs →
       TakesRows (known s).tables images [] (log.Tried leg.xid leg.branch call images) → IsTaken (log.Tried leg.xid leg.branch call images) s
   tried_taken call answer t = record { allowed = and_from _ _ (ap runs answer) t.fit; fits = t.fits; small = t.small }
-
-  pub confirmed_taken : on_confirm (fence_at (known s).fences leg) ≡ Runs →
-      TakesRows (known s).tables images [] (log.Confirmed leg.xid leg.branch images) → IsTaken (log.Confirmed leg.xid leg.branch images) s
-  confirmed_taken answer t = record { allowed = and_from _ _ (ap runs answer) t.fit; fits = t.fits; small = t.small }
-
-  pub cancelled_taken : on_cancel (fence_at (known s).fences leg) ≡ Runs →
-      TakesRows (known s).tables images [] (log.Cancelled leg.xid leg.branch images) → IsTaken (log.Cancelled leg.xid leg.branch images) s
-  cancelled_taken answer t = record { allowed = and_from _ _ (ap runs answer) t.fit; fits = t.fits; small = t.small }
 
 module _ {D : Type 0} (s : Store D) (number : ℕ) (images : List Image) where
   pub local_taken : TakesRows (known s).tables images [] (log.LocalCommitted number images) → IsTaken (log.LocalCommitted number images) s
@@ -88,10 +49,6 @@ module _ {D : Type 0} (state : D → DiskState) (t : Setting) (rs : List Resourc
 
   pub fence_of : (leg : Leg) → fence_at (known s).fences leg ≡ fence rs leg.xid.0 leg.branch.0
   fence_of leg = ap (λ (x : Known). fence_at x.fences leg) k.knows ∙ fences_stand rs leg
-
-  -- each row has its key
-  pub rows_of : AreRows (known s).tables
-  rows_of = subst (λ (x : Known). AreRows x.tables) (sym k.knows) (kept_of t rs k.list.made).rows
 
   pub tables_of : (known s).tables ≡ tables_now t rs
   tables_of = ap (λ (x : Known). x.tables) k.knows
@@ -111,11 +68,3 @@ module _ {A D : Type 0} (state : D → DiskState) where
   -- no record is made
   pub gives_only : (s : Store D) (a : A) → Gives state (only a) (Ok a) s s
   gives_only s a = record { told = refl; does = refl }
-
-  -- a record is made
-  pub gives_made : (r : ResourceRecord) (a : A) (old new : Store D) → Changes state r (Ok tt) old new → Gives state (making r a) (Ok a) old new
-  gives_made r a old new made = record { told = refl; does = made }
-
-  -- a record isn't made
-  pub gives_failed : (r : ResourceRecord) (a : A) (e : StoreError) (old new : Store D) → Changes state r (Err e) old new → Gives state (making r a) (Err e) old new
-  gives_failed r a e old new failed = record { told = tt; does = failed }

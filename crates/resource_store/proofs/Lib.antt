@@ -1,8 +1,6 @@
 pub mod ListLaws
 pub mod StoreLaws
 pub mod OpeningLaws
-pub mod DamageLaws
-pub mod DoneCalls
 pub mod AnswerLaws
 pub mod CountedEffects
 pub mod LeftLaws

@@ -1,6 +1,6 @@
 -- What an opening that adds a boot leaves of two disks, and what a restart brings back.
-use Rattle.std.proofs.Common.{◌≡◌, ◌⊎◌, inl, inr, ⊎_elim, ℕ, ◌+◌, ◌^◌, ◌<◌, Bool, true, false, eq-eqb, List, ◌∷◌, length, Option, Some, None, Result, Ok, Err, refl, sym, ap, subst, arith}
-use Rattle.std.specs.Prelude.{OnOk, IfErr}
+use Rattle.std.proofs.Common.{◌≡◌, ◌⊎◌, inl, inr, ℕ, ◌+◌, ◌^◌, ◌<◌, Bool, true, false, eq-eqb, List, ◌∷◌, length, Option, Some, None, Result, Ok, Err, refl, sym, ap, subst, arith}
+use Rattle.std.specs.Prelude.{IfErr}
 use Rattle.disk_model.specs.Disk.{DiskState, IsLawful, SameKind, Passed, PassedAtMost, HasCause, present}
 use Rattle.seata_types.specs.declared.errors.Full.{Full}
 use Rattle.seata_types.specs.declared.errors.OpenError.{OpenError}
@@ -14,13 +14,14 @@ use Rattle.journal_checkpoint.specs.Ends.{HasNoPlace}
 use Rattle.journal_checkpoint.specs.Pairs.{chosen}
 use Rattle.journal_checkpoint.specs.Keeping.{active_disk, other_disk, first_disk, second_disk, is_second, disks, needed_for, twin_extent}
 use Rattle.journal_checkpoint.proofs.Ends.{no_place}
-use Rattle.journal_checkpoint.proofs.Kept.{kept_pairs}
 use Rattle.memory_store.specs.Meanings.{Meaning}
 use Rattle.memory_store.specs.declared.store.Store.{Store as Below}
 use Rattle.memory_store.specs.Openings.{OpensDisks, ReadsDisks}
 use Rattle.memory_store.specs.Settling.{RunsOn, GoesOn}
-use Rattle.memory_store.specs.Keeping.{Takes, Falls, IsFullFor, IsDamage, IsBack, IsTold}
+use Rattle.memory_store.specs.Keeping.{Takes, Falls, IsFullFor, IsDamage, IsTold}
 use Rattle.memory_store.proofs.DiskFacts.{runs_same, told_bytes, told_after}
+use Rattle.memory_store.proofs.ListKeeping as lists
+use Rattle.memory_store.proofs.Lists.{goes_on, not_damaged}
 use Rattle.memory_store.proofs.TwinFacts.{pairs_now}
 use Rattle.durable_records.specs.declared.resources.ResourceRecord.{ResourceRecord}
 use Rattle.durable_records.specs.declared.resources.ResourceRecord.TheVariants as log
@@ -30,10 +31,11 @@ use Rattle.resource_memory.specs.Changes.{after}
 use Rattle.resource_memory.specs.Known.{Known}
 use Rattle.resource_store.specs.declared.store.Store.{Store}
 use Rattle.resource_store.specs.Meaning.{Setting, meaning_of}
-use Rattle.resource_store.specs.Standing.{StandsForRecords}
+use Rattle.resource_store.specs.Standing.{StandsForRecords, lists_of}
 use Rattle.resource_store.specs.Keeping.{setting_of, known, twin, is_down, IsTaken, KeepsRecords, WithOrWithout, AtOrBehind, LeavesEither, Makes, Moves, Changes, boot_record, BootsAs, IsNoDamage, GoesOnAs, GoesOnWithBoot, BringsBack, StandsAlways}
 use Rattle.resource_store.specs.Openings.{opening_error, boot_length, IsBootFull, IsUndamaged, IsBootDamage}
-use Rattle.resource_store.proofs.StoreLaws.{open_keeps, not_damaged, goes_on, counts_boots}
+use Rattle.resource_store.proofs.ListLaws.{lists_lawful}
+use Rattle.resource_store.proofs.StoreLaws.{counts_boots}
 
 -- ---- what the store below it says, of this resource
 
@@ -256,41 +258,16 @@ module _ {D : Type 0} (state : D → DiskState) (law : (d : D) → IsLawful (sta
   -- each pair of images stands for the records that are kept
   pub stands_now : (t : Setting) (rs : List ResourceRecord) (s : Store D) → KeepsRecords state t rs s
       → (a b : List ℕ) → (state (first_disk (twin s))).may_leave a → (state (second_disk (twin s))).may_leave b → StandsForRecords t rs a b
-  stands_now t rs s k a b one two = record {
-    found = k.found;
-    pair = pairs_now state (disks state (twin s)) (twin s) (kept_pairs state law k.found (twin s) k.kept.pair) a b one two;
-    list = k.list;
-  }
-
-  pub brings_back : (pick : ℕ) (old new : Store D) → IsBack state (meaning_of (setting_of old)) pick old.kept new.kept → BringsBack state pick old new
-  brings_back pick old new is = record {
-    a = is.a;
-    b = is.b;
-    first = is.first;
-    second = is.second;
-    is = is.is;
-    keeps = open_keeps (setting_of old) state is.a is.b new is.is;
-  }
+  stands_now t rs s k = lists.stands_now (lists_of t) (lists_lawful t) state law rs s.kept k
 
   abbrev LeavesAs : (old new : Store D) → (List ℕ → List ℕ → List ℕ → List ℕ → Type 0) → Type 0
   LeavesAs old new P =
       (c d : List ℕ) → (state (first_disk (twin new))).may_leave c → (state (second_disk (twin new))).may_leave d
       → (a : List ℕ) × (b : List ℕ) × (state (first_disk (twin old))).may_leave a × (state (second_disk (twin old))).may_leave b × P a b c d
 
-  module _ (pick : ℕ) (old new : Store D) where
+  module _ (old new : Store D) where
     abbrev t : Setting
     t = setting_of old
-
-    pub restarted_back : (r : Result (Unit {0}) OpenError)
-        → OnOk r (IsTold (state (first_disk (twin old))) → IsTold (state (second_disk (twin old))) → IsBack state (meaning_of t) pick old.kept new.kept)
-        → OnOk r (IsTold (state (first_disk (twin old))) → IsTold (state (second_disk (twin old))) → BringsBack state pick old new)
-    restarted_back (Ok done) back = λ one two. brings_back pick old new (back one two)
-    restarted_back (Err e) back = tt
-
-    pub restarted_images : LeavesAs old new (GoesOn (meaning_of t)) → LeavesAs old new (GoesOnAs t)
-    restarted_images images c d one two =
-        let i = images c d one two in
-        (i.0, i.1, i.2, i.3, goes_on t i.0 i.1 c d i.4)
 
     pub restart_recovers : (r : Result (Unit {0}) OpenError)
         → IfErr r (λ e. (a b : List ℕ) → present (state (first_disk (twin new))) ≡ Some a → present (state (second_disk (twin new))) ≡ Some b → IsDamage (meaning_of t) a b e)
@@ -301,9 +278,9 @@ module _ {D : Type 0} (state : D → DiskState) (law : (d : D) → IsLawful (sta
     restart_recovers (Err e) damaged images one two = λ told told_too always.
         let x = told_bytes (state (first_disk (twin new))) (told_after one told) in
         let y = told_bytes (state (second_disk (twin new))) (told_after two told_too) in
-        let i = restarted_images images x.0 y.0 ((law (first_disk (twin new))).present_may_stay x.0 x.1) ((law (second_disk (twin new))).present_may_stay y.0 y.1) in
+        let i = images x.0 y.0 ((law (first_disk (twin new))).present_may_stay x.0 x.1) ((law (second_disk (twin new))).present_may_stay y.0 y.1) in
         let stands = always i.0 i.1 i.2 i.3 in
-        not_damaged t x.0 y.0 e (damaged x.0 y.0 x.1 y.1) stands.0 (i.4 stands.0 stands.1)
+        not_damaged (lists_of t) (lists_lawful t) x.0 y.0 e (damaged x.0 y.0 x.1 y.1) stands.0 (goes_on (lists_of t) (lists_lawful t) i.0 i.1 x.0 y.0 i.4 stands.0 stands.1)
 
   -- which records a restart brought back: where each pair of images from before stands for the records, or for these and the one
   -- that may be kept
@@ -311,7 +288,4 @@ module _ {D : Type 0} (state : D → DiskState) (law : (d : D) → IsLawful (sta
       → ((a b : List ℕ) → (state (first_disk (twin old))).may_leave a → (state (second_disk (twin old))).may_leave b
       → StandsForRecords (setting_of old) rs a b ⊎ ((r : ResourceRecord) × (kept ≡ Some r) × StandsForRecords (setting_of old) (r ∷ rs) a b))
       → KeepsRecords state (setting_of old) rs new ⊎ ((r : ResourceRecord) × (kept ≡ Some r) × KeepsRecords state (setting_of old) (r ∷ rs) new)
-  came_back pick old new rs kept back stands = ⊎_elim
-      (λ one. inl (back.keeps rs one))
-      (λ more. inr (more.0, more.1, back.keeps (more.0 ∷ rs) more.2))
-      (stands back.a back.b back.first.0 back.second.0)
+  came_back pick old new = lists.came_back state (lists_of (setting_of old)) pick old.kept new.kept

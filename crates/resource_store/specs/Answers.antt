@@ -16,7 +16,7 @@ use Rattle.resource_log.specs.Records.{FitsRecord, record_bytes}
 use Rattle.resource_memory.specs.Changes.{fit}
 use Rattle.resource_store.specs.declared.store.Store.{Store}
 use Rattle.resource_store.specs.Meaning.{Setting, opening_of}
-use Rattle.resource_store.specs.Keeping.{setting_of, KeepsRecords, Changes, IsTaken, is_down, has_failed}
+use Rattle.resource_store.specs.Keeping.{setting_of, Changes, IsTaken, is_down, has_failed}
 
 -- an answer, and the record that is made for it
 pub record Answer (A : Type 0) : Type 0 where
@@ -50,11 +50,6 @@ pub record Gives {A D : Type 0} (state : D → DiskState) (answer : Answer A) (r
 -- the tables as these records leave them
 abbrev pub tables_now : Setting → List ResourceRecord → Database
 tables_now t rs = tables (opening_of t) rs
-
--- a call gives the answer that the records have which are kept, with the tables as they leave them
-abbrev pub GivesBy : {A D : Type 0} → (D → DiskState) → (Database → List ResourceRecord → Answer A) → Result A StoreError → Store D → Store D → Type 0
-GivesBy {D = D} state answer result old new =
-    (rs : List ResourceRecord) → KeepsRecords state (setting_of old) rs old → Gives state (answer (tables_now (setting_of old) rs) rs) result old new
 
 -- ---- what a store takes
 

@@ -1,26 +1,15 @@
 -- Which records two disks stand for. Lists of records stand newest first.
-use Rattle.std.specs.Prelude.{◌≡◌, ℕ, ◌<◌, ◌^◌, All, Option, Some, None, List, [], length}
-use Rattle.journal_checkpoint.specs.declared.types.Found.{Found}
-use Rattle.journal_checkpoint.specs.Images.{PairStandsFor}
+use Rattle.std.specs.Prelude.{ℕ, ◌<◌, ◌^◌, All, List, length}
 use Rattle.durable_records.specs.declared.resources.ResourceRecord.{ResourceRecord}
-use Rattle.durable_records.specs.ResourceOrder.{Allowed}
-use Rattle.memory_store.specs.Readings as readings
-use Rattle.seata_types.specs.declared.limits.TheConstants.{ACTS}
-use Rattle.resource_log.specs.Records.{FitsRecord, record_of}
+use Rattle.durable_records.specs.ResourceOrder.{Allowed, May}
+use Rattle.memory_store.specs.Lists.{Lists, StandsForList}
+use Rattle.memory_store.specs.Readings.{Reading}
+use Rattle.resource_log.specs.declared.states.ResourceSnapshot.{ResourceSnapshot}
+use Rattle.resource_log.specs.Records.{FitsRecord, record_of, record_bytes}
 use Rattle.resource_log.specs.Snapshots.{snapshot_in_bytes}
 use Rattle.resource_log.specs.SnapshotOf.{snapshot_of}
-use Rattle.resource_store.specs.Meaning.{Setting, Opens, opening_of}
-
--- the records that these bodies are, on top of others
-abbrev pub records_on : List ResourceRecord → List (List ℕ) → Option (List ResourceRecord)
-records_on before bodies = readings.records_on record_of before bodies
-
--- the bodies are these records, over none; or behind a snapshot, over those that have it, which are fewer than a snapshot may
--- stand for
-abbrev pub AreRecords : Setting → Option (List ℕ) → List (List ℕ) → List ResourceRecord → Type 0
-AreRecords t None bodies rs = records_on [] bodies ≡ Some rs
-AreRecords t (Some bytes) bodies rs =
-    (first : List ResourceRecord) × (snapshot_in_bytes bytes ≡ Some (snapshot_of (opening_of t) first)) × (length first < ACTS) × (records_on first bodies ≡ Some rs)
+use Rattle.resource_memory.specs.Known.{Known, known_of}
+use Rattle.resource_store.specs.Meaning.{Setting, Opens, opening_of, meaning_of}
 
 -- records that such a resource can have made
 pub record AreMade (t : Setting) (rs : List ResourceRecord) : Type 0 where
@@ -29,13 +18,21 @@ pub record AreMade (t : Setting) (rs : List ResourceRecord) : Type 0 where
   pub writable : All FitsRecord rs
   pub few : length rs < 2 ^ 32
 
--- what two disks hold is these records
-pub record IsListOf (t : Setting) (rs : List ResourceRecord) (found : Found) : Type 0 where
-  pub records : AreRecords t found.snapshot found.records rs
-  pub made : AreMade t rs
+-- the records and snapshots that its bytes are
+abbrev pub reading_of : Setting → Reading ResourceRecord ResourceSnapshot
+reading_of t = record { record_of = record_of; snapshot_in = snapshot_in_bytes; snapshot_of = snapshot_of (opening_of t) }
+
+-- what lists of its records say
+abbrev pub lists_of : Setting → Lists Known ResourceRecord ResourceSnapshot
+lists_of t = record {
+  meaning = meaning_of t;
+  reading = reading_of t;
+  bytes_of = record_bytes;
+  says = known_of (opening_of t);
+  AreMade = AreMade t;
+  MayNotCome = λ rs r. May (opening_of t) rs r → ⊥;
+}
 
 -- the bytes of two disks stand for these records of such a resource
-pub record StandsForRecords (t : Setting) (rs : List ResourceRecord) (a b : List ℕ) : Type 0 where
-  pub found : Found
-  pub pair : PairStandsFor found a b
-  pub list : IsListOf t rs found
+abbrev pub StandsForRecords : Setting → List ResourceRecord → List ℕ → List ℕ → Type 0
+StandsForRecords t rs a b = StandsForList (lists_of t) rs a b

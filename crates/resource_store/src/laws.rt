@@ -1,5 +1,6 @@
 //! What records and effects of statements owe to a resource that asks its store.
-ghost use Rattle.resource_store.specs.Laws.{DisksHoldRecords, EffectsFit, FindsUndosOfCalls};
+ghost use Rattle.resource_memory.specs.Laws.{FindsUndosOfCalls};
+ghost use Rattle.resource_store.specs.Laws.{DisksHoldRecords, EffectsFit};
 
 /// An effect of statements, on tables whose rows fit, is of rows that fit these tables, in rising order of keys, and of no
 /// more rows than a call may have.

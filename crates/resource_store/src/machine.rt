@@ -69,7 +69,8 @@ fn read_snapshot(
     schema: &Schema,
     bytes: &[u8],
 ) -> Result<Memory, ReadError>
-    ensures { Reads (option_map (known_in resource schema.now) (if_sound resource schema.now (snapshot_in_bytes bytes.now))) result }
+    ensures { Reads (option_map (known_in resource schema.now)
+        (if_sound resource schema.now (snapshot_in_bytes bytes.now))) result }
 {
     match resource_log::read_snapshot(alloc, bytes, resource, schema) {
         Ok(snapshot) => {

@@ -64,7 +64,8 @@ impl<D: Disk> Store<D> {
         // It keeps each list of records that the bytes stand for, and bytes that stand for records are never damaged.
         ensures stands { KeepsEach D.state (setting resource schema opening) first second result }
         // The damage is where the bytes, a record or the order of records has it.
-        ensures reads { ReadsDisks D.state (meaning_of (setting resource schema opening)) store_of first second result }
+        ensures reads { ReadsDisks D.state (meaning_of (setting resource schema opening)) store_of
+            first second result }
     {
         let machine = ResourceMachine::new(resource, schema, opening);
         match memory_store::Store::read(alloc, machine, first, second) {
@@ -90,8 +91,10 @@ impl<D: Disk> Store<D> {
 
         ensures stands { KeepsEach D.state (setting resource schema opening) first second result }
         // A crash after it, however it ended, leaves what stands for the same records.
-        ensures opens { OpensDisks D.state (meaning_of (setting resource schema opening)) store_of (GoesOnAs (setting resource schema opening)) first second result }
-        ensures sound { IfOk result (λ s. (meaning_of (setting resource schema opening)).IsSound (known s)) }
+        ensures opens { OpensDisks D.state (meaning_of (setting resource schema opening)) store_of
+            (GoesOnAs (setting resource schema opening)) first second result }
+        ensures sound { IfOk result
+            (λ s. (meaning_of (setting resource schema opening)).IsSound (known s)) }
     {
         let machine = ResourceMachine::new(resource, schema, opening);
         match memory_store::Store::open(alloc, machine, first, second) {
@@ -114,25 +117,36 @@ impl<D: Disk> Store<D> {
         requires opens { IsOpening resource schema opening }
         requires fits { All FitsNamedRow opening }
 
-        ensures keeps { IfOk result (λ s. (rs : Items Record) (a b : Items ℕ) → present (D.state first) ≡ Some a → present (D.state second) ≡ Some b →
-            StandsForRecords (setting resource schema opening) rs a b → BootsAs D.state (setting resource schema opening) rs s) }
+        ensures keeps { IfOk result (λ s. (rs : Items Record) (a b : Items ℕ) →
+            present (D.state first) ≡ Some a → present (D.state second) ≡ Some b →
+            StandsForRecords (setting resource schema opening) rs a b →
+            BootsAs D.state (setting resource schema opening) rs s) }
         // Before the boot the records past the snapshot take at most half of the disk, unless no snapshot can be put in their place.
-        ensures opened { IfOk result (λ s. (a b : Items ℕ) → present (D.state first) ≡ Some a → present (D.state second) ≡ Some b →
+        ensures opened { IfOk result (λ s. (a b : Items ℕ) → present (D.state first) ≡ Some a →
+            present (D.state second) ≡ Some b →
             BootsFrom D.state (setting resource schema opening) a b s) }
-        ensures place { IfOk result (λ s. (a b : Items ℕ) → present (D.state first) ≡ Some a → present (D.state second) ≡ Some b → FindsFirst a b s.kept) }
-        ensures recovers { IfErr result (λ failed. (rs : Items Record) (a b : Items ℕ) → present (D.state first) ≡ Some a → present (D.state second) ≡ Some b →
-            StandsForRecords (setting resource schema opening) rs a b → IsUndamaged (D.state failed.1) (D.state failed.2) failed.0) }
-        ensures damaged { IfErr result (λ failed. (a b : Items ℕ) → present (D.state first) ≡ Some a → present (D.state second) ≡ Some b →
+        ensures place { IfOk result (λ s. (a b : Items ℕ) → present (D.state first) ≡ Some a →
+            present (D.state second) ≡ Some b → FindsFirst a b s.kept) }
+        ensures recovers { IfErr result (λ failed. (rs : Items Record) (a b : Items ℕ) →
+            present (D.state first) ≡ Some a → present (D.state second) ≡ Some b →
+            StandsForRecords (setting resource schema opening) rs a b →
+            IsUndamaged (D.state failed.1) (D.state failed.2) failed.0) }
+        ensures damaged { IfErr result (λ failed. (a b : Items ℕ) →
+            present (D.state first) ≡ Some a → present (D.state second) ≡ Some b →
             IsBootDamage (meaning_of (setting resource schema opening)) a b failed.0) }
         // A crash after it, however it ended, leaves what stands for the same records, with the boot or without.
-        ensures images { (a b c d : Items ℕ) → present (D.state first) ≡ Some a → present (D.state second) ≡ Some b →
-            (D.state (first_after result)).may_leave c → (D.state (second_after result)).may_leave d → GoesOnWithBoot (setting resource schema opening) a b c d }
+        ensures images { (a b c d : Items ℕ) → present (D.state first) ≡ Some a →
+            present (D.state second) ≡ Some b → (D.state (first_after result)).may_leave c →
+            (D.state (second_after result)).may_leave d →
+            GoesOnWithBoot (setting resource schema opening) a b c d }
         ensures failed { IfErr result (λ failed. failed.0 ≡ OpenError.Failed →
-            HasCause (D.state first).counts (D.state failed.1).counts ⊎ HasCause (D.state second).counts (D.state failed.2).counts) }
+            HasCause (D.state first).counts (D.state failed.1).counts ⊎
+            HasCause (D.state second).counts (D.state failed.2).counts) }
         ensures first_disk { RunsOn (D.state first) (D.state (first_after result)) }
         ensures second_disk { RunsOn (D.state second) (D.state (second_after result)) }
 
-        ensures sound { IfOk result (λ s. (meaning_of (setting resource schema opening)).IsSound (known s)) }
+        ensures sound { IfOk result
+            (λ s. (meaning_of (setting resource schema opening)).IsSound (known s)) }
         ensures setting { IfOk result (λ s. setting_of s ≡ setting resource schema opening) }
         ensures up { IfOk result (λ s. is_down s ≡ false) }
     {
@@ -197,8 +211,11 @@ impl<D: Disk> Store<D> {
     /// A branch without an undo record or a marker commits what its open local transaction did.
     pub fn commit_at(&mut self, alloc: Global, leg: Leg, txn: &OpenTxn) -> Result<(), StoreError>
         requires up { is_down self.old ≡ false }
-        requires taken { IsTaken (log.Committed leg.xid leg.branch txn.now.call txn.now.images txn.now.reads) self.old }
-        ensures { Changes D.state (log.Committed leg.xid leg.branch txn.now.call txn.now.images txn.now.reads) result self.old self.new }
+        requires taken { IsTaken
+            (log.Committed leg.xid leg.branch txn.now.call txn.now.images txn.now.reads) self.old }
+        ensures { Changes D.state
+            (log.Committed leg.xid leg.branch txn.now.call txn.now.images txn.now.reads) result
+            self.old self.new }
     {
         let Ok(images) = txn.images.copy(alloc) else {
             return Err(StoreError::NoMemory);
@@ -265,7 +282,8 @@ impl<D: Disk> Store<D> {
     ) -> Result<(), StoreError>
         requires up { is_down self.old ≡ false }
         requires taken { IsTaken (log.Tried leg.xid leg.branch call images) self.old }
-        ensures { Changes D.state (log.Tried leg.xid leg.branch call images) result self.old self.new }
+        ensures { Changes D.state (log.Tried leg.xid leg.branch call images) result self.old
+            self.new }
     {
         let item = ResourceRecord::Tried {
             xid: leg.xid,
@@ -285,7 +303,8 @@ impl<D: Disk> Store<D> {
     ) -> Result<(), StoreError>
         requires up { is_down self.old ≡ false }
         requires taken { IsTaken (log.Confirmed leg.xid leg.branch images) self.old }
-        ensures { Changes D.state (log.Confirmed leg.xid leg.branch images) result self.old self.new }
+        ensures { Changes D.state (log.Confirmed leg.xid leg.branch images) result self.old
+            self.new }
     {
         let item = ResourceRecord::Confirmed {
             xid: leg.xid,
@@ -304,7 +323,8 @@ impl<D: Disk> Store<D> {
     ) -> Result<(), StoreError>
         requires up { is_down self.old ≡ false }
         requires taken { IsTaken (log.Cancelled leg.xid leg.branch images) self.old }
-        ensures { Changes D.state (log.Cancelled leg.xid leg.branch images) result self.old self.new }
+        ensures { Changes D.state (log.Cancelled leg.xid leg.branch images) result self.old
+            self.new }
     {
         let item = ResourceRecord::Cancelled {
             xid: leg.xid,
@@ -429,13 +449,16 @@ impl<D: Disk> Store<D> {
         requires { pick ≤ LAST_PICK }
 
         // It keeps each list of records that the pair of images that came back stands for.
-        ensures back { OnOk result (IsTold (D.state (first_disk (twin self.old))) → IsTold (D.state (second_disk (twin self.old))) →
+        ensures back { OnOk result (IsTold (D.state (first_disk (twin self.old))) →
+            IsTold (D.state (second_disk (twin self.old))) →
             BringsBack D.state pick self.old self.new) }
         // It is never damaged where each pair of images from before stands for records.
-        ensures recovers { IfErr result (λ error. IsTold (D.state (first_disk (twin self.old))) → IsTold (D.state (second_disk (twin self.old))) →
+        ensures recovers { IfErr result (λ error. IsTold (D.state (first_disk (twin self.old))) →
+            IsTold (D.state (second_disk (twin self.old))) →
             StandsAlways D.state (setting_of self.old) (twin self.old) → IsNoDamage error) }
         // A crash after it, however it ended, leaves what stands for the same records as a pair of images from before.
-        ensures comes { ComesBack D.state (meaning_of (setting_of self.old)) twin (GoesOnAs (setting_of self.old)) pick self.old self.new result }
+        ensures comes { ComesBack D.state (meaning_of (setting_of self.old)) twin
+            (GoesOnAs (setting_of self.old)) pick self.old self.new result }
 
         ensures sound { OnOk result ((meaning_of (setting_of self.old)).IsSound (known self.new)) }
         ensures known { OnErr result (known self.new ≡ known self.old) }

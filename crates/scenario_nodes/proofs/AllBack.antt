@@ -54,10 +54,10 @@ module _ {D : Type 0} where
 
   module _ (state : D → DiskState) (s : Scenario) (v : Server) (old now : ShelfState D) (first : SameUnder v.name old now) (second : SameUnder (second_name v.name) old now) where
     pub record_before : (d : D × D) → ShowNoRecord state s now v d → ShowNoRecord state s old v d
-    record_before d shows = (shows.0, λ all holds. shows.1 all (holds_since state s v old now first second holds))
+    record_before d shows = (shows.0, λ holds. shows.1 (holds_since state s v old now first second holds))
 
     pub entry_before : (d : D × D) → ShowNoEntry state s now v d → ShowNoEntry state s old v d
-    entry_before d shows = (shows.0, λ all holds. shows.1 all (holds_since state s v old now first second holds))
+    entry_before d shows = (shows.0, λ holds. shows.1 (holds_since state s v old now first second holds))
 
     pub boot_before : (missed : RunFault) (d : D × D) → ShowNoBoot state s now missed v d → ShowNoBoot state s old missed v d
     boot_before (fault.Store at) d shows = tt
@@ -71,9 +71,9 @@ module _ {D : Type 0} where
 
     pub unread_before : (missed : RunFault) (d : D × D) → ShowsUnread state s now missed v d → ShowsUnread state s old missed v d
     unread_before missed d u = record {
-      counted = u.counted;
-      damaged = λ all. damage_before missed (u.damaged all);
-      cause = λ all holds. u.cause all (holds_since state s v old now first second holds);
+      blames = u.blames;
+      damaged = damage_before missed u.damaged;
+      cause = λ holds. u.cause (holds_since state s v old now first second holds);
       unwritten = record_before d u.unwritten;
     }
 
@@ -187,9 +187,9 @@ module _ {D : Type 0} where
         taken = record { first = gives.keeps.places v.name r.taken.first; second = gives.keeps.places (second_name v.name) r.taken.second };
         back = back_stays (IsOfOne (map name_of first)) old mid new v.name r.disks (λ n named. away n (among n named)) gives.keeps (back_since (IsOfOne (map name_of first)) old now mid v.name r.disks takes.keeps r.back);
         sized = r.sized;
-        counted = r.counted;
-        damaged = λ all. damage_before state s v old now same_first same_second missed (r.damaged all);
-        unopened = λ all holds. r.unopened all (holds_since state s v old now same_first same_second holds);
+        blames = r.blames;
+        damaged = damage_before state s v old now same_first same_second missed r.damaged;
+        unopened = λ holds. r.unopened (holds_since state s v old now same_first same_second holds);
       }
 
     records_move : (vs : List Server) → ((n : List ℕ) → IsOfOne (map name_of vs) n → IsOfOne (map name_of servers) n) → AllByRecursion (IsBack (ShowNoRecord state s now) now mid) vs → AllByRecursion (IsBack (ShowNoRecord state s old) old new) vs

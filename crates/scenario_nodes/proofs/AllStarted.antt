@@ -17,7 +17,7 @@ use Rattle.node_seat.specs.Faults.{open_fault}
 use Rattle.node_seat.specs.declared.faults.RunFault.{RunFault}
 use Rattle.scenario_nodes.specs.Loading.{AreLoaded, WriteFirst, WritesBoot}
 use Rattle.scenario_nodes.specs.Nodes.{AreNewResources, Held, IsLoadedResource, IsNewResource, name_of, resource_disks, resource_server, resource_servers}
-use Rattle.scenario_nodes.specs.Opening.{HaveCounted, IsDamageOn, IsUnopened, ShowNoBoot, ShowNoEntry, ShowNoRecord, StopsStarting}
+use Rattle.scenario_nodes.specs.Opening.{IsDamageOn, IsItsFault, IsUnopened, ShowNoBoot, ShowNoEntry, ShowNoRecord, StopsStarting}
 use Rattle.scenario_nodes.specs.Shelves.{AreGivenBack, HasBoth, pair_of, second_name}
 use Rattle.scenario_nodes.specs.Together.{AreEach, GivesBack, HaveBoth, IsOfOne, numbered}
 use Rattle.scenario_nodes.proofs.AllBack.{all_back}
@@ -136,11 +136,11 @@ module _ {D : Type 0} (state : D → DiskState) (shelf : ShelfState D) (s : Scen
             taken = later.0;
             back = backs.1.0;
             sized = start_sized state shelf s parts.at.0 parts.at.1 w.next parts.here failed w.fails;
-            counted = subst (λ (f : RunFault). HaveCounted (place.Res parts.at.0) (pair_of state (failed.1, failed.2)) f) (sym fault)
+            blames = subst (λ (f : RunFault). IsItsFault (place.Res parts.at.0) (pair_of state (failed.1, failed.2)) f) (sym fault)
                 (start_counted state shelf s parts.at.0 parts.at.1 w.next parts.here failed w.fails);
-            damaged = λ all. subst (λ (f : RunFault). IsDamageOn state shelf s v f) (sym fault) (start_damaged state shelf s parts.at.0 parts.at.1 w.next parts.here failed w.fails held all);
-            unopened = λ all holds. subst (λ (f : RunFault). IsUnopened v s.disk (pair_of state (failed.1, failed.2)) f) (sym fault)
-                (start_unopened state shelf s parts.at.0 parts.at.1 w.next parts.here failed w.fails held all holds);
+            damaged = subst (λ (f : RunFault). IsDamageOn state shelf s v f) (sym fault) (start_damaged state shelf s parts.at.0 parts.at.1 w.next parts.here failed w.fails held);
+            unopened = λ holds. subst (λ (f : RunFault). IsUnopened v s.disk (pair_of state (failed.1, failed.2)) f) (sym fault)
+                (start_unopened state shelf s parts.at.0 parts.at.1 w.next parts.here failed w.fails held holds);
           };
           unbooted = unbooted held parts.at.0 parts.at.1 parts.here told fault;
           unwritten = all_back (ShowNoRecord state s shelf) (map (resource_server s held) parts.behind) (map loaded_disks left) shelf new later.1 backs.1.1 (all_show state shelf s held parts.behind left parts.rest);

@@ -9,7 +9,7 @@ use Rattle.scenario_form.specs.declared.scenarios.ResourceDef.{ResourceDef}
 use Rattle.scenario_form.specs.Runnable.{resource_name}
 use Rattle.scenario_nodes.specs.Shelves.{AreGivenBack, HasBoth, IsDiskName, ReturnsAll, second_name}
 use Rattle.scenario_nodes.specs.Together.{AreApart, AreSecondNames, GivesBack, HaveBoth}
-use Rattle.scenario_nodes.proofs.Made.{drop_at}
+use Rattle.scenario_setups.proofs.Made.{drop_at}
 use Rattle.scenario_nodes.proofs.Together.{AreClosing, closing_all, closing_next, closing_none, closing_taken, each_at, each_length}
 
 pub emptied : {A : Type 0} (xs : List A) → length xs ≡ 0 → xs ≡ []

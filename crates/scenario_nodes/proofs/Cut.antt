@@ -8,7 +8,7 @@ use Rattle.scenario_form.specs.declared.scenarios.ResourceDef.{ResourceDef}
 use Rattle.scenario_form.specs.Runnable.{resource_name}
 use Rattle.scenario_nodes.specs.Shelves.{HasBoth, IsDiskName, second_name}
 use Rattle.scenario_nodes.specs.Together.{AreApart, AreSecondNames, GivesBack, HaveBoth, IsOfOne, numbered}
-use Rattle.scenario_nodes.proofs.Made.{drop_at}
+use Rattle.scenario_setups.proofs.Made.{drop_at}
 use Rattle.scenario_nodes.proofs.Numbered.{numbered_append}
 use Rattle.scenario_nodes.proofs.Together.{all_behind, all_front, apart_behind, apart_between, apart_front, each_drop, each_take, gives_then, of_behind, of_front}
 

@@ -1,11 +1,9 @@
 -- Statements that some texts read as can be framed, where their canonical texts are UTF-8; their values then have places.
-use Rattle.std.proofs.Common.{◌≡◌, ◌==◌, ℕ, Bool, true, false, if◌then◌else◌, List, All, get_or, Some, None, Ok, refl, subst, arith}
+use Rattle.std.proofs.Common.{◌≡◌, ℕ, List, All, get_or, Ok, refl, arith}
 use Rattle.std.specs.Prelude.{IsUtf8, IsTrue}
 use Rattle.std.proofs.lemmas.Str.{is_utf8-from_IsUtf8}
 use Rattle.seata_types.specs.declared.statements.Action.{Action}
 use Rattle.seata_types.specs.declared.statements.Stmt.{Stmt}
-use Rattle.seata_types.specs.declared.statements.Work.{Work}
-use Rattle.seata_types.specs.declared.statements.Work.TheVariants as work
 use Rattle.byte_fields.specs.Layout.{is_plain}
 use Rattle.sql_reader.specs.Answer.{reading}
 use Rattle.sql_reader.specs.Canonical.{canonical_text}
@@ -19,7 +17,7 @@ use Rattle.resource_core.specs.Ready.{IsActionWithin}
 use Rattle.resource_core.specs.Ready.{AreStmtsWithin as HavePlaces}
 use Rattle.resource_rules.proofs.StatementLaws.{stmts_within}
 use Rattle.scenario_nodes.proofs.Tables.{plain_text}
-use Rattle.scenario_nodes.specs.Calls.{AreFramable, AreRead, IsFramableAction, IsRead, IsReadAction, IsReadWork, action_here}
+use Rattle.scenario_nodes.specs.Calls.{AreFramable, AreRead, IsFramableAction, IsRead}
 
 -- ---- statements
 
@@ -56,12 +54,3 @@ action_within action is = record {
   confirms = have_places action.confirms is.confirms;
   cancels = have_places action.cancels is.cancels;
 }
-
--- the action that a resource takes of a call was read
-pub here_read : (r : ℕ) (call : ℕ × Work) (action : Action) → action_here r call ≡ Some action → IsReadWork call.1 → IsReadAction action
-here_read r (resource, work.Tcc found) action e read = by (resource == r) e
-  where
-    by : (b : Bool) → (if b then Some found else None) ≡ Some action → IsReadAction action
-    by true e = let same : found ≡ action = cc in subst IsReadAction same read
-    by false e = absurd (let no : None ≡ Some action = e in cc)
-here_read r (resource, work.At stmts) action e read = absurd (let no : None ≡ Some action = e in cc)

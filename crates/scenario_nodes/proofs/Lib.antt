@@ -7,7 +7,6 @@ mod Cut
 mod Framable
 pub mod Holding
 mod LoadedResource
-mod Made
 mod NewCoordinator
 mod NewServers
 mod NotOpened

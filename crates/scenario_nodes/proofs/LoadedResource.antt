@@ -30,8 +30,8 @@ use Rattle.resource_core.specs.Shown.{setup_in}
 use Rattle.node_seat.specs.Faults.{open_fault}
 use Rattle.scenario_nodes.specs.Loading.{WritesBoot}
 use Rattle.scenario_nodes.specs.Nodes.{HaveSize, Held, Holds, IsLoadedResource, IsNewResource, resource_disks, resource_role, resource_server, store_setting}
-use Rattle.scenario_nodes.specs.Opening.{HaveCounted, IsDamageOf, IsDamageOn, IsLoadFault, IsUnopened, ShowNoEntry, ShowNoRecord, ShowsUnread}
-use Rattle.scenario_nodes.specs.Shelves.{AllTell, AreTaken, pair_of, second_name}
+use Rattle.scenario_nodes.specs.Opening.{IsDamageOf, IsDamageOn, IsItsFault, IsLoadFault, IsUnopened, ShowNoEntry, ShowNoRecord, ShowsUnread}
+use Rattle.scenario_nodes.specs.Shelves.{AreTaken, pair_of, second_name}
 use Rattle.scenario_nodes.proofs.Holding.{bytes_of, failure_counted, next_first, next_second, rise_counted, stand_as}
 use Rattle.scenario_nodes.proofs.OpenedResource.{damaged, opened, sized, stand, told, unopened}
 use Rattle.scenario_nodes.proofs.Returned.{are_taken_since, holds_since, same_back}
@@ -54,10 +54,10 @@ module _ {D : Type 0} (state : D → DiskState) (shelf : ShelfState D) (s : Scen
     damage held a b (why.Full full) of = absurd of
     damage held a b why.NoMemory of = tt
 
-    unread_damage : (held : Held) → AllTell state → IsDamageOn state shelf s (resource_server s held (n, def)) (open_fault (place.Res n) failed.0)
-    unread_damage held all x y next =
-        let (a, is_a) = bytes_of (state disks.0) (all disks.0) in
-        let (b, is_b) = bytes_of (state disks.1) (all disks.1) in
+    unread_damage : (held : Held) → IsDamageOn state shelf s (resource_server s held (n, def)) (open_fault (place.Res n) failed.0)
+    unread_damage held x y next =
+        let (a, is_a) = bytes_of (state disks.0) (next.first.tells disks.0 taken.first) in
+        let (b, is_b) = bytes_of (state disks.1) (next.second.tells disks.1 taken.second) in
         let v = resource_server s held (n, def) in
         subst (λ p. IsDamageOf s v.role p y (open_fault (place.Res n) failed.0)) (next_first state shelf s v disks taken a b is_a is_b x y next)
         (subst (λ q. IsDamageOf s v.role a q (open_fault (place.Res n) failed.0)) (next_second state shelf s v disks taken a b is_a is_b x y next)
@@ -65,18 +65,18 @@ module _ {D : Type 0} (state : D → DiskState) (shelf : ShelfState D) (s : Scen
 
     pub unread : (held : Held) → ShowsUnread state s shelf (open_fault (place.Res n) failed.0) (resource_server s held (n, def)) (failed.1, failed.2)
     unread held = record {
-      counted = failure_counted state (place.Res n) failed.1 failed.2 (state disks.0).counts.faults (state disks.1).counts.faults failed.0 h.cause;
+      blames = failure_counted state (place.Res n) failed.1 failed.2 (state disks.0).counts.faults (state disks.1).counts.faults failed.0 h.cause;
       damaged = unread_damage held;
-      cause = λ all holds.
-          let (a, is_a) = bytes_of (state disks.0) (all disks.0) in
-          let (b, is_b) = bytes_of (state disks.1) (all disks.1) in
+      cause = λ holds.
+          let (a, is_a) = bytes_of (state disks.0) (holds.next.first.tells disks.0 taken.first) in
+          let (b, is_b) = bytes_of (state disks.1) (holds.next.second.tells disks.1 taken.second) in
           let here = stand state shelf s n def disks taken setup is within held a b (stand_as state shelf s (resource_server s held (n, def)) disks taken a b is_a is_b holds) in
           blamed failed.0 (h.recovers (held.past.resource n) a b is_a is_b here.0) h.not_full h.cause;
       unwritten = (
         record { first = h.first_disk.rest.kind.size ∙ taken.first.size; second = h.second_disk.rest.kind.size ∙ taken.second.size },
-        λ all holds.
-            let (a, is_a) = bytes_of (state disks.0) (all disks.0) in
-            let (b, is_b) = bytes_of (state disks.1) (all disks.1) in
+        λ holds.
+            let (a, is_a) = bytes_of (state disks.0) (holds.next.first.tells disks.0 taken.first) in
+            let (b, is_b) = bytes_of (state disks.1) (holds.next.second.tells disks.1 taken.second) in
             let here = stand state shelf s n def disks taken setup is within held a b (stand_as state shelf s (resource_server s held (n, def)) disks taken a b is_a is_b holds) in
             λ x y one two. told state shelf s n def disks taken setup is within (held.past.resource n) x y (h.images a b x y is_a is_b one two (held.past.resource n) here.0),
       );
@@ -88,9 +88,9 @@ module _ {D : Type 0} (state : D → DiskState) (shelf : ShelfState D) (s : Scen
     pub loaded_shows : (held : Held) → ShowNoRecord state s shelf (resource_server s held (n, def)) (loaded_disks l)
     loaded_shows held = (
       record { first = r.loaded.first_disk.rest.kind.size ∙ r.taken.first.size; second = r.loaded.second_disk.rest.kind.size ∙ r.taken.second.size },
-      λ all holds.
-          let (a, is_a) = bytes_of (state r.disks.0) (all r.disks.0) in
-          let (b, is_b) = bytes_of (state r.disks.1) (all r.disks.1) in
+      λ holds.
+          let (a, is_a) = bytes_of (state r.disks.0) (holds.next.first.tells r.disks.0 r.taken.first) in
+          let (b, is_b) = bytes_of (state r.disks.1) (holds.next.second.tells r.disks.1 r.taken.second) in
           let here = stand state shelf s n def r.disks r.taken r.setup r.is r.loaded.within held a b (stand_as state shelf s (resource_server s held (n, def)) r.disks r.taken a b is_a is_b holds) in
           λ x y one two. told state shelf s n def r.disks r.taken r.setup r.is r.loaded.within (held.past.resource n) x y (r.loaded.images a b x y is_a is_b one two (held.past.resource n) here.0),
     )
@@ -103,17 +103,17 @@ module _ {D : Type 0} (state : D → DiskState) (shelf : ShelfState D) (s : Scen
 
     -- or wasn't
     module _ (failed : OpenError × D × D) (fails : FailsStart state l failed) where
-      pub start_counted : HaveCounted (place.Res n) (pair_of state (failed.1, failed.2)) (open_fault (place.Res n) failed.0)
+      pub start_counted : IsItsFault (place.Res n) (pair_of state (failed.1, failed.2)) (open_fault (place.Res n) failed.0)
       start_counted =
           failure_counted state (place.Res n) failed.1 failed.2 (state r.disks.0).counts.faults (state r.disks.1).counts.faults failed.0 (fails r.disks.0 r.disks.1 n r.setup r.loaded).cause
 
       pub start_sized : HaveSize s.disk (pair_of state (failed.1, failed.2))
       start_sized = sized state shelf s n def r.disks r.taken r.setup r.is r.loaded.within failed (fails r.disks.0 r.disks.1 n r.setup r.loaded)
 
-      pub start_damaged : (held : Held) → AllTell state → IsDamageOn state shelf s (resource_server s held (n, def)) (open_fault (place.Res n) failed.0)
+      pub start_damaged : (held : Held) → IsDamageOn state shelf s (resource_server s held (n, def)) (open_fault (place.Res n) failed.0)
       start_damaged held = damaged state shelf s n def r.disks r.taken r.setup r.is r.loaded.within failed (fails r.disks.0 r.disks.1 n r.setup r.loaded) held
 
-      pub start_unopened : (held : Held) → AllTell state → Holds state shelf s (resource_server s held (n, def))
+      pub start_unopened : (held : Held) → Holds state shelf s (resource_server s held (n, def))
           → IsUnopened (resource_server s held (n, def)) s.disk (pair_of state (failed.1, failed.2)) (open_fault (place.Res n) failed.0)
       start_unopened held = unopened state shelf s n def r.disks r.taken r.setup r.is r.loaded.within failed (fails r.disks.0 r.disks.1 n r.setup r.loaded) held
 
@@ -126,8 +126,8 @@ module _ {D : Type 0} (state : D → DiskState) (shelf : ShelfState D) (s : Scen
   pub new_shows : (held : Held) (node : Resource D) → IsNewResource state shelf s n def node → ShowNoEntry state s shelf (resource_server s held (n, def)) (resource_disks node)
   new_shows held node new = (
     record { first = new.sized.first; second = new.sized.second },
-    λ all holds.
-        let stands = new.stands held holds (new.told all) in
+    λ holds.
+        let stands = new.stands held holds (new.told held holds) in
         let d = (lawful state node).device (resource_role s held n def) [] stands in (
           record { images = d.images; counted = d.counted },
           λ a b one two. inr (booted node (worlds.setup_of s n def) stands.is (memory (worlds.setup_of s n def) (held.past.resource n) []).left a b (stands.disks.images a b one two)),
@@ -150,7 +150,7 @@ module _ {D : Type 0} (state : D → DiskState) (a b : ShelfState D) (s : Scenar
   new_before r new = record {
     stands = λ held holds. new.stands held (holds_since state s (resource_server s held (n, def)) a b first second holds);
     lies = λ held holds. new.lies held (holds_since state s (resource_server s held (n, def)) a b first second holds);
-    told = new.told;
+    told = λ held holds. new.told held (holds_since state s (resource_server s held (n, def)) a b first second holds);
     sized = new.sized;
     at = new.at;
     steps = new.steps;

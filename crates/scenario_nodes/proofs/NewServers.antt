@@ -38,10 +38,10 @@ module _ {D : Type 0} (state : D → DiskState) (s : Scenario) (held : Held) (ol
     taken = r.taken;
     back = r.back;
     shows = record {
-      counted = r.counted;
+      blames = r.blames;
       damaged = r.damaged;
-      cause = λ all holds. load_fault (pair_of state r.disks) missed (r.unopened all holds).cause;
-      unwritten = (r.sized, λ all holds. (r.unopened all holds).device);
+      cause = λ holds. load_fault (pair_of state r.disks) missed (r.unopened holds).cause;
+      unwritten = (r.sized, λ holds. (r.unopened holds).device);
     };
   }
 

@@ -6,8 +6,8 @@ use Rattle.scenario_form.specs.declared.scenarios.Scenario.{Scenario}
 use Rattle.node_steps.specs.Nodes.{place_of}
 use Rattle.node_seat.specs.declared.faults.RunFault.{RunFault}
 use Rattle.scenario_nodes.specs.Nodes.{HaveSize, Holds, Server}
-use Rattle.scenario_nodes.specs.Opening.{HaveCounted, IsBack, IsDamageOn, IsReturned, IsUnopened, ShowsUnread}
-use Rattle.scenario_nodes.specs.Shelves.{AllTell, AreGivenBack, HasBoth, IsDiskName, pair_of, second_name}
+use Rattle.scenario_nodes.specs.Opening.{IsBack, IsDamageOn, IsItsFault, IsReturned, IsUnopened, ShowsUnread}
+use Rattle.scenario_nodes.specs.Shelves.{AreGivenBack, HasBoth, IsDiskName, pair_of, second_name}
 use Rattle.scenario_nodes.proofs.Returned.{back_since}
 
 -- its disks were taken of a shelf, and given back under a text that is its name
@@ -19,16 +19,16 @@ module _ {D : Type 0} (state : D → DiskState) (s : Scenario) (old before after
   given : AreGivenBack old after v.name (a, b)
   given = subst (λ (n : List ℕ). AreGivenBack old after n (a, b)) named (back_since (IsDiskName called) old before after called (a, b) took back)
 
-  pub handed_back : HaveSize s.disk (pair_of state (a, b)) → HaveCounted (place_of v.role) (pair_of state (a, b)) missed → (AllTell state → IsDamageOn state old s v missed) → (AllTell state → Holds state old s v → IsUnopened v s.disk (pair_of state (a, b)) missed)
+  pub handed_back : HaveSize s.disk (pair_of state (a, b)) → IsItsFault (place_of v.role) (pair_of state (a, b)) missed → IsDamageOn state old s v missed → (Holds state old s v → IsUnopened v s.disk (pair_of state (a, b)) missed)
       → IsReturned state s old after v told
-  handed_back sized counted damaged unopened = record {
+  handed_back sized blames damaged unopened = record {
     disks = (a, b);
     taken = taken;
     back = given;
     sized = sized;
-    counted = subst (λ (f : RunFault). HaveCounted (place_of v.role) (pair_of state (a, b)) f) (sym is) counted;
-    damaged = λ all. subst (λ (f : RunFault). IsDamageOn state old s v f) (sym is) (damaged all);
-    unopened = λ all holds. subst (λ (f : RunFault). IsUnopened v s.disk (pair_of state (a, b)) f) (sym is) (unopened all holds);
+    blames = subst (λ (f : RunFault). IsItsFault (place_of v.role) (pair_of state (a, b)) f) (sym is) blames;
+    damaged = subst (λ (f : RunFault). IsDamageOn state old s v f) (sym is) damaged;
+    unopened = λ holds. subst (λ (f : RunFault). IsUnopened v s.disk (pair_of state (a, b)) f) (sym is) (unopened holds);
   }
 
   -- the same of a node whose disks couldn't be read

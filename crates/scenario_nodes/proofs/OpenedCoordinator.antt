@@ -19,7 +19,7 @@ use Rattle.coordinator_core.specs.Serving.{HasNumbers}
 use Rattle.coordinator_core.specs.Standing.{LiesAs, StandsAs, disks_of}
 use Rattle.coordinator_core.specs.Standing.{resources as resources_kept, times_of as times_kept}
 use Rattle.node_seat.specs.Faults.{open_fault}
-use Rattle.scenario_nodes.specs.Shelves.{AllTell, AreTaken, coordinator_name, pair_of}
+use Rattle.scenario_nodes.specs.Shelves.{AreTaken, coordinator_name, pair_of}
 use Rattle.scenario_nodes.specs.Nodes.{HaveSize, Held, Holds, IsNewCoordinator, ServesAll, coordinator_role, coordinator_server}
 use Rattle.scenario_nodes.specs.Opening.{IsDamageOf, IsDamageOn, IsOpenFault, IsUnopened}
 use Rattle.scenario_nodes.proofs.Holding.{bytes_of, next_first, next_second, rise_counted, stand_as}
@@ -48,10 +48,10 @@ module _ {D : Type 0} (state : D → DiskState) (shelf : ShelfState D) (s : Scen
     damage held a b (why.Full full) of = absurd of
     damage held a b why.NoMemory of = tt
 
-    pub damaged : (held : Held) → AllTell state → IsDamageOn state shelf s (coordinator_server s held) (open_fault place.Tc failed.0)
-    damaged held all x y next =
-        let (a, is_a) = bytes_of (state disks.0) (all disks.0) in
-        let (b, is_b) = bytes_of (state disks.1) (all disks.1) in
+    pub damaged : (held : Held) → IsDamageOn state shelf s (coordinator_server s held) (open_fault place.Tc failed.0)
+    damaged held x y next =
+        let (a, is_a) = bytes_of (state disks.0) (next.first.tells disks.0 taken.first) in
+        let (b, is_b) = bytes_of (state disks.1) (next.second.tells disks.1 taken.second) in
         subst (λ p. IsDamageOf s (coordinator_role s held) p y (open_fault place.Tc failed.0)) (next_first state shelf s (coordinator_server s held) disks taken a b is_a is_b x y next)
         (subst (λ q. IsDamageOf s (coordinator_role s held) a q (open_fault place.Tc failed.0)) (next_second state shelf s (coordinator_server s held) disks taken a b is_a is_b x y next)
         (damage held a b failed.0 (h.damaged a b is_a is_b)))
@@ -59,10 +59,10 @@ module _ {D : Type 0} (state : D → DiskState) (shelf : ShelfState D) (s : Scen
     pub sized : HaveSize s.disk (pair_of state (failed.1, failed.2))
     sized = record { first = h.first_disk.rest.kind.size ∙ taken.first.size; second = h.second_disk.rest.kind.size ∙ taken.second.size }
 
-    pub unopened : (held : Held) → AllTell state → Holds state shelf s (coordinator_server s held) → IsUnopened (coordinator_server s held) s.disk (pair_of state (failed.1, failed.2)) (open_fault place.Tc failed.0)
-    unopened held all holds =
-        let (a, is_a) = bytes_of (state disks.0) (all disks.0) in
-        let (b, is_b) = bytes_of (state disks.1) (all disks.1) in
+    pub unopened : (held : Held) → Holds state shelf s (coordinator_server s held) → IsUnopened (coordinator_server s held) s.disk (pair_of state (failed.1, failed.2)) (open_fault place.Tc failed.0)
+    unopened held holds =
+        let (a, is_a) = bytes_of (state disks.0) (holds.next.first.tells disks.0 taken.first) in
+        let (b, is_b) = bytes_of (state disks.1) (holds.next.second.tells disks.1 taken.second) in
         let past = held.past.sessions in
         let stand = stand_as state shelf s (coordinator_server s held) disks taken a b is_a is_b holds in
         record {
@@ -101,7 +101,10 @@ module _ {D : Type 0} (state : D → DiskState) (shelf : ShelfState D) (s : Scen
     opened = record {
       stands = stands;
       lies = lies;
-      told = λ all. record { first = o.first_disk.rest.kind.tells_images ∙ all disks.0; second = o.second_disk.rest.kind.tells_images ∙ all disks.1 };
+      told = λ held holds. record {
+        first = o.first_disk.rest.kind.tells_images ∙ holds.next.first.tells disks.0 taken.first;
+        second = o.second_disk.rest.kind.tells_images ∙ holds.next.second.tells disks.1 taken.second;
+      };
       sized = record { first = o.first_disk.rest.kind.size ∙ taken.first.size; second = o.second_disk.rest.kind.size ∙ taken.second.size };
       steps = o.steps;
       early = o.early;

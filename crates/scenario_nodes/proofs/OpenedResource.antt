@@ -32,7 +32,7 @@ use Rattle.resource_core.specs.NodeStanding.{LiesAs, StandsOver}
 use Rattle.resource_core.specs.Shown as shown
 use Rattle.resource_core.specs.Shown.{disks_of}
 use Rattle.node_seat.specs.Faults.{open_fault}
-use Rattle.scenario_nodes.specs.Shelves.{AllTell, AreTaken, pair_of}
+use Rattle.scenario_nodes.specs.Shelves.{AreTaken, pair_of}
 use Rattle.scenario_nodes.specs.Nodes.{HaveSize, Held, Holds, IsNewResource, StandAs, resource_role, resource_server, store_setting}
 use Rattle.scenario_nodes.specs.Opening.{BootIsOver, IsDamageOf, IsDamageOn, IsOpenFault, IsUnopened}
 use Rattle.scenario_nodes.proofs.Holding.{bytes_of, next_first, next_second, rise_counted, stand_as}
@@ -88,10 +88,10 @@ module _ {D : Type 0} (state : D → DiskState) (shelf : ShelfState D) (s : Scen
     damage held a b (why.Full full) of = tt
     damage held a b why.NoMemory of = tt
 
-    pub damaged : (held : Held) → AllTell state → IsDamageOn state shelf s (resource_server s held (n, def)) (open_fault (place.Res n) failed.0)
-    damaged held all x y next =
-        let (a, is_a) = bytes_of (state disks.0) (all disks.0) in
-        let (b, is_b) = bytes_of (state disks.1) (all disks.1) in
+    pub damaged : (held : Held) → IsDamageOn state shelf s (resource_server s held (n, def)) (open_fault (place.Res n) failed.0)
+    damaged held x y next =
+        let (a, is_a) = bytes_of (state disks.0) (next.first.tells disks.0 taken.first) in
+        let (b, is_b) = bytes_of (state disks.1) (next.second.tells disks.1 taken.second) in
         let v = resource_server s held (n, def) in
         subst (λ p. IsDamageOf s v.role p y (open_fault (place.Res n) failed.0)) (next_first state shelf s v disks taken a b is_a is_b x y next)
         (subst (λ q. IsDamageOf s v.role a q (open_fault (place.Res n) failed.0)) (next_second state shelf s v disks taken a b is_a is_b x y next)
@@ -105,11 +105,11 @@ module _ {D : Type 0} (state : D → DiskState) (shelf : ShelfState D) (s : Scen
     pub sized : HaveSize s.disk (pair_of state (failed.1, failed.2))
     sized = record { first = h.first_disk.rest.kind.size ∙ taken.first.size; second = h.second_disk.rest.kind.size ∙ taken.second.size }
 
-    pub unopened : (held : Held) → AllTell state → Holds state shelf s (resource_server s held (n, def))
+    pub unopened : (held : Held) → Holds state shelf s (resource_server s held (n, def))
         → IsUnopened (resource_server s held (n, def)) s.disk (pair_of state (failed.1, failed.2)) (open_fault (place.Res n) failed.0)
-    unopened held all holds =
-        let (a, is_a) = bytes_of (state disks.0) (all disks.0) in
-        let (b, is_b) = bytes_of (state disks.1) (all disks.1) in
+    unopened held holds =
+        let (a, is_a) = bytes_of (state disks.0) (holds.next.first.tells disks.0 taken.first) in
+        let (b, is_b) = bytes_of (state disks.1) (holds.next.second.tells disks.1 taken.second) in
         let past = held.past.resource n in
         let here = stand held a b (stand_as state shelf s (resource_server s held (n, def)) disks taken a b is_a is_b holds) in
         record {
@@ -144,7 +144,10 @@ module _ {D : Type 0} (state : D → DiskState) (shelf : ShelfState D) (s : Scen
     opened at = record {
       stands = stands;
       lies = lies;
-      told = λ all. record { first = o.first_disk.rest.kind.tells_images ∙ all disks.0; second = o.second_disk.rest.kind.tells_images ∙ all disks.1 };
+      told = λ held holds. record {
+        first = o.first_disk.rest.kind.tells_images ∙ holds.next.first.tells disks.0 taken.first;
+        second = o.second_disk.rest.kind.tells_images ∙ holds.next.second.tells disks.1 taken.second;
+      };
       sized = record { first = o.first_disk.rest.kind.size ∙ taken.first.size; second = o.second_disk.rest.kind.size ∙ taken.second.size };
       at = at;
       steps = o.steps;

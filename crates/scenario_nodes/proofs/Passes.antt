@@ -1,6 +1,5 @@
 -- What holds of each item of a list, as far as a loop has come.
-use Rattle.std.proofs.Common.{◌≡◌, ◌+◌, ◌<◌, ◌++◌, ℕ, nat_lt, Bool, true, false, List, [], ◌∷◌, All, get_or, length, slice_get, Some, refl, ap, sym, subst, ◌∙◌, arith}
-use Rattle.std.specs.List.{AllByRecursion}
+use Rattle.std.proofs.Common.{◌≡◌, ◌+◌, ◌<◌, ℕ, nat_lt, Bool, true, false, List, All, get_or, length, slice_get, Some, refl, ap, sym, subst, ◌∙◌, arith}
 use Rattle.std.proofs.lemmas.Bool.Decides.{nat_tests}
 use Rattle.std.proofs.lemmas.Option.{get_or_from_slice_get, same_Some, slice_get-get_or, slice_get_within}
 
@@ -23,8 +22,3 @@ before_all P xs k end before = λ i d below. before i (get_or xs i d) (omega (ar
 -- an item of a list has what all of them have
 pub placed : {A : Type 0} (P : A → Type 0) (xs : List A) (k : ℕ) (x : A) → slice_get xs k ≡ Some x → All P xs → P x
 placed P xs k x at all = subst P (get_or_from_slice_get xs k x x at) (all k x (slice_get_within xs k x at))
-
--- one item more has it
-pub each_push : {A : Type 0} (P : A → Type 0) (xs : List A) (x : A) → AllByRecursion P xs → P x → AllByRecursion P (xs ++ x ∷ [])
-each_push P [] x all is = (is, tt)
-each_push P (y ∷ ys) x all is = (all.0, each_push P ys x all.1 is)

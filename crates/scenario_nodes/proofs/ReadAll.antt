@@ -15,7 +15,7 @@ use Rattle.node_seat.specs.declared.faults.RunFault.{RunFault}
 use Rattle.scenario_nodes.specs.Nodes.{Held, Holds, Server, coordinator_server, name_of, resource_server, resource_servers, server_names, servers_of}
 use Rattle.scenario_nodes.specs.Opening.{IsBack, IsBackTaken, IsNotAsked, IsNotHad, IsNotLoaded, IsUntouched, ShowNoRecord, ShowsUnread, StopsLoading}
 use Rattle.scenario_nodes.specs.Reading.{GivesStill, HoldStill, IsReadBack, IsReadFault, IsSound, ReadsCoordinator, ReadsNodes, ReadsResource, SaysResource, SaysResources}
-use Rattle.scenario_nodes.specs.Shelves.{AllTell, IsDiskName, ReturnsAll, coordinator_name, second_name}
+use Rattle.scenario_nodes.specs.Shelves.{IsDiskName, ReturnsAll, coordinator_name, second_name}
 use Rattle.scenario_nodes.specs.Together.{AreApart, IsOfOne, numbered}
 use Rattle.scenario_nodes.proofs.AllBack.{back_between, fault_wider, first_stops, of_after, of_at, record_before, unread_before}
 use Rattle.scenario_nodes.proofs.AllBack.{of_before as of_first}
@@ -29,12 +29,12 @@ use Rattle.scenario_nodes.proofs.Together.{all_append, all_behind, all_front, ap
 
 -- ---- the shelf gives what it gave
 
-pub holds_still : {D : Type 0} (state : D → DiskState) (s : Scenario) (old new : ShelfState D) (vs : List Server) → AllTell state → AllByRecursion (IsReadBack state s old new) vs → AllByRecursion (Holds state old s) vs
+pub holds_still : {D : Type 0} (state : D → DiskState) (s : Scenario) (old new : ShelfState D) (vs : List Server) → AllByRecursion (IsReadBack state s old new) vs → AllByRecursion (Holds state old s) vs
     → AllByRecursion (Holds state new s) vs
-holds_still state s old new [] all back holds = tt
-holds_still state s old new (v ∷ vs) all back holds = (
-  record { first = holds.0.first; second = holds.0.second; next = back.0.next all holds.0.first holds.0.second holds.0.next; stand = holds.0.stand },
-  holds_still state s old new vs all back.1 holds.1,
+holds_still state s old new [] back holds = tt
+holds_still state s old new (v ∷ vs) back holds = (
+  record { first = holds.0.first; second = holds.0.second; next = back.0.next holds.0.first holds.0.second holds.0.next; stand = holds.0.stand },
+  holds_still state s old new vs back.1 holds.1,
 )
 
 -- ---- nodes behind others that were read
@@ -103,7 +103,7 @@ module _ {D : Type 0} (state : D → DiskState) (s : Scenario) (first servers : 
       let its : (n : List ℕ) → IsDiskName v.name n → IsOfOne (map name_of servers) n = λ n named. among n (inl named) in (
         record {
           back = record_since v its all.0.back;
-          next = λ told x y next. all.0.next told x y (are_next_since state s.disk v.name x y old now (same_first v its) (same_second v its) next);
+          next = λ x y next. all.0.next x y (are_next_since state s.disk v.name x y old now (same_first v its) (same_second v its) next);
         },
         read_since vs (λ n o. among n (inr o)) all.1,
       )
@@ -128,9 +128,9 @@ module _ {D : Type 0} (state : D → DiskState) (s : Scenario) (first servers : 
       let its : (n : List ℕ) → IsDiskName v.name n → IsOfOne (map name_of first) n = λ n named. among n (inl named) in (
         record {
           back = still_back v its all.0.back;
-          next = λ told x y next.
+          next = λ x y next.
               are_next_since state s.disk v.name x y now new (keeps.others v.name (still_away v its v.name (inl refl))) (keeps.others (second_name v.name) (still_away v its (second_name v.name) (inr refl)))
-              (all.0.next told x y next);
+              (all.0.next x y next);
         },
         read_still vs (λ n o. among n (inr o)) all.1,
       )
@@ -164,8 +164,8 @@ first_servers s held k = map (resource_server s held) (numbered 1 (take k s.reso
 
 -- so many of the first ones were read
 pub record AreReading {D : Type 0} (state : D → DiskState) (s : Scenario) (old now : ShelfState D) (k : ℕ) (memories : List Known) : Type 0 where
-  pub says : AllTell state → (held : Held) → AllByRecursion (Holds state old s) (first_servers s held k) → SaysResources s (numbered 1 (take k s.resources)) held memories
-  pub sound : AllTell state → (held : Held) → AllByRecursion (IsSound state old s) (first_servers s held k)
+  pub says : (held : Held) → AllByRecursion (Holds state old s) (first_servers s held k) → SaysResources s (numbered 1 (take k s.resources)) held memories
+  pub sound : (held : Held) → AllByRecursion (IsSound state old s) (first_servers s held k)
   pub back : (held : Held) → AllByRecursion (IsReadBack state s old now) (first_servers s held k)
   pub still : GivesStill state s.disk old now
   pub keeps : KeepsOthers (IsOfOne (names_before s.resources k)) old now
@@ -173,7 +173,7 @@ pub record AreReading {D : Type 0} (state : D → DiskState) (s : Scenario) (old
 
 pub reading_none : {D : Type 0} (state : D → DiskState) (s : Scenario) (a : ShelfState D) (memories : List Known) → memories ≡ [] → AreReading state s a a 0 memories
 reading_none state s a memories none =
-    subst (AreReading state s a a 0) (sym none) (record { says = λ all held holds. tt; sound = λ all held. tt; back = λ held. tt; still = still_here state s.disk a; keeps = (takes_none a).keeps; returned = all_same a })
+    subst (AreReading state s a a 0) (sym none) (record { says = λ held holds. tt; sound = λ held. tt; back = λ held. tt; still = still_here state s.disk a; keeps = (takes_none a).keeps; returned = all_same a })
 
 module _ {D : Type 0} (state : D → DiskState) (s : Scenario) (old now : ShelfState D) (k : ℕ) (memories : List Known) (a : AreReading state s old now k memories) where
   module _ (def : ResourceDef) (here : slice_get s.resources k ≡ Some def) (apart : AreApart (map resource_name s.resources)) where
@@ -217,16 +217,16 @@ module _ {D : Type 0} (state : D → DiskState) (s : Scenario) (old now : ShelfS
     reading_next new memory more same r =
         let keeps : (held : Held) → KeepsOthers (IsOfOne (def.name ∷ [])) now new = λ held. keeps_wider (IsDiskName def.name) (IsOfOne (def.name ∷ [])) now new (λ n its. inl its) r.keeps in
         subst (AreReading state s old new (k + 1)) (sym same) (record {
-          says = λ all held holds.
+          says = λ held holds.
               let both = subst (AllByRecursion (Holds state old s)) (up_to held) holds in
               let front = all_front (Holds state old s) (first_servers s held k) (resource_server s held one ∷ []) both in
               let last = all_behind (Holds state old s) (first_servers s held k) (resource_server s held one ∷ []) both in
               let its = holds_now state s (first_servers s held k) (resource_server s held one ∷ []) old now new (apart_one held) (its_keeps held) (keeps held) (resource_server s held one ∷ []) (λ n o. o) last in
               subst (λ (ds : List (ℕ × ResourceDef)). SaysResources s ds held (memories ++ memory ∷ [])) (sym (numbered_up_to s.resources k def here))
-              (each_append (λ (d : ℕ × ResourceDef) (m : Known). SaysResource s d held m) (numbered 1 (take k s.resources)) (one ∷ []) memories (memory ∷ []) (a.says all held front) (r.says all held its.0, tt));
-          sound = λ all held.
+              (each_append (λ (d : ℕ × ResourceDef) (m : Known). SaysResource s d held m) (numbered 1 (take k s.resources)) (one ∷ []) memories (memory ∷ []) (a.says held front) (r.says held its.0, tt));
+          sound = λ held.
               subst (AllByRecursion (IsSound state old s)) (sym (up_to held))
-              (all_append (IsSound state old s) (first_servers s held k) (resource_server s held one ∷ []) (a.sound all held) (sound_before state s old now a.still all (resource_server s held one) (r.sound all held), tt));
+              (all_append (IsSound state old s) (first_servers s held k) (resource_server s held one ∷ []) (a.sound held) (sound_before state s old now a.still (resource_server s held one) (r.sound held), tt));
           back = λ held.
               subst (AllByRecursion (IsReadBack state s old new)) (sym (up_to held))
               (reading_both state s (first_servers s held k) (resource_server s held one ∷ []) old now new (apart_one held) (its_keeps held) (keeps held) (a.back held) (r.back held, tt));
@@ -270,13 +270,13 @@ module _ {D : Type 0} (state : D → DiskState) (s : Scenario) (old now : ShelfS
     whole : take k s.resources ≡ s.resources
     whole = take_all k s.resources (omega (arith, end))
 
-    pub all_says : AllTell state → (held : Held) → AllByRecursion (Holds state old s) (resource_servers s held) → SaysResources s (numbered 1 s.resources) held memories
-    all_says all held holds =
+    pub all_says : (held : Held) → AllByRecursion (Holds state old s) (resource_servers s held) → SaysResources s (numbered 1 s.resources) held memories
+    all_says held holds =
         subst (λ (ds : List ResourceDef). SaysResources s (numbered 1 ds) held memories) whole
-        (a.says all held (subst (λ (ds : List ResourceDef). AllByRecursion (Holds state old s) (map (resource_server s held) (numbered 1 ds))) (sym whole) holds))
+        (a.says held (subst (λ (ds : List ResourceDef). AllByRecursion (Holds state old s) (map (resource_server s held) (numbered 1 ds))) (sym whole) holds))
 
-    pub all_sound : AllTell state → (held : Held) → AllByRecursion (IsSound state old s) (resource_servers s held)
-    all_sound all held = subst (λ (ds : List ResourceDef). AllByRecursion (IsSound state old s) (map (resource_server s held) (numbered 1 ds))) whole (a.sound all held)
+    pub all_sound : (held : Held) → AllByRecursion (IsSound state old s) (resource_servers s held)
+    all_sound held = subst (λ (ds : List ResourceDef). AllByRecursion (IsSound state old s) (map (resource_server s held) (numbered 1 ds))) whole (a.sound held)
 
     pub all_read : (held : Held) → AllByRecursion (IsReadBack state s old now) (resource_servers s held)
     all_read held = subst (λ (ds : List ResourceDef). AllByRecursion (IsReadBack state s old now) (map (resource_server s held) (numbered 1 ds))) whole (a.back held)
@@ -317,4 +317,4 @@ module _ {D : Type 0} (state : D → DiskState) (s : Scenario) (runs : IsRunnabl
 
 -- the disks of all nodes hold what they held
 pub hold_still : {D : Type 0} (state : D → DiskState) (s : Scenario) (old new : ShelfState D) → ((held : Held) → AllByRecursion (IsReadBack state s old new) (servers_of s held)) → HoldStill state s old new
-hold_still state s old new back all held holds = holds_still state s old new (servers_of s held) all (back held) holds
+hold_still state s old new back held holds = holds_still state s old new (servers_of s held) (back held) holds

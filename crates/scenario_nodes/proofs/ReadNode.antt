@@ -22,7 +22,7 @@ use Rattle.node_seat.specs.declared.faults.RunFault.{RunFault}
 use Rattle.node_seat.specs.Faults.{open_fault}
 use Rattle.scenario_nodes.specs.Calls.{HasTypes}
 use Rattle.scenario_nodes.specs.Nodes.{Held, Server, StandAs, store_setting}
-use Rattle.scenario_nodes.specs.Opening.{HaveCounted, HaveNoRecord, HoldSessions, IsDamageOf, IsLoadFault, IsNotHad, ShowNoRecord, ShowsUnread}
+use Rattle.scenario_nodes.specs.Opening.{HaveNoRecord, HoldSessions, IsDamageOf, IsItsFault, IsLoadFault, IsNotHad, ShowNoRecord, ShowsUnread}
 use Rattle.scenario_nodes.specs.Reading.{AreSound, GivesStill, IsReadBack, ReadsNode, ReadsTwo, told_at}
 use Rattle.scenario_nodes.specs.Shelves.{AreGivenBack, AreNext, AreTaken, HasBoth, IsDiskName, ReturnsAll, ReturnsBut, pair_of, second_name}
 use Rattle.scenario_nodes.proofs.Holding.{bytes_of, failure_counted, next_first, next_second, rise_counted, stand_as}
@@ -58,9 +58,9 @@ module _ {D : Type 0} (state : D → DiskState) (shelf : ShelfState D) (s : Scen
   pub shows_none : ShowNoRecord state s shelf v (a, b)
   shows_none = (
     record { first = first.rest.kind.size ∙ taken.first.size; second = second.rest.kind.size ∙ taken.second.size },
-    λ all holds.
-        let (x, is_x) = bytes_of (state disks.0) (all disks.0) in
-        let (y, is_y) = bytes_of (state disks.1) (all disks.1) in
+    λ holds.
+        let (x, is_x) = bytes_of (state disks.0) (holds.next.first.tells disks.0 taken.first) in
+        let (y, is_y) = bytes_of (state disks.1) (holds.next.second.tells disks.1 taken.second) in
         none_written v.role v.start opens x y is_x is_y (stand_as state shelf s v disks taken x y is_x is_y holds),
   )
 
@@ -99,22 +99,22 @@ module _ {D K : Type 0} (state : D → DiskState) (s : Scenario) (name : List �
           back = subst (λ (n : List ℕ). AreGivenBack old after n (a, b)) (named held) given;
           shows = shows_none state old s (server held) (opens held) disks (its held) a b reads.first_reads reads.second_reads;
         };
-        next = λ all x y next.
+        next = λ x y next.
             let here = subst (λ (n : List ℕ). AreNext state old s.disk n x y) (sym (named held)) next in
             let same = still reads.first_reads reads.second_reads in
-            subst (λ (n : List ℕ). AreNext state after s.disk n x y) (named held) (record { first = same.next all name x here.first; second = same.next all (second_name name) y here.second });
+            subst (λ (n : List ℕ). AreNext state after s.disk n x y) (named held) (record { first = same.next name x here.first; second = same.next (second_name name) y here.second });
       }
 
       node_read : ReadsNode state s name server Says old after (Ok memory)
       node_read = record {
-        says = λ all held holds.
-            let (x, is_x) = bytes_of (state disks.0) (all disks.0) in
-            let (y, is_y) = bytes_of (state disks.1) (all disks.1) in
+        says = λ held holds.
+            let (x, is_x) = bytes_of (state disks.0) (holds.next.first.tells disks.0 (its held).first) in
+            let (y, is_y) = bytes_of (state disks.1) (holds.next.second.tells disks.1 (its held).second) in
             reads.says held x y is_x is_y (stand_as state old s (server held) disks (its held) x y is_x is_y holds);
-        sound = λ all held x y next.
+        sound = λ held x y next.
             let v = server held in
-            let (c, is_c) = bytes_of (state disks.0) (all disks.0) in
-            let (d, is_d) = bytes_of (state disks.1) (all disks.1) in
+            let (c, is_c) = bytes_of (state disks.0) (next.first.tells disks.0 (its held).first) in
+            let (d, is_d) = bytes_of (state disks.1) (next.second.tells disks.1 (its held).second) in
             subst (λ p. AreSound s v.role p y) (next_first state old s v disks (its held) c d is_c is_d x y next)
             (subst (λ q. AreSound s v.role c q) (next_second state old s v disks (its held) c d is_c is_d x y next) (reads.sound held c d is_c is_d));
         back = read_back;
@@ -137,15 +137,15 @@ module _ {D K : Type 0} (state : D → DiskState) (s : Scenario) (name : List �
       unread : (held : Held) → ShowsUnread state s old (open_fault at e) (server held) (a, b)
       unread held =
           let v = server held in record {
-            counted = subst (λ (p : Place). HaveCounted p (pair_of state (a, b)) (open_fault at e)) (sym (placed held)) (failure_counted state at a b (state disks.0).counts.faults (state disks.1).counts.faults e reads.failed);
-            damaged = λ all x y next.
-                let (c, is_c) = bytes_of (state disks.0) (all disks.0) in
-                let (d, is_d) = bytes_of (state disks.1) (all disks.1) in
+            blames = subst (λ (p : Place). IsItsFault p (pair_of state (a, b)) (open_fault at e)) (sym (placed held)) (failure_counted state at a b (state disks.0).counts.faults (state disks.1).counts.faults e reads.failed);
+            damaged = λ x y next.
+                let (c, is_c) = bytes_of (state disks.0) (next.first.tells disks.0 (its held).first) in
+                let (d, is_d) = bytes_of (state disks.1) (next.second.tells disks.1 (its held).second) in
                 subst (λ p. IsDamageOf s v.role p y (open_fault at e)) (next_first state old s v disks (its held) c d is_c is_d x y next)
                 (subst (λ q. IsDamageOf s v.role c q (open_fault at e)) (next_second state old s v disks (its held) c d is_c is_d x y next) (reads.damaged held c d is_c is_d));
-            cause = λ all holds.
-                let (c, is_c) = bytes_of (state disks.0) (all disks.0) in
-                let (d, is_d) = bytes_of (state disks.1) (all disks.1) in
+            cause = λ holds.
+                let (c, is_c) = bytes_of (state disks.0) (holds.next.first.tells disks.0 (its held).first) in
+                let (d, is_d) = bytes_of (state disks.1) (holds.next.second.tells disks.1 (its held).second) in
                 subst (λ (p : Place). IsLoadFault p (pair_of state (a, b)) (open_fault at e)) (sym (placed held))
                 (blamed e (reads.recovers held c d is_c is_d (stand_as state old s v disks (its held) c d is_c is_d holds)) reads.not_full reads.failed);
             unwritten = shows_none state old s v (opens held) disks (its held) a b reads.first_reads reads.second_reads;

@@ -19,7 +19,7 @@ use Rattle.node_seat.specs.Faults.{open_fault}
 use Rattle.scenario_nodes.specs.Nodes.{Server}
 use Rattle.scenario_nodes.specs.Opening.{IsShelfFault}
 use Rattle.scenario_nodes.specs.Reading.{GivesStill, IsPlaceOf, IsReadFault, IsSound}
-use Rattle.scenario_nodes.specs.Shelves.{AllTell, second_name}
+use Rattle.scenario_nodes.specs.Shelves.{second_name}
 
 -- ---- bytes that were read
 
@@ -33,9 +33,9 @@ never_damaged state m a b k read damage is =
 
 -- ---- a shelf that gives what it gave
 
-module _ {D : Type 0} (state : D → DiskState) (s : Scenario) (old now : ShelfState D) (still : GivesStill state s.disk old now) (all : AllTell state) where
+module _ {D : Type 0} (state : D → DiskState) (s : Scenario) (old now : ShelfState D) (still : GivesStill state s.disk old now) where
   pub sound_before : (v : Server) → IsSound state now s v → IsSound state old s v
-  sound_before v sound a b next = sound a b (record { first = still.next all v.name a next.first; second = still.next all (second_name v.name) b next.second })
+  sound_before v sound a b next = sound a b (record { first = still.next v.name a next.first; second = still.next (second_name v.name) b next.second })
 
   pub all_sound_before : (vs : List Server) → AllByRecursion (IsSound state now s) vs → AllByRecursion (IsSound state old s) vs
   all_sound_before [] sound = tt

@@ -2,25 +2,25 @@
 use Rattle.std.proofs.Common.{◌≡◌, ◌⊎◌, ⊎_elim, inl, inr, ◌∙◌, ℕ, Bool, true, false, IsTrue, List, Some, option_map, refl, sym, ap, subst}
 use Rattle.std.proofs.lemmas.Bool.{false≢true}
 use Rattle.disk_model.specs.Disk.{Content, DiskState, IsSettled, present}
-use Rattle.disk_model.specs.Shelf.{IsTaken, KeepsOthers, OnlyTellersHave, SameUnder, ShelfState, TakenAs, taken_tells}
+use Rattle.disk_model.specs.Shelf.{IsTaken, KeepsOthers, OnlyTellersHave, SameUnder, ShelfState, taken_tells}
 use Rattle.disk_model.proofs.Named.{same_or_other}
-use Rattle.disk_model.proofs.Taken.{next_since}
 use Rattle.disk_journal.specs.Keeping.{OnlyReads}
 use Rattle.disk_journal.proofs.Readings.{no_reads}
 use Rattle.seata_types.specs.declared.ids.Place.{Place}
 use Rattle.node_seat.specs.declared.faults.RunFault.{RunFault}
 use Rattle.scenario_nodes.specs.Opening.{IsBackTaken, IsNotHad, IsUntouched}
 use Rattle.scenario_nodes.specs.Reading.{GivesStill}
-use Rattle.scenario_nodes.specs.Shelves.{AllTell, IsDiskName, IsGivenIn, second_name}
-use Rattle.scenario_nodes.proofs.Holding.{bytes_of}
+use Rattle.scenario_nodes.specs.Shelves.{IsDiskName, IsGivenIn, IsNext, second_name}
+use Rattle.scenario_nodes.proofs.Holding.{bytes_of, next_given}
+use Rattle.scenario_nodes.proofs.Returned.{is_next_since}
 
 module _ {D : Type 0} (state : D → DiskState) (n : ℕ) where
   pub still_here : (a : ShelfState D) → GivesStill state n a a
-  still_here a = record { next = λ all name x next. next; settled = λ name d back. inl back }
+  still_here a = record { next = λ name x next. next; settled = λ name d back. inl back }
 
   pub still_then : (a b c : ShelfState D) → GivesStill state n a b → GivesStill state n b c → GivesStill state n a c
   still_then a b c one two = record {
-    next = λ all name x next. two.next all name x (one.next all name x next);
+    next = λ name x next. two.next name x (one.next name x next);
     settled = λ name d back. ⊎_elim (λ was. one.settled name d was) (λ is. inr is) (two.settled name d back);
   }
 
@@ -31,34 +31,30 @@ module _ {D : Type 0} (state : D → DiskState) (n : ℕ) where
 
   module _ (old new : ShelfState D) where
     record IsStill (name : List ℕ) : Type 0 where
-      pub next : AllTell state → (x : List ℕ) → TakenAs state (old.given_back name) n x → TakenAs state (new.given_back name) n x
+      pub next : (x : List ℕ) → IsNext state old n name x → IsNext state new n name x
       pub settled : (d : D) → new.given_back name d → old.given_back name d ⊎ IsSettled (state d)
 
     -- nothing was done there
     same_still : (name : List ℕ) → SameUnder name old new → IsStill name
     same_still name same = record {
-      next = λ all x next. next_since state (old.given_back name) (new.given_back name) n same x next;
+      next = λ x next. is_next_since state n name x old new same next;
       settled = λ d back. inl ((same d).0 back);
     }
 
     module _ (had : OnlyTellersHave old) (has : OnlyTellersHave new) (same : new.tells ≡ old.tells) where
       next_one : (name : List ℕ) (one two : D) → IsTaken state (old.given_back name) n (state one) → OnlyReads (state one) (state two)
-          → IsGivenIn old new name two → AllTell state → (x : List ℕ) → TakenAs state (old.given_back name) n x → TakenAs state (new.given_back name) n x
-      next_one name one two taken reads given all x next = by new.tells refl
+          → IsGivenIn old new name two → (x : List ℕ) → IsNext state old n name x → IsNext state new n name x
+      next_one name one two taken reads given x next = by new.tells refl
         where
-          by : (tells : Bool) → new.tells ≡ tells → TakenAs state (new.given_back name) n x
+          by : (tells : Bool) → new.tells ≡ tells → IsNext state new n name x
           by true told =
-              let (c, is_c) = bytes_of (state one) (all one) in
-              let is : c ≡ x = taken_tells state (old.given_back name) n (state one) x c taken next is_c in
-              inl (two, given.back.given told, still_present one two reads ∙ is_c ∙ ap Some is)
-          by false silent = silently next
-            where
-              never : {A : Type 0} → IsTrue new.tells → A
-              never told = absurd (false≢true (sym silent ∙ told))
-
-              silently : TakenAs state (old.given_back name) n x → TakenAs state (new.given_back name) n x
-              silently (inl (d, back, is)) = never (same ∙ had name d back)
-              silently (inr (none, zero)) = inr ((λ d back. absurd (false≢true (sym silent ∙ has name d back))), zero)
+              let (c, is_c) = bytes_of (state one) (next.tells one taken) in
+              let is : c ≡ x = taken_tells state (old.given_back name) n (state one) x c taken next.has is_c in
+              let here : present (state two) ≡ Some x = still_present one two reads ∙ is_c ∙ ap Some is in
+              next_given state new n name two x (given.back.given told) here
+          by false silent =
+              is_next_since state n name x old new
+              (λ d. ((λ here. absurd (false≢true (sym silent ∙ has name d here))), (λ there. absurd (false≢true (sym silent ∙ same ∙ had name d there))))) next
 
       -- a disk was taken, read and given back
       read_still : (name : List ℕ) (one two : D) → IsTaken state (old.given_back name) n (state one) → OnlyReads (state one) (state two) → IsGivenIn old new name two → IsStill name
@@ -71,7 +67,7 @@ module _ {D : Type 0} (state : D → DiskState) (n : ℕ) where
 
       both_still : (name : List ℕ) → KeepsOthers (IsDiskName name) old new → IsStill name → IsStill (second_name name) → GivesStill state n old new
       both_still name keeps first second = record {
-        next = λ all m x next. (at m).next all x next;
+        next = λ m x next. (at m).next x next;
         settled = λ m d back. (at m).settled d back;
       }
         where

@@ -5,7 +5,7 @@ use Rattle.disk_model.specs.Shelf.{IsGivenBack, KeepsOthers, SamePlaces, SameUnd
 use Rattle.disk_model.proofs.Named.{same_or_other}
 use Rattle.disk_model.proofs.Taken.{next_since, taken_since}
 use Rattle.scenario_nodes.specs.Nodes.{Holds, Server}
-use Rattle.scenario_nodes.specs.Shelves.{AreGivenBack, AreNext, AreTaken, HasDisk, IsDiskName, IsGivenIn, ReturnsAll, ReturnsBut, second_name}
+use Rattle.scenario_nodes.specs.Shelves.{AreGivenBack, AreNext, AreTaken, BackTell, HasDisk, IsDiskName, IsGivenIn, IsNext, ReturnsAll, ReturnsBut, second_name}
 use Rattle.scenario_form.specs.declared.scenarios.Scenario.{Scenario}
 
 pub still : (t u : Bool) → u ≡ t → IsTrue t → IsTrue u
@@ -101,13 +101,24 @@ module _ {D : Type 0} where
     second = given_since z a b (second_name name) disks.1 keeps.tells (keeps.gives (second_name name)) back.second;
   }
 
+  -- what was given back in a part of a call was in the call
+  pub back_tell_later : (state : D → DiskState) (Others : List ℕ → Type 0) (z a b : ShelfState D) → KeepsOthers Others z a → BackTell state z b → BackTell state a b
+  back_tell_later state Others z a b keeps tell name disk given = tell name disk (given_since z a b name disk keeps.tells (keeps.gives name) given)
+
   -- ---- what a shelf gives next
 
-  -- the same under the names of a node
+  -- the same under a name
+  pub is_next_since : (state : D → DiskState) (size : ℕ) (name x : List ℕ) (a b : ShelfState D) → SameUnder name a b → IsNext state a size name x → IsNext state b size name x
+  is_next_since state size name x a b same next = record {
+    has = next_since state (a.given_back name) (b.given_back name) size same x next.has;
+    tells = λ disk taken. next.tells disk (taken_since state (b.given_back name) (a.given_back name) size (λ d. ((same d).1, (same d).0)) (state disk) taken);
+  }
+
+  -- and under both of a node
   pub are_next_since : (state : D → DiskState) (bytes : ℕ) (name x y : List ℕ) (a b : ShelfState D) → SameUnder name a b → SameUnder (second_name name) a b → AreNext state a bytes name x y → AreNext state b bytes name x y
   are_next_since state bytes name x y a b first second next = record {
-    first = next_since state (a.given_back name) (b.given_back name) bytes first x next.first;
-    second = next_since state (a.given_back (second_name name)) (b.given_back (second_name name)) bytes second y next.second;
+    first = is_next_since state bytes name x a b first next.first;
+    second = is_next_since state bytes (second_name name) y a b second next.second;
   }
 
   pub holds_since : (state : D → DiskState) (s : Scenario) (v : Server) (a b : ShelfState D) → SameUnder v.name a b → SameUnder (second_name v.name) a b → Holds state a s v → Holds state b s v

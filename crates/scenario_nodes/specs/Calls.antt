@@ -1,5 +1,5 @@
 -- For the proofs alone: statements, calls and locals as a scenario has them, and as nodes take them.
-use Rattle.std.specs.Prelude.{◌≡◌, ◌≤◌, ◌==◌, ℕ, if◌then◌else◌, All, IsUtf8, List, length, Option, Some, None, Ok, FitsSigned}
+use Rattle.std.specs.Prelude.{◌≡◌, ◌≤◌, ℕ, All, IsUtf8, List, length, Ok, FitsSigned}
 use Rattle.std.specs.Int.{w64}
 use Rattle.seata_types.specs.declared.limits.TheConstants.{CALLS, STATEMENTS, STATEMENT_BYTES}
 use Rattle.seata_types.specs.declared.rows.Row.{Row}
@@ -55,6 +55,10 @@ IsReadCall call = IsReadWork call.1
 abbrev pub IsReadLocal : ℕ × List Stmt → Type 0
 IsReadLocal one = AreRead one.1
 
+-- of an action behind its manager and its call
+abbrev pub HasReadAction : ℕ × ℕ × Action → Type 0
+HasReadAction made = IsReadAction made.2
+
 -- a manager whose calls were read, no more than a manager has
 pub record HasReadCalls (def : ManagerDef) : Type 0 where
   pub few : length def.calls ≤ CALLS
@@ -73,6 +77,13 @@ pub record IsFramableAction (action : Action) : Type 0 where
   pub confirms : AreFramable action.confirms
   pub cancels : AreFramable action.cancels
 
+-- of an action behind its manager and its call, and of a local
+abbrev pub HasFramableAction : ℕ × ℕ × Action → Type 0
+HasFramableAction made = IsFramableAction made.2
+
+abbrev pub IsFramableLocal : ℕ × List Stmt → Type 0
+IsFramableLocal one = AreFramable one.1
+
 -- of a call's work
 pub record IsFramableWork (asked : Work) : Type 0 where
   pub layout : FitsWork asked
@@ -81,10 +92,3 @@ pub record IsFramableWork (asked : Work) : Type 0 where
 -- of a call
 abbrev pub IsFramableCall : ℕ × Work → Type 0
 IsFramableCall call = IsFramableWork call.1
-
--- ---- what a resource takes of them
-
--- the action of a call, where it is a TCC call of resource r
-abbrev pub action_here : (r : ℕ) → ℕ × Work → Option Action
-action_here r (resource, work.Tcc action) = if resource == r then Some action else None
-action_here r (resource, work.At stmts) = None

@@ -37,7 +37,7 @@ use Rattle.resource_core.specs.Shown as shown
 use Rattle.manager_core.specs.declared.nodes.Manager.{Manager as ManagerNode}
 use Rattle.manager_core.specs.Standing as manager
 use Rattle.scenario_nodes.specs.declared.servers.Servers.{Servers}
-use Rattle.scenario_nodes.specs.Shelves.{AllTell, AreNext, AreTaken, coordinator_name, second_name}
+use Rattle.scenario_nodes.specs.Shelves.{AreNext, AreTaken, BlanksTell, coordinator_name, second_name}
 use Rattle.scenario_nodes.specs.Together.{AreEach, numbered}
 
 -- ---- what disks held before
@@ -109,7 +109,7 @@ StandAs s (Coordinator times past) start a b = (h : StandsForSessions (length s.
 StandAs s (Resource setup past) start a b = Opens (store_setting setup) → StandsAt (store_setting setup) past start a b
 StandAs s (Manager settings) start a b = Unit {0}
 
--- the two disks of a node that a shelf gives next stand for its records
+-- the two disks of a node that a shelf gives next tell their bytes, and these stand for its records
 pub record Holds {D : Type 0} (state : D → DiskState) (shelf : ShelfState D) (s : Scenario) (server : Server) : Type 0 where
   pub first : List ℕ
   pub second : List ℕ
@@ -120,14 +120,14 @@ pub record Holds {D : Type 0} (state : D → DiskState) (shelf : ShelfState D) (
 abbrev pub AreUnused : {D : Type 0} → ShelfState D → List Server → Type 0
 AreUnused {D} shelf servers = AllByRecursion (λ v. ((d : D) → ¬ shelf.given_back v.name d) × ((d : D) → ¬ shelf.given_back (second_name v.name) d)) servers
 
--- the disks of each node stand for its records; the blank ones of an unused shelf do so for none
+-- the disks of each node tell that they stand for its records; blank ones of an unused shelf do so for none
 abbrev pub HoldAll : {D : Type 0} → (D → DiskState) → ShelfState D → Scenario → Held → Type 0
 HoldAll state shelf s held = AllByRecursion (Holds state shelf s) (servers_of s held)
 
--- each shelf that was never used for the nodes of a scenario gives them disks that hold no record
+-- each shelf that was never used for the nodes of a scenario gives them disks that hold no record, where blank ones tell their bytes
 abbrev pub UnusedHoldNone : {D S : Type 0} → (D → DiskState) → (S → ShelfState D) → Type 0
 UnusedHoldNone {S = S} state seen =
-    (shelf : S) (s : Scenario) → IsRunnable s → AreUnused (seen shelf) (servers_of s none_held) → HoldAll state (seen shelf) s none_held
+    (shelf : S) (s : Scenario) → IsRunnable s → BlanksTell state s.disk → AreUnused (seen shelf) (servers_of s none_held) → HoldAll state (seen shelf) s none_held
 
 -- ---- disks
 
@@ -163,7 +163,7 @@ pub record IsNewCoordinator {D : Type 0} (state : D → DiskState) (shelf : Shel
   pub stands : (held : Held) → Holds state shelf s (coordinator_server s held) → AreTold (coordinator.disks_of state c) → coordinator.StandsAs state c (coordinator_role s held) []
   pub lies : (held : Held) → Holds state shelf s (coordinator_server s held) → AreTold (coordinator.disks_of state c)
       → coordinator.LiesAs state c (coordinator_role s held) (held.starts place.Tc) s.disk []
-  pub told : AllTell state → AreTold (coordinator.disks_of state c)
+  pub told : (held : Held) → Holds state shelf s (coordinator_server s held) → AreTold (coordinator.disks_of state c)
   pub sized : HaveSize s.disk (coordinator.disks_of state c)
   pub steps : coordinator.steps_left c ≡ NODE_STEPS
   pub early : coordinator.start_of c ≤ LATEST_START
@@ -174,7 +174,7 @@ pub record IsNewResource {D : Type 0} (state : D → DiskState) (shelf : ShelfSt
   pub stands : (held : Held) → Holds state shelf s (resource_server s held (n, def)) → AreTold (shown.disks_of state r) → resource.StandsAs state r (resource_role s held n def) []
   pub lies : (held : Held) → Holds state shelf s (resource_server s held (n, def)) → AreTold (shown.disks_of state r)
       → resource.LiesAs state r (resource_role s held n def) (held.starts (place.Res n)) s.disk []
-  pub told : AllTell state → AreTold (shown.disks_of state r)
+  pub told : (held : Held) → Holds state shelf s (resource_server s held (n, def)) → AreTold (shown.disks_of state r)
   pub sized : HaveSize s.disk (shown.disks_of state r)
   pub at : shown.stands_at r ≡ place.Res n
   pub steps : shown.steps_left r ≡ NODE_STEPS

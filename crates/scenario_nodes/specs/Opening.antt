@@ -27,7 +27,7 @@ use Rattle.node_steps.specs.Promises.{BootHasNoPlace, place_of}
 use Rattle.node_seat.specs.declared.faults.RunFault.{RunFault}
 use Rattle.node_seat.specs.declared.faults.RunFault.TheVariants as fault
 use Rattle.scenario_nodes.specs.Nodes.{HaveSize, Held, Holds, Server, store_setting}
-use Rattle.scenario_nodes.specs.Shelves.{AllTell, AreGivenBack, AreNext, HasBoth, IsGivenIn, pair_of, second_name}
+use Rattle.scenario_nodes.specs.Shelves.{AreGivenBack, AreNext, HasBoth, IsGivenIn, pair_of, second_name}
 
 -- a disk wasn't had for the node at a place: the shelf failed, or memory was refused
 abbrev pub IsShelfFault : {D : Type 0} → Place → (old new : ShelfState D) → RunFault → Type 0
@@ -67,10 +67,14 @@ IsOpenFault v bytes disks (fault.Damaged at second offset) = ⊥
 IsOpenFault v bytes disks fault.Other = ⊥
 IsOpenFault v bytes disks fault.NoMemory = Unit {0}
 
--- The two disks of the node at a place counted a fault, whatever they tell; said of a failure alone.
-abbrev pub HaveCounted : Place → (disks : Pair) → RunFault → Type 0
-HaveCounted at disks (fault.Store place) = (place ≡ at) × (1 ≤ own_faults disks)
-HaveCounted at disks _ = Unit {0}
+-- Why the node at a place wasn't opened on its two disks, whatever they tell: they failed and counted a fault, its boot has no place, or they
+-- are damaged; or memory was refused.
+abbrev pub IsItsFault : Place → (disks : Pair) → RunFault → Type 0
+IsItsFault at disks (fault.Store place) = (place ≡ at) × (1 ≤ own_faults disks)
+IsItsFault at disks (fault.Full place full) = place ≡ at
+IsItsFault at disks (fault.Damaged place second offset) = place ≡ at
+IsItsFault at disks fault.Other = ⊥
+IsItsFault at disks fault.NoMemory = Unit {0}
 
 -- these bytes of the two disks of a node are damaged, there
 abbrev pub HaveDamage : Scenario → Role → (a b : List ℕ) → OpenError → Type 0
@@ -111,16 +115,16 @@ pub record IsNotHad {D : Type 0} (state : D → DiskState) (bytes : ℕ) (at : P
   pub first : IsUntouched old new name ⊎ IsBackTaken state bytes old new name
   pub second : IsUntouched old new (second_name name)
 
--- Both were taken and given back. They counted a fault if they failed. Where they tell their bytes they are damaged where these are, and show
--- the rest where these stand for the node's records.
+-- Both were taken and given back. Whatever they tell, the fault is one of theirs, and counted if they failed. They are damaged where the bytes
+-- are that they told, and show the rest where these stand for the node's records.
 pub record IsReturned {D : Type 0} (state : D → DiskState) (s : Scenario) (old new : ShelfState D) (v : Server) (missed : RunFault) : Type 0 where
   pub disks : D × D
   pub taken : HasBoth new v.name
   pub back : AreGivenBack old new v.name disks
   pub sized : HaveSize s.disk (pair_of state disks)
-  pub counted : HaveCounted (place_of v.role) (pair_of state disks) missed
-  pub damaged : AllTell state → IsDamageOn state old s v missed
-  pub unopened : AllTell state → Holds state old s v → IsUnopened v s.disk (pair_of state disks) missed
+  pub blames : IsItsFault (place_of v.role) (pair_of state disks) missed
+  pub damaged : IsDamageOn state old s v missed
+  pub unopened : Holds state old s v → IsUnopened v s.disk (pair_of state disks) missed
 
 -- a node wasn't opened: its disks weren't had, or were given back
 abbrev pub IsNotOpened : {D : Type 0} → (D → DiskState) → Scenario → (old new : ShelfState D) → Server → RunFault → Type 0
@@ -128,13 +132,13 @@ IsNotOpened state s old new v missed = IsNotHad state s.disk (place_of v.role) o
 
 -- ---- all nodes with disks
 
--- what a node's disks show: so many bytes, and where every disk tells its own and they stood for the node's records, no other one
+-- what a node's disks show: so many bytes, and where they told that they stood for the node's records, no other one
 abbrev pub ShowNoRecord : {D : Type 0} → (D → DiskState) → Scenario → (old : ShelfState D) → Server → D × D → Type 0
-ShowNoRecord state s old v disks = HaveSize s.disk (pair_of state disks) × (AllTell state → Holds state old s v → HaveNoRecord v.role (pair_of state disks))
+ShowNoRecord state s old v disks = HaveSize s.disk (pair_of state disks) × (Holds state old s v → HaveNoRecord v.role (pair_of state disks))
 
 -- or the records of a node that made no entry: a resource's boot on those of before
 abbrev pub ShowNoEntry : {D : Type 0} → (D → DiskState) → Scenario → (old : ShelfState D) → Server → D × D → Type 0
-ShowNoEntry state s old v disks = HaveSize s.disk (pair_of state disks) × (AllTell state → Holds state old s v → AreNodeDisks v.role [] (pair_of state disks) × HaveNoEntry v.role (pair_of state disks))
+ShowNoEntry state s old v disks = HaveSize s.disk (pair_of state disks) × (Holds state old s v → AreNodeDisks v.role [] (pair_of state disks) × HaveNoEntry v.role (pair_of state disks))
 
 -- both disks of a node were taken and given back, and show something of it
 pub record IsBack {D : Type 0} (Show : Server → D × D → Type 0) (old new : ShelfState D) (v : Server) : Type 0 where
@@ -151,9 +155,9 @@ IsLoadFault at disks _ = ⊥
 
 -- why a node wasn't loaded, as its disks show it, which were given back
 pub record ShowsUnread {D : Type 0} (state : D → DiskState) (s : Scenario) (old : ShelfState D) (missed : RunFault) (v : Server) (disks : D × D) : Type 0 where
-  pub counted : HaveCounted (place_of v.role) (pair_of state disks) missed
-  pub damaged : AllTell state → IsDamageOn state old s v missed
-  pub cause : AllTell state → Holds state old s v → IsLoadFault (place_of v.role) (pair_of state disks) missed
+  pub blames : IsItsFault (place_of v.role) (pair_of state disks) missed
+  pub damaged : IsDamageOn state old s v missed
+  pub cause : Holds state old s v → IsLoadFault (place_of v.role) (pair_of state disks) missed
   pub unwritten : ShowNoRecord state s old v disks
 
 -- a node wasn't loaded: its disks weren't had, or couldn't be read

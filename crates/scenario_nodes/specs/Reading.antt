@@ -3,7 +3,7 @@ use Rattle.std.specs.Prelude.{◌≡◌, ◌⊎◌, ℕ, List, [], ◌∷◌, ma
 use Rattle.std.specs.declared.alloc.Global.{Global}
 use Rattle.std.specs.List.{AllByRecursion}
 use Rattle.disk_model.specs.Disk.{DiskState, IsSettled, Rose, present}
-use Rattle.disk_model.specs.Shelf.{KeepsOthers, ShelfState, TakenAs}
+use Rattle.disk_model.specs.Shelf.{KeepsOthers, ShelfState}
 use Rattle.disk_journal.specs.Keeping.{OnlyReads}
 use Rattle.memory_store.specs.Keeping.{IsNotFull}
 use Rattle.memory_store.specs.Settling.{IsNoDamage}
@@ -30,7 +30,7 @@ use Rattle.node_seat.specs.Faults.{open_fault}
 use Rattle.scenario_nodes.specs.declared.reading.Memories.{Memories}
 use Rattle.scenario_nodes.specs.Nodes.{Held, HoldAll, Holds, Server, StandAs, coordinator_server, resource_server, resource_servers, server_names, servers_of, store_setting}
 use Rattle.scenario_nodes.specs.Opening.{HaveDamage, IsBack, IsDamageOf, IsNotLoaded, ShowNoRecord, StopsLoading}
-use Rattle.scenario_nodes.specs.Shelves.{AllTell, AreNext, IsDiskName, ReturnsAll}
+use Rattle.scenario_nodes.specs.Shelves.{AreNext, IsDiskName, IsNext, ReturnsAll}
 use Rattle.scenario_nodes.specs.Together.{AreEach, IsOfOne, numbered}
 
 -- ---- what was read
@@ -107,19 +107,19 @@ told_at at (Err e) = Err (open_fault at e)
 -- Both disks of a node were taken, read and given back: they show no new record, and the shelf gives next the bytes that it gave before.
 pub record IsReadBack {D : Type 0} (state : D → DiskState) (s : Scenario) (old new : ShelfState D) (v : Server) : Type 0 where
   pub back : IsBack (ShowNoRecord state s old) old new v
-  pub next : AllTell state → (a b : List ℕ) → AreNext state old s.disk v.name a b → AreNext state new s.disk v.name a b
+  pub next : (a b : List ℕ) → AreNext state old s.disk v.name a b → AreNext state new s.disk v.name a b
 
--- Under each name a shelf gives next the bytes of a disk that it gave before, where every disk tells its own; and of a disk that was given
--- back there since, a crash leaves no others.
-pub record GivesStill {D : Type 0} (state : D → DiskState) (bytes : ℕ) (old new : ShelfState D) : Type 0 where
-  pub next : AllTell state → (name x : List ℕ) → TakenAs state (old.given_back name) bytes x → TakenAs state (new.given_back name) bytes x
+-- Under each name a shelf gives next the bytes of a disk that it gave before, where that tells them; and of a disk that was given back there
+-- since, a crash leaves no others.
+pub record GivesStill {D : Type 0} (state : D → DiskState) (size : ℕ) (old new : ShelfState D) : Type 0 where
+  pub next : (name x : List ℕ) → IsNext state old size name x → IsNext state new size name x
   pub settled : (name : List ℕ) (d : D) → new.given_back name d → old.given_back name d ⊎ IsSettled (state d)
 
--- The disks of the node with a name were read so, and no damage stands in them where they tell; or they weren't had, or couldn't be read,
+-- The disks of the node with a name were read so, and no damage stands in what they tell; or they weren't had, or couldn't be read,
 -- and were given back.
 pub record ReadsNode {D K : Type 0} (state : D → DiskState) (s : Scenario) (name : List ℕ) (server : Held → Server) (Says : Held → K → Type 0) (old new : ShelfState D) (result : Result K RunFault) : Type 0 where
-  pub says : IfOk result (λ memory. AllTell state → (held : Held) → Holds state old s (server held) → Says held memory)
-  pub sound : OnOk result (AllTell state → (held : Held) → IsSound state old s (server held))
+  pub says : IfOk result (λ memory. (held : Held) → Holds state old s (server held) → Says held memory)
+  pub sound : OnOk result ((held : Held) → IsSound state old s (server held))
   pub back : OnOk result ((held : Held) → IsReadBack state s old new (server held))
   pub refused : IfErr result (λ missed. (held : Held) → IsNotLoaded state s old new (server held) missed)
   pub cause : IfErr result (λ missed. (held : Held) → IsReadFault (server held ∷ []) missed)
@@ -130,8 +130,8 @@ pub record ReadsNode {D K : Type 0} (state : D → DiskState) (s : Scenario) (na
 -- The same of several nodes with these names, one after the other. Where one isn't read those before it were, and those behind it weren't
 -- asked for.
 pub record ReadsNodes {D K : Type 0} (state : D → DiskState) (s : Scenario) (names : List (List ℕ)) (servers : Held → List Server) (Says : Held → K → Type 0) (old new : ShelfState D) (result : Result K RunFault) : Type 0 where
-  pub says : IfOk result (λ memories. AllTell state → (held : Held) → AllByRecursion (Holds state old s) (servers held) → Says held memories)
-  pub sound : OnOk result (AllTell state → (held : Held) → AllByRecursion (IsSound state old s) (servers held))
+  pub says : IfOk result (λ memories. (held : Held) → AllByRecursion (Holds state old s) (servers held) → Says held memories)
+  pub sound : OnOk result ((held : Held) → AllByRecursion (IsSound state old s) (servers held))
   pub back : OnOk result ((held : Held) → AllByRecursion (IsReadBack state s old new) (servers held))
   pub refused : IfErr result (λ missed. (held : Held) → StopsLoading state s (servers held) old new missed)
   pub cause : IfErr result (λ missed. (held : Held) → IsReadFault (servers held) missed)
@@ -155,4 +155,4 @@ ReadsServers state s old new result = ReadsNodes state s (server_names s) (serve
 
 -- the disks of all nodes hold what they held
 abbrev pub HoldStill : {D : Type 0} → (D → DiskState) → Scenario → (old new : ShelfState D) → Type 0
-HoldStill state s old new = AllTell state → (held : Held) → HoldAll state old s held → HoldAll state new s held
+HoldStill state s old new = (held : Held) → HoldAll state old s held → HoldAll state new s held

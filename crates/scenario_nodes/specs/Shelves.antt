@@ -1,7 +1,7 @@
 -- The two disks of a node on a shelf.
 use Rattle.std.specs.Prelude.{◌≡◌, ◌⊎◌, ◌++◌, ℕ, IsTrue, IsSome, List, codes}
 use Rattle.disk_model.specs.Disk.{DiskState, Rose}
-use Rattle.disk_model.specs.Shelf.{IsGivenBack, IsTaken, ShelfState, TakenAs}
+use Rattle.disk_model.specs.Shelf.{IsBlank, IsGivenBack, IsTaken, ShelfState, TakenAs}
 use Rattle.disk_model.specs.Stop.{with_stop}
 use Rattle.disk_model.specs.declared.stoppable.Stop.TheVariants.{Off}
 use Rattle.journal_checkpoint.specs.Images.{Pair}
@@ -30,9 +30,9 @@ unstopped disk = with_stop Off 0 disk
 abbrev pub pair_of : {D : Type 0} → (D → DiskState) → D × D → Pair
 pair_of state disks = record { first = unstopped (state disks.0); second = unstopped (state disks.1) }
 
--- every disk of a kind tells its bytes
-abbrev pub AllTell : {D : Type 0} → (D → DiskState) → Type 0
-AllTell {D} state = (disk : D) → IsSome (state disk).content
+-- each blank disk of so many bytes tells them
+abbrev pub BlanksTell : {D : Type 0} → (D → DiskState) → (size : ℕ) → Type 0
+BlanksTell {D} state size = (disk : D) → IsBlank size (state disk) → IsSome (state disk).content
 
 -- ---- on a shelf
 
@@ -46,6 +46,10 @@ pub record IsGivenIn {D : Type 0} (old new : ShelfState D) (name : List ℕ) (di
   pub back : IsGivenBack new name disk
   pub counted : IsTrue old.tells → Rose (old.gives name) (new.gives name)
 
+-- each disk that was given back in a call tells its bytes
+abbrev pub BackTell : {D : Type 0} → (D → DiskState) → (old new : ShelfState D) → Type 0
+BackTell {D} state old new = (name : List ℕ) (disk : D) → IsGivenIn old new name disk → IsSome (state disk).content
+
 -- both disks of a node were given back in a call, and no other ones
 pub record AreGivenBack {D : Type 0} (old new : ShelfState D) (name : List ℕ) (disks : D × D) : Type 0 where
   pub first : IsGivenIn old new name disks.0
@@ -56,10 +60,16 @@ pub record AreTaken {D : Type 0} (state : D → DiskState) (shelf : ShelfState D
   pub first : IsTaken state (shelf.given_back name) bytes (state disks.0)
   pub second : IsTaken state (shelf.given_back (second_name name)) bytes (state disks.1)
 
--- the two disks of a node that a shelf gives next have these bytes
-pub record AreNext {D : Type 0} (state : D → DiskState) (shelf : ShelfState D) (bytes : ℕ) (name a b : List ℕ) : Type 0 where
-  pub first : TakenAs state (shelf.given_back name) bytes a
-  pub second : TakenAs state (shelf.given_back (second_name name)) bytes b
+-- The disk that a shelf gives next under a name has these bytes, and tells them, whichever it is. One that was given back there does so by
+-- itself; a blank one is any.
+pub record IsNext {D : Type 0} (state : D → DiskState) (shelf : ShelfState D) (size : ℕ) (name bytes : List ℕ) : Type 0 where
+  pub has : TakenAs state (shelf.given_back name) size bytes
+  pub tells : (disk : D) → IsTaken state (shelf.given_back name) size (state disk) → IsSome (state disk).content
+
+-- the two disks of a node that a shelf gives next have these bytes, and tell them
+pub record AreNext {D : Type 0} (state : D → DiskState) (shelf : ShelfState D) (size : ℕ) (name a b : List ℕ) : Type 0 where
+  pub first : IsNext state shelf size name a
+  pub second : IsNext state shelf size (second_name name) b
 
 -- ---- each disk that was taken is given back
 

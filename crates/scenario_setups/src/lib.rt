@@ -1,5 +1,5 @@
 //! What a resource of a scenario is, beside its tables: the TCC actions of all calls of it, and its local transactions, each behind its
-//! numbers. The judge of its histories is set up by this.
+//! numbers. Its node is set up by this, and so is the judge of its histories.
 #![tactic(auto)]
 
 mod setups;

@@ -1,6 +1,7 @@
 //! What a step did. Durable acts are those that a journal keeps.
 ghost use Rattle.std.specs.Prelude.{◌≡◌, IfOk};
 
+use crate::boxes::Boxed;
 use crate::copies::{Duplicate, NoMemory};
 use crate::errors::{StmtError, Why};
 use crate::ids::{BranchId, Ticket, Xid};
@@ -185,9 +186,9 @@ pub enum Act {
     Dirty {
         xid: Xid,
         branch: BranchId,
-        key: RowKey,
-        after: Option<Row>,
-        now: Option<Row>,
+        key: Boxed<RowKey>,
+        after: Boxed<Option<Row>>,
+        now: Boxed<Option<Row>>,
     },
     Already {
         xid: Xid,
@@ -253,13 +254,16 @@ pub enum Act {
     },
 }
 
+// A dirty row's key, and the row as it should be and as it is.
+type DirtyRow = (Boxed<RowKey>, Boxed<Option<Row>>, Boxed<Option<Row>>);
+
 /// Copies of a dirty row's key, and of the row as it should be and as it is.
 fn dirty_row(
     alloc: Global,
-    key: &RowKey,
-    after: &Option<Row>,
-    now: &Option<Row>,
-) -> Result<(RowKey, Option<Row>, Option<Row>), NoMemory>
+    key: &Boxed<RowKey>,
+    after: &Boxed<Option<Row>>,
+    now: &Boxed<Option<Row>>,
+) -> Result<DirtyRow, NoMemory>
     ensures { IfOk result (λ copied. copied ≡ (key.now, after.now, now.now)) }
 {
     Ok((key.copy(alloc)?, after.copy(alloc)?, now.copy(alloc)?))

@@ -1,5 +1,6 @@
 //! Why a statement, a call, an opening, a store or a node answers otherwise than asked.
 use crate::acts::Durable;
+use crate::boxes::Boxed;
 use crate::copies::{Duplicate, NoMemory};
 use crate::ids::Xid;
 use crate::rows::RowKey;
@@ -15,8 +16,8 @@ pub enum StmtError {
     KeyChanged,
     TypeMismatch,
     TooManyRows,
-    Overflow { key: RowKey },
-    Duplicate { key: RowKey },
+    Overflow { key: Boxed<RowKey> },
+    Duplicate { key: Boxed<RowKey> },
     TableFull,
 }
 

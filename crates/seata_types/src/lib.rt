@@ -4,6 +4,7 @@
 #![tactic(auto)]
 
 pub mod acts;
+pub mod boxes;
 pub mod conditions;
 pub mod copies;
 pub mod errors;
@@ -18,6 +19,7 @@ pub mod statuses;
 pub mod texts;
 
 pub use acts::{Act, Durable};
+pub use boxes::Boxed;
 pub use conditions::{Cond, CondNode, Op};
 pub use copies::{Duplicate, NoMemory};
 pub use errors::{Full, NodeError, OpenError, StmtError, StoreError, Why};

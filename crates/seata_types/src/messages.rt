@@ -1,5 +1,6 @@
 //! The messages between managers, coordinator and resources, and what a step takes and gives.
 use crate::acts::Act;
+use crate::boxes::Boxed;
 use crate::copies::{Duplicate, NoMemory};
 use crate::errors::Why;
 use crate::ids::{BranchId, Place, Ticket, Xid};
@@ -312,9 +313,16 @@ impl Duplicate for Message {
 #[derive(Drop)]
 pub enum Input {
     Turn,
-    Message { from: Place, message: Message },
-    Local { number: u16 },
-    Outside { number: u16 },
+    Message {
+        from: Place,
+        message: Boxed<Message>,
+    },
+    Local {
+        number: u16,
+    },
+    Outside {
+        number: u16,
+    },
 }
 
 impl Duplicate for Input {

@@ -1,7 +1,8 @@
--- The transaction of each AT branch, beside a snapshot.
-use Rattle.std.proofs.Common.{◌≡◌, ◌==◌, ◌&&◌, ◌<◌, ◌≤◌, ℕ, Bool, true, false, cond, if◌then◌else◌, List, [], ◌∷◌, length, drop, max, Option, Some, None, Ordering, Less, Equal, Greater, refl, sym, ap, subst, ◌∙◌, arith}
+-- The AT branch of each ticket, beside a snapshot.
+use Rattle.std.proofs.Common.{◌≡◌, ◌==◌, ◌&&◌, ◌||◌, ◌<◌, ◌≤◌, ℕ, zero, suc, get_or, Bool, true, false, cond, if◌then◌else◌, List, [], ◌∷◌, length, drop, Option, Some, None, Ordering, Less, Equal, Greater, refl, sym, ap, subst, ◌∙◌, arith}
 use Rattle.std.specs.Prelude.{find, option_map, Result, Ok, Err, OnOk, OnErr}
 use Rattle.std.specs.BTreeMap.{insert_entry, is_at as is_at_key}
+use Rattle.std.specs.List.{list_any}
 use Rattle.std.specs.Map.{lookup, remove_entry}
 use Rattle.std.specs.Ordering.{nat_cmp, ordering_then, match_ordering, is_eq}
 use Rattle.std.proofs.lemmas.Bool.Decides.{nat_tests}
@@ -18,15 +19,16 @@ use Rattle.session_log.specs.declared.sessions.Branch.{Branch}
 use Rattle.session_log.specs.declared.sessions.SessionEntry.{SessionEntry}
 use Rattle.session_log.specs.declared.sessions.Snapshot.{Snapshot}
 use Rattle.session_log.specs.Soundness.{entry_xid, is_at_branch}
-use Rattle.session_memory.specs.Lookups.{or_else, has_xid, session_of, branches_or_none, branches_in, leg_of, has_ticket, leg_with, first_leg}
+use Rattle.session_memory.specs.Lookups.{or_else, has_xid, session_of, branches_or_none, branches_in, leg_of, has_number, has_ticket, is_with, leg_with, first_leg}
 use Rattle.seata_types.specs.declared.statuses.BranchKind.{BranchKind}
 use Rattle.seata_types.specs.declared.statuses.BranchKind.TheVariants as kind
 use Rattle.session_memory.specs.Changes.{is_new, with_branch, with_ended, turned, changed, without, begun_entry, xid_in, with_turned, with_registered, after}
-use Rattle.session_memory.specs.Order.{Each, AreAbove, AreRising}
-use Rattle.session_memory.specs.Owners.{ticket_order, Owners, owner_of, IsOwned, EachOwned, AreOwned, KeepsOthers, OthersStay, leg_xid, first_owner, owner_among, Takes, most_branches}
+use Rattle.session_memory.specs.Order.{Each, AreAbove, AreRising, branch_number}
+use Rattle.session_memory.specs.Owners.{ticket_order, Owners, owned_leg, leg_xid, owner_of, IsOwned, EachOwned, AreOwned, KeepsOthers, OthersStay, first_owned, owned_among, Takes}
 use Rattle.session_memory.proofs.Small.{cmp_is, and_left, and_right, same_nat, nat_same, none_some, true_false, false_true, differ, is_none_none}
 use Rattle.session_memory.proofs.Lists.{each_all, each_same, each_pair, each_both, find_missing, or_none}
 use Rattle.session_memory.proofs.KeptLaws.{each_changed, each_without}
+use Rattle.session_memory.proofs.PlaceLaws.{IsFirst}
 
 -- ---- keys
 
@@ -74,20 +76,20 @@ is_equal Greater e = cc
 
 -- ---- a map after an insertion and a removal
 
-module _ (q k : TicketKey) (x : Xid) where
-  same_there : (b c : Bool) (y : Xid) (rest : Option Xid) → c ≡ b → cond c (Some x) rest ≡ cond b (Some x) (cond c (Some y) rest)
+module _ (q k : TicketKey) (x : Leg) where
+  same_there : (b c : Bool) (y : Leg) (rest : Option Leg) → c ≡ b → cond c (Some x) rest ≡ cond b (Some x) (cond c (Some y) rest)
   same_there true true y rest is = refl
   same_there false false y rest is = refl
   same_there true false y rest is = cc
   same_there false true y rest is = cc
 
-  further : (b c : Bool) (y : Xid) (new rest : Option Xid) → (b ≡ true → c ≡ true → ⊥) → new ≡ cond b (Some x) rest → cond c (Some y) new ≡ cond b (Some x) (cond c (Some y) rest)
+  further : (b c : Bool) (y : Leg) (new rest : Option Leg) → (b ≡ true → c ≡ true → ⊥) → new ≡ cond b (Some x) rest → cond c (Some y) new ≡ cond b (Some x) (cond c (Some y) rest)
   further true true y new rest apart is = absurd (apart refl refl)
   further true false y new rest apart is = is
   further false true y new rest apart is = refl
   further false false y new rest apart is = is
 
-  inserted_by : (e : TicketKey × Xid) (os rest : Owners) (o : Ordering) → ticket_order k e.0 ≡ o → lookup (is_at_key (ticket_order q)) rest ≡ cond (is_eq (ticket_order q k)) (Some x) (lookup (is_at_key (ticket_order q)) os) →
+  inserted_by : (e : TicketKey × Leg) (os rest : Owners) (o : Ordering) → ticket_order k e.0 ≡ o → lookup (is_at_key (ticket_order q)) rest ≡ cond (is_eq (ticket_order q k)) (Some x) (lookup (is_at_key (ticket_order q)) os) →
       lookup (is_at_key (ticket_order q)) (match_ordering o ((k, x) ∷ e ∷ os) ((e.0, x) ∷ os) (e ∷ rest)) ≡ cond (is_eq (ticket_order q k)) (Some x) (lookup (is_at_key (ticket_order q)) (e ∷ os))
   inserted_by e os rest Less is below = refl
   inserted_by e os rest Equal is below =
@@ -102,12 +104,12 @@ module _ (q k : TicketKey) (x : Xid) where
   inserted [] = refl
   inserted (e ∷ os) = inserted_by e os (insert_entry ticket_order os k x) (ticket_order k e.0) refl (inserted os)
 
-removed_by : (q : TicketKey) (b c : Bool) (y : Xid) (new old : Option Xid) → (b ≡ true → c ≡ false) → new ≡ old → (if b then old else cond c (Some y) new) ≡ cond c (Some y) old
+removed_by : (q : TicketKey) (b c : Bool) (y : Leg) (new old : Option Leg) → (b ≡ true → c ≡ false) → new ≡ old → (if b then old else cond c (Some y) new) ≡ cond c (Some y) old
 removed_by q true true y new old apart is = absurd (true_false (apart refl))
 removed_by q true false y new old apart is = refl
-removed_by q false c y new old apart is = ap (λ (o : Option Xid). cond c (Some y) o) is
+removed_by q false c y new old apart is = ap (λ (o : Option Leg). cond c (Some y) o) is
 
-look_by : (q : TicketKey) (b : Bool) (e : TicketKey × Xid) (os rest : Owners) →
+look_by : (q : TicketKey) (b : Bool) (e : TicketKey × Leg) (os rest : Owners) →
     lookup (is_at_key (ticket_order q)) (cond b os (e ∷ rest)) ≡ (if b then lookup (is_at_key (ticket_order q)) os else cond (is_eq (ticket_order q e.0)) (Some e.1) (lookup (is_at_key (ticket_order q)) rest))
 look_by q true e os rest = refl
 look_by q false e os rest = refl
@@ -143,21 +145,22 @@ at_other false here is e = cc
 
 module _ (old : Owners) (x : Xid) (b : Branch) where
   abbrev with_key : Owners
-  with_key = insert_entry ticket_order old (record { resource = b.place.resource; ticket = b.place.ticket }) x
+  with_key = insert_entry ticket_order old (record { resource = b.place.resource; ticket = b.place.ticket }) (leg_of x b)
 
   put_owned : (new : Owners) → new ≡ with_key → IsOwned new x b
   put_owned new is at =
       let k : TicketKey = record { resource = b.place.resource; ticket = b.place.ticket } in
-      ap (λ (os : Owners). owner_of os b.place.resource b.place.ticket) is ∙ inserted k k x old ∙ ap (λ (c : Bool). cond c (Some x) (lookup (is_at_key (ticket_order k)) old)) (key_itself k)
+      ap (λ (os : Owners). owned_leg os b.place.resource b.place.ticket) is ∙ inserted k k (leg_of x b) old
+      ∙ ap (λ (c : Bool). cond c (Some (leg_of x b)) (lookup (is_at_key (ticket_order k)) old)) (key_itself k)
 
   put_others : (new : Owners) → is_at_branch b ≡ true → new ≡ with_key → KeepsOthers b old new
   put_others new at is resource t other =
       let k : TicketKey = record { resource = b.place.resource; ticket = b.place.ticket } in
       let q : TicketKey = record { resource = resource; ticket = t } in
-      ap (λ (os : Owners). owner_of os resource t) is ∙ inserted q k x old
-      ∙ ap (λ (c : Bool). cond c (Some x) (lookup (is_at_key (ticket_order q)) old)) (key_equal q k ∙ at_other (is_at_branch b) ((b.place.resource == resource) && same_ticket b.place.ticket t) at other)
+      ap (λ (os : Owners). owned_leg os resource t) is ∙ inserted q k (leg_of x b) old
+      ∙ ap (λ (c : Bool). cond c (Some (leg_of x b)) (lookup (is_at_key (ticket_order q)) old)) (key_equal q k ∙ at_other (is_at_branch b) ((b.place.resource == resource) && same_ticket b.place.ticket t) at other)
 
-pub put_at : (old new : Owners) (x : Xid) (b : Branch) → is_at_branch b ≡ true → new ≡ insert_entry ticket_order old (record { resource = b.place.resource; ticket = b.place.ticket }) x → IsOwned new x b × KeepsOthers b old new
+pub put_at : (old new : Owners) (x : Xid) (b : Branch) → is_at_branch b ≡ true → new ≡ insert_entry ticket_order old (record { resource = b.place.resource; ticket = b.place.ticket }) (leg_of x b) → IsOwned new x b × KeepsOthers b old new
 put_at old new x b at is = (put_owned old x b new is, put_others old x b new at is)
 
 pub not_at : (os : Owners) (x : Xid) (b : Branch) → is_at_branch b ≡ false → IsOwned os x b
@@ -165,16 +168,16 @@ not_at os x b other at = false_true (sym other ∙ at)
 
 -- ---- tickets that are given up
 
-other_key : (k q : TicketKey) (os : Owners) (x y : Xid) → is_holder (owner_of os k.resource k.ticket) x ≡ true → (y.0 == x.0) ≡ false → owner_of os q.resource q.ticket ≡ Some y → (c : Bool) → is_eq (ticket_order q k) ≡ c → c ≡ false
-other_key k q os x y holds other of true is =
+other_key : (k q : TicketKey) (os : Owners) (x : Xid) (leg : Leg) → is_holder (owner_of os k.resource k.ticket) x ≡ true → (leg.xid.0 == x.0) ≡ false → owned_leg os q.resource q.ticket ≡ Some leg → (c : Bool) → is_eq (ticket_order q k) ≡ c → c ≡ false
+other_key k q os x leg holds other of true is =
     let same : q ≡ k = key_is q k is in
-    absurd (false_true (sym other ∙ ap (λ (o : Option Xid). is_holder o x) (sym of) ∙ ap (λ (z : TicketKey). is_holder (owner_of os z.resource z.ticket) x) same ∙ holds))
-other_key k q os x y holds other of false is = refl
+    absurd (false_true (sym other ∙ ap (λ (o : Option Leg). is_holder (option_map leg_xid o) x) (sym of) ∙ ap (λ (z : TicketKey). is_holder (owner_of os z.resource z.ticket) x) same ∙ holds))
+other_key k q os x leg holds other of false is = refl
 
 pub dropped : (old new : Owners) (x : Xid) (k : TicketKey) → is_holder (owner_of old k.resource k.ticket) x ≡ true → new ≡ remove_entry (is_at_key (ticket_order k)) old → OthersStay x old new
-dropped old new x k holds is resource t y other of =
+dropped old new x k holds is resource t leg other of =
     let q : TicketKey = record { resource = resource; ticket = t } in
-    ap (λ (os : Owners). owner_of os resource t) is ∙ removed q k (other_key k q old x y holds other of (is_eq (ticket_order q k)) refl) old ∙ of
+    ap (λ (os : Owners). owned_leg os resource t) is ∙ removed q k (other_key k q old x leg holds other of (is_eq (ticket_order q k)) refl) old ∙ of
 
 -- ---- a record
 
@@ -229,7 +232,7 @@ no_other x (e ∷ es) r = without_by x (e.xid.0 == x) e es (without x es) refl (
 
 stays_owned : (x : Xid) (old new : Owners) → OthersStay x old new → (e : SessionEntry) → (EachOwned old e) × ((e.xid.0 == x.0) ≡ false) → EachOwned new e
 stays_owned x old new stay e both =
-    each_same (IsOwned old e.xid) (IsOwned new e.xid) (λ b owned at. stay b.place.resource b.place.ticket e.xid both.1 (owned at)) e.session.branches both.0
+    each_same (IsOwned old e.xid) (IsOwned new e.xid) (λ b owned at. stay b.place.resource b.place.ticket (leg_of e.xid b) both.1 (owned at)) e.session.branches both.0
 
 pub forgot_owned : (x : Xid) (old new : Owners) (s : Snapshot) → OthersStay x old new → AreRising entry_xid s.sessions → AreOwned old s.sessions → AreOwned new (after (log.Forgot x) s).sessions
 forgot_owned x old new s stay rising each =
@@ -326,10 +329,14 @@ new_apart nb s x new = apart_by_kind nb.place.kind nb s x refl new
 -- ---- a look-up
 
 module _ (os : Owners) (resource : ℕ) (t : Ticket) where
-  not_its_by : (y : Xid) (b : Branch) → IsOwned os y b → (owner_of os resource t ≡ Some y → ⊥) → (c : Bool) → has_ticket resource t b ≡ c → c ≡ false
-  not_its_by y b owned other true is =
+  -- the branch of a ticket is the one that is kept
+  owned_is : (y : Xid) (b : Branch) → IsOwned os y b → has_ticket resource t b ≡ true → owned_leg os resource t ≡ Some (leg_of y b)
+  owned_is y b owned is =
       let key = has_key resource t b is in
-      absurd (other (ap (λ (n : ℕ). owner_of os n t) (sym key.1) ∙ ap (λ (u : Ticket). owner_of os b.place.resource u) (sym key.2) ∙ owned key.0))
+      ap (λ (n : ℕ). owned_leg os n t) (sym key.1) ∙ ap (λ (u : Ticket). owned_leg os b.place.resource u) (sym key.2) ∙ owned key.0
+
+  not_its_by : (y : Xid) (b : Branch) → IsOwned os y b → (owner_of os resource t ≡ Some y → ⊥) → (c : Bool) → has_ticket resource t b ≡ c → c ≡ false
+  not_its_by y b owned other true is = absurd (other (ap (λ (o : Option Leg). option_map leg_xid o) (owned_is y b owned is)))
   not_its_by y b owned other false is = refl
 
   not_its : (y : Xid) → (owner_of os resource t ≡ Some y → ⊥) → (bs : List Branch) → Each (IsOwned os y) bs → find (has_ticket resource t) bs ≡ None
@@ -341,55 +348,83 @@ module _ (os : Owners) (resource : ℕ) (t : Ticket) where
   none_of [] each others = refl
   none_of (e ∷ es) each others = rw (not_its e.xid others.0 e.session.branches each.0) (none_of es each.1 others.1)
 
-  pub none_owned : (es : List SessionEntry) → AreOwned os es → owner_of os resource t ≡ None → first_leg (has_ticket resource t) es ≡ None
-  none_owned es each none = none_of es each (each_all (λ (e : SessionEntry). owner_of os resource t ≡ Some e.xid → ⊥) (λ e is. none_some (sym none ∙ is)) es)
+  pub none_owned : (es : List SessionEntry) → AreOwned os es → owned_leg os resource t ≡ None → first_leg (has_ticket resource t) es ≡ None
+  none_owned es each none =
+      none_of es each
+      (each_all (λ (e : SessionEntry). owner_of os resource t ≡ Some e.xid → ⊥) (λ e is. none_some (sym (ap (λ (o : Option Leg). option_map leg_xid o) none) ∙ is)) es)
 
-  module _ (x : Xid) (of : owner_of os resource t ≡ Some x) where
-    its_number : (y : Xid) → owner_of os resource t ≡ Some y → x.0 ≡ y.0
-    its_number y is = let same : Some x ≡ Some y = sym of ∙ is in cc
+  module _ (leg : Leg) (of : owned_leg os resource t ≡ Some leg) where
+    its_number : (y : Xid) → owner_of os resource t ≡ Some y → leg.xid.0 ≡ y.0
+    its_number y is = let same : Some leg.xid ≡ Some y = sym (ap (λ (o : Option Leg). option_map leg_xid o) of) ∙ is in cc
 
-    -- the branches of x, where it is known
+    -- the branches of its transaction, where that is known
     abbrev its_branches : List SessionEntry → List Branch
-    its_branches es = branches_or_none (option_map session_of (find (has_xid x.0) es))
+    its_branches es = branches_or_none (option_map session_of (find (has_xid leg.xid.0) es))
+
+    -- it, where one of these branches is it
+    abbrev it_among : List Branch → Option Leg
+    it_among bs = if list_any (is_with leg.branch.0 resource t) bs then Some leg else None
+
+    among_by : (x : Xid) (c : Branch) (cs : List Branch) (h : Bool) → has_ticket resource t c ≡ h → IsOwned os x c → option_map (leg_of x) (find (has_ticket resource t) cs) ≡ it_among cs →
+        option_map (leg_of x) (cond h (Some c) (find (has_ticket resource t) cs)) ≡ (if ((c.id.0 == leg.branch.0) && h) || list_any (is_with leg.branch.0 resource t) cs then Some leg else None)
+    among_by x c cs true is owned below =
+        let both : Some leg ≡ Some (leg_of x c) = sym of ∙ owned_is x c owned is in
+        let same : leg ≡ leg_of x c = cc in
+        let here : (c.id.0 == leg.branch.0) ≡ true = ap (λ (l : Leg). c.id.0 == l.branch.0) same ∙ nat_same c.id.0 c.id.0 refl in
+        rw here (ap (λ (l : Leg). Some l) (sym same))
+    among_by x c cs false is owned below = rw (and_none (c.id.0 == leg.branch.0)) below
+      where
+        and_none : (b : Bool) → (b && false) ≡ false
+        and_none true = refl
+        and_none false = refl
+
+    among : (x : Xid) (bs : List Branch) → Each (IsOwned os x) bs → option_map (leg_of x) (find (has_ticket resource t) bs) ≡ it_among bs
+    among x [] each = refl
+    among x (c ∷ cs) each = among_by x c cs (has_ticket resource t c) refl each.0 (among x cs each.1)
 
     alone : (found : Option Leg) (o : Option Leg) → o ≡ None → or_else found o ≡ found
     alone None o is = is
-    alone (Some leg) o is = refl
+    alone (Some found) o is = refl
 
-    one_by : (b : Bool) (e : SessionEntry) (es : List SessionEntry) → (e.xid.0 == x.0) ≡ b → EachOwned os e → AreOwned os es → Each (λ (d : SessionEntry). e.xid.0 < d.xid.0) es →
-        first_leg (has_ticket resource t) es ≡ leg_with (has_ticket resource t) x (its_branches es) →
-        or_else (leg_with (has_ticket resource t) e.xid e.session.branches) (first_leg (has_ticket resource t) es)
-        ≡ leg_with (has_ticket resource t) x (branches_or_none (option_map session_of (cond b (Some e) (find (has_xid x.0) es))))
+    one_by : (b : Bool) (e : SessionEntry) (es : List SessionEntry) → (e.xid.0 == leg.xid.0) ≡ b → EachOwned os e → AreOwned os es → Each (λ (d : SessionEntry). e.xid.0 < d.xid.0) es →
+        first_leg (has_ticket resource t) es ≡ it_among (its_branches es) →
+        or_else (leg_with (has_ticket resource t) e.xid e.session.branches) (first_leg (has_ticket resource t) es) ≡ it_among (branches_or_none (option_map session_of (cond b (Some e) (find (has_xid leg.xid.0) es))))
     one_by true e es is each rest above below =
-        let number : e.xid.0 ≡ x.0 = same_nat e.xid.0 x.0 is in
-        let same : e.xid ≡ x = λ i. record { 0 = number i } in
+        let number : e.xid.0 ≡ leg.xid.0 = same_nat e.xid.0 leg.xid.0 is in
         alone (leg_with (has_ticket resource t) e.xid e.session.branches) (first_leg (has_ticket resource t) es)
         (none_of es rest (each_same (λ (d : SessionEntry). e.xid.0 < d.xid.0) (λ (d : SessionEntry). owner_of os resource t ≡ Some d.xid → ⊥) (λ d less its. let here = its_number d.xid its in omega (arith, number, here, less)) es above))
-        ∙ ap (λ (y : Xid). leg_with (has_ticket resource t) y e.session.branches) same
+        ∙ among e.xid e.session.branches each
     one_by false e es is each rest above below =
-        rw (not_its e.xid (λ its. differ e.xid.0 x.0 is (sym (its_number e.xid its))) e.session.branches each) below
+        rw (not_its e.xid (λ its. differ e.xid.0 leg.xid.0 is (sym (its_number e.xid its))) e.session.branches each) below
 
-    one_of : (es : List SessionEntry) → AreOwned os es → AreRising entry_xid es → first_leg (has_ticket resource t) es ≡ leg_with (has_ticket resource t) x (its_branches es)
+    one_of : (es : List SessionEntry) → AreOwned os es → AreRising entry_xid es → first_leg (has_ticket resource t) es ≡ it_among (its_branches es)
     one_of [] each rising = refl
-    one_of (e ∷ es) each rising = one_by (e.xid.0 == x.0) e es refl each.0 each.1 (above_each e.xid.0 es rising.0) (one_of es each.1 rising.1)
+    one_of (e ∷ es) each rising = one_by (e.xid.0 == leg.xid.0) e es refl each.0 each.1 (above_each e.xid.0 es rising.0) (one_of es each.1 rising.1)
 
-    -- the branch of a ticket is one of its transaction's
-    pub leg_owned : (s : Snapshot) → AreOwned os s.sessions → AreRising entry_xid s.sessions → first_leg (has_ticket resource t) s.sessions ≡ leg_with (has_ticket resource t) x (branches_in s x.0)
+    -- the branch of a ticket is the one that is kept, where that is known
+    pub leg_owned : (s : Snapshot) → AreOwned os s.sessions → AreRising entry_xid s.sessions → first_leg (has_ticket resource t) s.sessions ≡ it_among (branches_in s leg.xid.0)
     leg_owned s each rising = one_of s.sessions each rising
 
--- ---- passes
+-- ---- a branch that is found by its number
 
-most_by : (b : Bool) (e : SessionEntry) (es : List SessionEntry) (o : Option SessionEntry) → length (branches_or_none (option_map session_of o)) ≤ most_branches es →
-    length (branches_or_none (option_map session_of (cond b (Some e) o))) ≤ max (length e.session.branches) (most_branches es)
-most_by true e es o few = omega arith
-most_by false e es o few = omega (arith, few)
+module _ (x resource : ℕ) (t : Ticket) where
+  others_with : (n : ℕ) (bs : List Branch) → AreAbove branch_number n bs → n ≡ x → list_any (is_with x resource t) bs ≡ false
+  others_with n [] above is = refl
+  others_with n (b ∷ bs) above is =
+      let other : (b.id.0 == x) ≡ false = grind (arith, nat_tests, above.0, is) in rw other (others_with n bs above.1 is)
 
-most_of : (x : ℕ) (es : List SessionEntry) → length (branches_or_none (option_map session_of (find (has_xid x) es))) ≤ most_branches es
-most_of x [] = omega arith
-most_of x (e ∷ es) = most_by (e.xid.0 == x) e es (find (has_xid x) es) (most_of x es)
+  pub with_first : (bs : List Branch) (i : ℕ) (d : Branch) → AreRising branch_number bs → IsFirst (has_number x) bs i → has_ticket resource t (get_or bs i d) ≡ list_any (is_with x resource t) bs
+  with_first [] i d rising f = absurd f
+  with_first (b ∷ bs) zero d rising f = rw (f, others_with b.id.0 bs rising.0 (same_nat b.id.0 x f)) (or_false (has_ticket resource t b))
+    where
+      or_false : (c : Bool) → c ≡ (c || false)
+      or_false true = refl
+      or_false false = refl
+  with_first (b ∷ bs) (suc i) d rising f = rw f.0 (with_first bs i d rising.1 f.1)
 
-pub few_branches : (s : Snapshot) (x : ℕ) → length (branches_in s x) ≤ most_branches s.sessions
-few_branches s x = most_of x s.sessions
+  pub with_none : (bs : List Branch) → Each (λ (b : Branch). has_number x b ≡ false) bs → false ≡ list_any (is_with x resource t) bs
+  with_none [] n = refl
+  with_none (b ∷ bs) n = rw n.0 (with_none bs n.1)
 
 -- ---- loading
 
@@ -397,45 +432,37 @@ assoc : {X : Type 0} (o p q : Option X) → or_else (or_else o p) q ≡ or_else 
 assoc None p q = refl
 assoc (Some x) p q = refl
 
-taken_by : (x : Xid) (b : Branch) (c : Bool) (rest : Option Branch) →
-    option_map leg_xid (option_map (leg_of x) (cond c (Some b) rest)) ≡ or_else (option_map leg_xid (option_map (leg_of x) (cond c (Some b) None))) (option_map leg_xid (option_map (leg_of x) rest))
+taken_by : (x : Xid) (b : Branch) (c : Bool) (rest : Option Branch) → option_map (leg_of x) (cond c (Some b) rest) ≡ or_else (option_map (leg_of x) (cond c (Some b) None)) (option_map (leg_of x) rest)
 taken_by x b true rest = refl
 taken_by x b false rest = refl
 
-among_next : (x : Xid) (b : Branch) (bs : List Branch) (resource : ℕ) (t : Ticket) → owner_among x (b ∷ bs) resource t ≡ or_else (owner_among x (b ∷ []) resource t) (owner_among x bs resource t)
+among_next : (x : Xid) (b : Branch) (bs : List Branch) (resource : ℕ) (t : Ticket) → owned_among x (b ∷ bs) resource t ≡ or_else (owned_among x (b ∷ []) resource t) (owned_among x bs resource t)
 among_next x b bs resource t = taken_by x b (has_ticket resource t b) (find (has_ticket resource t) bs)
-
-first_by : (o p : Option Leg) → option_map leg_xid (or_else o p) ≡ or_else (option_map leg_xid o) (option_map leg_xid p)
-first_by None p = refl
-first_by (Some leg) p = refl
-
-pub first_next : (e : SessionEntry) (es : List SessionEntry) (resource : ℕ) (t : Ticket) → first_owner (e ∷ es) resource t ≡ or_else (owner_among e.xid e.session.branches resource t) (first_owner es resource t)
-first_next e es resource t = first_by (leg_with (has_ticket resource t) e.xid e.session.branches) (first_leg (has_ticket resource t) es)
 
 -- what is left is taken after the next one
 step_by : {X : Type 0} (old one mid rest left all start : Option X) → left ≡ or_else one rest → mid ≡ or_else old one → or_else old left ≡ or_else start all → or_else mid rest ≡ or_else start all
 step_by old one mid rest left all start is next before = ap (λ o. or_else o rest) next ∙ assoc old one rest ∙ ap (λ o. or_else old o) (sym is) ∙ before
 
-pub branches_next : (x : Xid) (start old mid : Owners) (all left rest : List Branch) (b : Branch) → left ≡ b ∷ rest → Takes old (owner_among x (b ∷ [])) mid →
-    ((resource : ℕ) (t : Ticket) → or_else (owner_of old resource t) (owner_among x left resource t) ≡ or_else (owner_of start resource t) (owner_among x all resource t)) →
-    (resource : ℕ) (t : Ticket) → or_else (owner_of mid resource t) (owner_among x rest resource t) ≡ or_else (owner_of start resource t) (owner_among x all resource t)
+pub branches_next : (x : Xid) (start old mid : Owners) (all left rest : List Branch) (b : Branch) → left ≡ b ∷ rest → Takes old (owned_among x (b ∷ [])) mid →
+    ((resource : ℕ) (t : Ticket) → or_else (owned_leg old resource t) (owned_among x left resource t) ≡ or_else (owned_leg start resource t) (owned_among x all resource t)) →
+    (resource : ℕ) (t : Ticket) → or_else (owned_leg mid resource t) (owned_among x rest resource t) ≡ or_else (owned_leg start resource t) (owned_among x all resource t)
 branches_next x start old mid all left rest b is takes before resource t =
-    step_by (owner_of old resource t) (owner_among x (b ∷ []) resource t) (owner_of mid resource t) (owner_among x rest resource t) (owner_among x left resource t) (owner_among x all resource t) (owner_of start resource t)
-    (ap (λ (bs : List Branch). owner_among x bs resource t) is ∙ among_next x b rest resource t) (takes resource t) (before resource t)
+    step_by (owned_leg old resource t) (owned_among x (b ∷ []) resource t) (owned_leg mid resource t) (owned_among x rest resource t) (owned_among x left resource t) (owned_among x all resource t) (owned_leg start resource t)
+    (ap (λ (bs : List Branch). owned_among x bs resource t) is ∙ among_next x b rest resource t) (takes resource t) (before resource t)
 
-pub entries_next : (start old mid : Owners) (all left rest : List SessionEntry) (e : SessionEntry) → left ≡ e ∷ rest → Takes old (owner_among e.xid e.session.branches) mid →
-    ((resource : ℕ) (t : Ticket) → or_else (owner_of old resource t) (first_owner left resource t) ≡ or_else (owner_of start resource t) (first_owner all resource t)) →
-    (resource : ℕ) (t : Ticket) → or_else (owner_of mid resource t) (first_owner rest resource t) ≡ or_else (owner_of start resource t) (first_owner all resource t)
+pub entries_next : (start old mid : Owners) (all left rest : List SessionEntry) (e : SessionEntry) → left ≡ e ∷ rest → Takes old (owned_among e.xid e.session.branches) mid →
+    ((resource : ℕ) (t : Ticket) → or_else (owned_leg old resource t) (first_owned left resource t) ≡ or_else (owned_leg start resource t) (first_owned all resource t)) →
+    (resource : ℕ) (t : Ticket) → or_else (owned_leg mid resource t) (first_owned rest resource t) ≡ or_else (owned_leg start resource t) (first_owned all resource t)
 entries_next start old mid all left rest e is takes before resource t =
-    step_by (owner_of old resource t) (owner_among e.xid e.session.branches resource t) (owner_of mid resource t) (first_owner rest resource t) (first_owner left resource t) (first_owner all resource t) (owner_of start resource t)
-    (ap (λ (es : List SessionEntry). first_owner es resource t) is ∙ first_next e rest resource t) (takes resource t) (before resource t)
+    step_by (owned_leg old resource t) (owned_among e.xid e.session.branches resource t) (owned_leg mid resource t) (first_owned rest resource t) (first_owned left resource t) (first_owned all resource t) (owned_leg start resource t)
+    (ap (λ (es : List SessionEntry). first_owned es resource t) is) (takes resource t) (before resource t)
 
 pub branches_all : (x : Xid) (start end : Owners) (i : ℕ) (bs : List Branch) → length bs ≤ i →
-    ((resource : ℕ) (t : Ticket) → or_else (owner_of end resource t) (owner_among x (drop i bs) resource t) ≡ or_else (owner_of start resource t) (owner_among x bs resource t)) → Takes start (owner_among x bs) end
+    ((resource : ℕ) (t : Ticket) → or_else (owned_leg end resource t) (owned_among x (drop i bs) resource t) ≡ or_else (owned_leg start resource t) (owned_among x bs resource t)) → Takes start (owned_among x bs) end
 branches_all x start end i bs past before resource t =
-    sym (or_none (owner_of end resource t)) ∙ ap (λ (cs : List Branch). or_else (owner_of end resource t) (owner_among x cs resource t)) (sym (drop_all i bs past)) ∙ before resource t
+    sym (or_none (owned_leg end resource t)) ∙ ap (λ (cs : List Branch). or_else (owned_leg end resource t) (owned_among x cs resource t)) (sym (drop_all i bs past)) ∙ before resource t
 
 pub entries_all : (start end : Owners) (i : ℕ) (es : List SessionEntry) → length es ≤ i →
-    ((resource : ℕ) (t : Ticket) → or_else (owner_of end resource t) (first_owner (drop i es) resource t) ≡ or_else (owner_of start resource t) (first_owner es resource t)) → Takes start (first_owner es) end
+    ((resource : ℕ) (t : Ticket) → or_else (owned_leg end resource t) (first_owned (drop i es) resource t) ≡ or_else (owned_leg start resource t) (first_owned es resource t)) → Takes start (first_owned es) end
 entries_all start end i es past before resource t =
-    sym (or_none (owner_of end resource t)) ∙ ap (λ (ds : List SessionEntry). or_else (owner_of end resource t) (first_owner ds resource t)) (sym (drop_all i es past)) ∙ before resource t
+    sym (or_none (owned_leg end resource t)) ∙ ap (λ (ds : List SessionEntry). or_else (owned_leg end resource t) (first_owned ds resource t)) (sym (drop_all i es past)) ∙ before resource t

@@ -1,8 +1,9 @@
--- Where no two AT branches have one ticket, the first transaction that has a branch of a ticket is the one of each such branch.
+-- Where no two AT branches have one ticket, each of them is the first one of its ticket.
 use Rattle.std.proofs.Common.{◌≡◌, ◌||◌, not, Bool, true, false, cond, List, [], ◌∷◌, ◌++◌, Option, Some, None, refl, sym, ap, ◌∙◌}
 use Rattle.std.specs.Prelude.{find, option_map}
 use Rattle.std.specs.List.{list_any, flat_map}
 use Rattle.seata_types.specs.declared.ids.Xid.{Xid}
+use Rattle.seata_types.specs.declared.ids.Leg.{Leg}
 use Rattle.seata_types.specs.declared.statuses.BranchKind.{BranchKind}
 use Rattle.seata_types.specs.declared.statuses.BranchKind.TheVariants as kind
 use Rattle.durable_records.specs.Branches.{is_at}
@@ -13,10 +14,10 @@ use Rattle.session_log.specs.declared.sessions.Snapshot.{Snapshot}
 use Rattle.session_log.specs.Soundness.{is_at_branch, differ_after, all_differ, same_ticket_key, ticket_of, branch_ticket, entry_tickets, tickets}
 use Rattle.session_memory.specs.Lookups.{or_else, leg_of, has_ticket}
 use Rattle.session_memory.specs.Order.{Each}
-use Rattle.session_memory.specs.Owners.{Owners, IsOwned, EachOwned, AreOwned, leg_xid, first_owner, owner_among, Takes}
+use Rattle.session_memory.specs.Owners.{Owners, IsOwned, EachOwned, AreOwned, first_owned, owned_among, Takes}
 use Rattle.session_memory.proofs.Small.{and_left, and_right, not_true, false_true, true_false}
 use Rattle.session_memory.proofs.Lists.{each_all, each_same, each_pair, find_missing}
-use Rattle.session_memory.proofs.OwnerLaws.{has_key, has_own, same_keys, first_next}
+use Rattle.session_memory.proofs.OwnerLaws.{has_key, has_own, same_keys}
 
 -- ---- keys that differ
 
@@ -60,6 +61,11 @@ behind_front (k ∷ ks) behind before e =
 behind_differs : (front behind before : List TicketKey) → differ_after same_ticket_key before (front ++ behind) ≡ true → (b : List TicketKey) × (differ_after same_ticket_key b behind ≡ true)
 behind_differs [] behind before e = (before, e)
 behind_differs (k ∷ ks) behind before e = behind_differs ks behind (k ∷ before) (rest_differs k before (ks ++ behind) e)
+
+front_differs : (front behind before : List TicketKey) → differ_after same_ticket_key before (front ++ behind) ≡ true → differ_after same_ticket_key before front ≡ true
+front_differs [] behind before e = refl
+front_differs (k ∷ ks) behind before e =
+    rw (and_left (not (list_any (same_ticket_key k) before)) (differ_after same_ticket_key (k ∷ before) (ks ++ behind)) e) (front_differs ks behind (k ∷ before) (rest_differs k before (ks ++ behind) e))
 
 -- ---- the keys of branches
 
@@ -106,40 +112,50 @@ no_branch k (b ∷ bs) other =
     let one = no_branch_by k b (flat_map branch_ticket bs) b.place.kind refl other (has_ticket k.resource k.ticket b) refl in
     (one.0, no_branch k bs one.1)
 
-none_among : (x : Xid) (k : TicketKey) (bs : List Branch) → list_any (same_ticket_key k) (flat_map branch_ticket bs) ≡ false → owner_among x bs k.resource k.ticket ≡ None
+no_one_by : (k : TicketKey) (b : Branch) (of : BranchKind) → b.place.kind ≡ of → list_any (same_ticket_key k) (ticket_of of b) ≡ false → has_ticket k.resource k.ticket b ≡ false
+no_one_by k b kind.At is other = (no_branch_by k b [] kind.At is other (has_ticket k.resource k.ticket b) refl).0
+no_one_by k b kind.Tcc is other = (no_branch_by k b [] kind.Tcc is other (has_ticket k.resource k.ticket b) refl).0
+
+none_among : (x : Xid) (k : TicketKey) (bs : List Branch) → list_any (same_ticket_key k) (flat_map branch_ticket bs) ≡ false → owned_among x bs k.resource k.ticket ≡ None
 none_among x k bs other = rw (find_missing (has_ticket k.resource k.ticket) bs (no_branch k bs other)) refl
 
 -- ---- a ticket that one of these branches has
 
-among_by : (x : Xid) (b : Branch) (c : Bool) (found : Option Branch) → option_map leg_xid (option_map (leg_of x) found) ≡ Some x → option_map leg_xid (option_map (leg_of x) (cond c (Some b) found)) ≡ Some x
-among_by x b true found is = refl
-among_by x b false found is = is
+abbrev IsAmong : Xid → List Branch → Branch → Type 0
+IsAmong x bs b = is_at_branch b ≡ true → owned_among x bs b.place.resource b.place.ticket ≡ Some (leg_of x b)
 
-some_among : (x : Xid) (bs : List Branch) → Each (λ (b : Branch). is_at_branch b ≡ true → owner_among x bs b.place.resource b.place.ticket ≡ Some x) bs
-some_among x [] = tt
-some_among x (b ∷ bs) = (
-  λ at. ap (λ (c : Bool). option_map leg_xid (option_map (leg_of x) (cond c (Some b) (find (has_ticket b.place.resource b.place.ticket) bs)))) (has_own b at),
-  each_same (λ (c : Branch). is_at_branch c ≡ true → owner_among x bs c.place.resource c.place.ticket ≡ Some x) (λ (c : Branch). is_at_branch c ≡ true → owner_among x (b ∷ bs) c.place.resource c.place.ticket ≡ Some x)
-      (λ c there at. among_by x b (has_ticket c.place.resource c.place.ticket b) (find (has_ticket c.place.resource c.place.ticket) bs) (there at)) bs (some_among x bs),
-)
+module _ (x : Xid) (b : Branch) (bs : List Branch) where
+  among_own : IsAmong x (b ∷ bs) b
+  among_own at = ap (λ (c : Bool). option_map (leg_of x) (cond c (Some b) (find (has_ticket b.place.resource b.place.ticket) bs))) (has_own b at)
+
+  among_later : (c : Branch) → OfTicket (IsOther (branch_ticket b)) c × IsAmong x bs c → IsAmong x (b ∷ bs) c
+  among_later c both at =
+      ap (λ (h : Bool). option_map (leg_of x) (cond h (Some b) (find (has_ticket c.place.resource c.place.ticket) bs))) (no_one_by (key_of c) b b.place.kind refl (both.0 at)) ∙ both.1 at
+
+some_among : (x : Xid) (bs : List Branch) (before : List TicketKey) → differ_after same_ticket_key before (flat_map branch_ticket bs) ≡ true → Each (IsAmong x bs) bs
+some_among x [] before e = tt
+some_among x (b ∷ bs) before e =
+    let rest = behind_differs (branch_ticket b) (flat_map branch_ticket bs) before e in (
+      among_own x b bs,
+      each_same (λ (c : Branch). OfTicket (IsOther (branch_ticket b)) c × IsAmong x bs c) (IsAmong x (b ∷ bs)) (among_later x b bs) bs
+          (each_pair (OfTicket (IsOther (branch_ticket b))) (IsAmong x bs) bs (of_branches (IsOther (branch_ticket b)) bs (behind_front (branch_ticket b) (flat_map branch_ticket bs) before e)) (some_among x bs rest.0 rest.1)),
+    )
 
 -- ---- all transactions
 
 abbrev IsFirst : List SessionEntry → Xid → Branch → Type 0
-IsFirst es x b = is_at_branch b ≡ true → first_owner es b.place.resource b.place.ticket ≡ Some x
+IsFirst es x b = is_at_branch b ≡ true → first_owned es b.place.resource b.place.ticket ≡ Some (leg_of x b)
 
 abbrev EachFirst : List SessionEntry → SessionEntry → Type 0
 EachFirst es e = Each (IsFirst es e.xid) e.session.branches
 
 module _ (e : SessionEntry) (es : List SessionEntry) where
-  first_own : (b : Branch) → (is_at_branch b ≡ true → owner_among e.xid e.session.branches b.place.resource b.place.ticket ≡ Some e.xid) → IsFirst (e ∷ es) e.xid b
-  first_own b there at =
-      first_next e es b.place.resource b.place.ticket ∙ ap (λ (o : Option Xid). or_else o (first_owner es b.place.resource b.place.ticket)) (there at)
+  first_own : (b : Branch) → IsAmong e.xid e.session.branches b → IsFirst (e ∷ es) e.xid b
+  first_own b there at = ap (λ (o : Option Leg). or_else o (first_owned es b.place.resource b.place.ticket)) (there at)
 
   first_later : (y : Xid) (b : Branch) → (OfTicket (IsOther (entry_tickets e)) b) × IsFirst es y b → IsFirst (e ∷ es) y b
   first_later y b both at =
-      first_next e es b.place.resource b.place.ticket
-      ∙ ap (λ (o : Option Xid). or_else o (first_owner es b.place.resource b.place.ticket)) (none_among e.xid (key_of b) e.session.branches (both.0 at)) ∙ both.1 at
+      ap (λ (o : Option Leg). or_else o (first_owned es b.place.resource b.place.ticket)) (none_among e.xid (key_of b) e.session.branches (both.0 at)) ∙ both.1 at
 
   later_each : (d : SessionEntry) → Each (OfTicket (IsOther (entry_tickets e))) d.session.branches × EachFirst es d → EachFirst (e ∷ es) d
   later_each d both =
@@ -150,13 +166,14 @@ firsts : (es : List SessionEntry) (before : List TicketKey) → differ_after sam
 firsts [] before e = tt
 firsts (d ∷ es) before e =
     let rest = behind_differs (entry_tickets d) (flat_map entry_tickets es) before e in (
-      each_same (λ (b : Branch). is_at_branch b ≡ true → owner_among d.xid d.session.branches b.place.resource b.place.ticket ≡ Some d.xid) (IsFirst (d ∷ es) d.xid) (first_own d es) d.session.branches (some_among d.xid d.session.branches),
+      each_same (IsAmong d.xid d.session.branches) (IsFirst (d ∷ es) d.xid) (first_own d es) d.session.branches
+          (some_among d.xid d.session.branches before (front_differs (entry_tickets d) (flat_map entry_tickets es) before e)),
       each_same (λ (c : SessionEntry). Each (OfTicket (IsOther (entry_tickets d))) c.session.branches × EachFirst es c) (EachFirst (d ∷ es)) (later_each d es) es
           (each_pair (λ (c : SessionEntry). Each (OfTicket (IsOther (entry_tickets d))) c.session.branches) (EachFirst es) es
           (of_entries (IsOther (entry_tickets d)) es (behind_front (entry_tickets d) (flat_map entry_tickets es) before e)) (firsts es rest.0 rest.1)),
     )
 
-pub loaded_owned : (os : Owners) (s : Snapshot) → all_differ same_ticket_key (tickets s) ≡ true → Takes [] (first_owner s.sessions) os → AreOwned os s.sessions
+pub loaded_owned : (os : Owners) (s : Snapshot) → all_differ same_ticket_key (tickets s) ≡ true → Takes [] (first_owned s.sessions) os → AreOwned os s.sessions
 loaded_owned os s differ takes =
     each_same (EachFirst s.sessions) (EachOwned os)
     (λ e each. each_same (IsFirst s.sessions e.xid) (IsOwned os e.xid) (λ b first at. takes b.place.resource b.place.ticket ∙ first at) e.session.branches each) s.sessions (firsts s.sessions [] differ)

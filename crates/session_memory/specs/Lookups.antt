@@ -12,8 +12,6 @@ use Rattle.session_log.specs.declared.sessions.SessionEntry.{SessionEntry}
 use Rattle.session_log.specs.declared.sessions.Forgotten.{Forgotten}
 use Rattle.session_log.specs.declared.sessions.Snapshot.{Snapshot}
 use Rattle.session_log.specs.Soundness.{is_open_branch}
-use Rattle.session_memory.specs.declared.sought.Sought.{Sought}
-use Rattle.session_memory.specs.declared.sought.Sought.TheVariants as sought
 
 -- ---- transactions
 
@@ -95,10 +93,9 @@ has_ticket resource ticket b = is_at b.place.kind && ((b.place.resource == resou
 abbrev pub has_call : (resource call : ℕ) → Branch → Bool
 has_call resource call b = not (is_at b.place.kind) && ((b.place.resource == resource) && (b.place.call == call))
 
--- a branch that is looked for
-abbrev pub is_sought : Sought → Branch → Bool
-is_sought (sought.Ticket resource ticket) = has_ticket resource ticket
-is_sought (sought.Call resource call) = has_call resource call
+-- an AT branch of this number and of a resource's local transaction
+abbrev pub is_with : (branch resource : ℕ) → Ticket → Branch → Bool
+is_with branch resource ticket b = has_number branch b && has_ticket resource ticket b
 
 -- the AT branch that was registered for a resource's ticket
 abbrev pub ticket_leg : Snapshot → (resource : ℕ) → Ticket → Option Leg

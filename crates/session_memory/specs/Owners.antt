@@ -1,4 +1,4 @@
--- Which transaction has the AT branch of a ticket.
+-- Which AT branch has a ticket.
 use Rattle.std.specs.Prelude.{◌≡◌, ℕ, ◌==◌, true, false, List, [], ◌∷◌, length, max, Option, Some, option_map}
 use Rattle.std.specs.BTreeMap.{is_at as is_at_key}
 use Rattle.std.specs.Map.{lookup}
@@ -11,56 +11,60 @@ use Rattle.session_log.specs.declared.keys.TicketKey.{TicketKey}
 use Rattle.session_log.specs.declared.sessions.Branch.{Branch}
 use Rattle.session_log.specs.declared.sessions.SessionEntry.{SessionEntry}
 use Rattle.session_log.specs.Soundness.{is_at_branch}
-use Rattle.session_memory.specs.Lookups.{or_else, has_ticket, leg_with, first_leg}
+use Rattle.session_memory.specs.Lookups.{or_else, leg_of, has_ticket, leg_with, first_leg}
 use Rattle.session_memory.specs.Order.{Each}
 
 -- tickets stand by resource, boot and count
 abbrev pub ticket_order : TicketKey → TicketKey → Ordering
 ticket_order a b = ordering_then (nat_cmp a.resource b.resource) (ordering_then (nat_cmp a.ticket.boot b.ticket.boot) (nat_cmp a.ticket.seq b.ticket.seq))
 
--- tickets with their transactions, in this order
+-- tickets with their branches, in this order
 abbrev pub Owners : Type 0
-Owners = List (TicketKey × Xid)
+Owners = List (TicketKey × Leg)
 
--- the transaction of a resource's ticket
-abbrev pub owner_of : Owners → (resource : ℕ) → Ticket → Option Xid
-owner_of os resource t = lookup (is_at_key (ticket_order (record { resource = resource; ticket = t }))) os
-
--- a branch is of this transaction by its ticket, where it is AT
-abbrev pub IsOwned : Owners → Xid → Branch → Type 0
-IsOwned os x b = is_at_branch b ≡ true → owner_of os b.place.resource b.place.ticket ≡ Some x
-
-abbrev pub EachOwned : Owners → SessionEntry → Type 0
-EachOwned os e = Each (IsOwned os e.xid) e.session.branches
-
--- each AT branch is of its transaction by its ticket
-abbrev pub AreOwned : Owners → List SessionEntry → Type 0
-AreOwned os es = Each (EachOwned os) es
-
--- what a branch doesn't have is of whom it was
-abbrev pub KeepsOthers : Branch → Owners → Owners → Type 0
-KeepsOthers b old new = (resource : ℕ) (t : Ticket) → has_ticket resource t b ≡ false → owner_of new resource t ≡ owner_of old resource t
-
--- what was of another transaction than x still is
-abbrev pub OthersStay : Xid → Owners → Owners → Type 0
-OthersStay x old new = (resource : ℕ) (t : Ticket) (y : Xid) → (y.0 == x.0) ≡ false → owner_of old resource t ≡ Some y → owner_of new resource t ≡ Some y
-
--- ---- loading
+-- the branch of a resource's ticket
+abbrev pub owned_leg : Owners → (resource : ℕ) → Ticket → Option Leg
+owned_leg os resource t = lookup (is_at_key (ticket_order (record { resource = resource; ticket = t }))) os
 
 abbrev pub leg_xid : Leg → Xid
 leg_xid leg = leg.xid
 
--- the first of these transactions that has an AT branch of a ticket
-abbrev pub first_owner : List SessionEntry → (resource : ℕ) → Ticket → Option Xid
-first_owner es resource t = option_map leg_xid (first_leg (has_ticket resource t) es)
+-- its transaction
+abbrev pub owner_of : Owners → (resource : ℕ) → Ticket → Option Xid
+owner_of os resource t = option_map leg_xid (owned_leg os resource t)
 
--- x, where one of these branches is an AT branch of a ticket
-abbrev pub owner_among : Xid → List Branch → (resource : ℕ) → Ticket → Option Xid
-owner_among x bs resource t = option_map leg_xid (leg_with (has_ticket resource t) x bs)
+-- a branch of this transaction is the one of its ticket, where it is AT
+abbrev pub IsOwned : Owners → Xid → Branch → Type 0
+IsOwned os x b = is_at_branch b ≡ true → owned_leg os b.place.resource b.place.ticket ≡ Some (leg_of x b)
 
--- a ticket is of whom it was, and else of whom these say
-abbrev pub Takes : Owners → ((resource : ℕ) → Ticket → Option Xid) → Owners → Type 0
-Takes old more new = (resource : ℕ) (t : Ticket) → owner_of new resource t ≡ or_else (owner_of old resource t) (more resource t)
+abbrev pub EachOwned : Owners → SessionEntry → Type 0
+EachOwned os e = Each (IsOwned os e.xid) e.session.branches
+
+-- each AT branch is the one of its ticket
+abbrev pub AreOwned : Owners → List SessionEntry → Type 0
+AreOwned os es = Each (EachOwned os) es
+
+-- a ticket that a branch doesn't have has the branch that it had
+abbrev pub KeepsOthers : Branch → Owners → Owners → Type 0
+KeepsOthers b old new = (resource : ℕ) (t : Ticket) → has_ticket resource t b ≡ false → owned_leg new resource t ≡ owned_leg old resource t
+
+-- a ticket of another transaction than x has the branch that it had
+abbrev pub OthersStay : Xid → Owners → Owners → Type 0
+OthersStay x old new = (resource : ℕ) (t : Ticket) (leg : Leg) → (leg.xid.0 == x.0) ≡ false → owned_leg old resource t ≡ Some leg → owned_leg new resource t ≡ Some leg
+
+-- ---- loading
+
+-- the first AT branch of a ticket that these transactions have
+abbrev pub first_owned : List SessionEntry → (resource : ℕ) → Ticket → Option Leg
+first_owned es resource t = first_leg (has_ticket resource t) es
+
+-- the first AT branch of a ticket among these branches of x
+abbrev pub owned_among : Xid → List Branch → (resource : ℕ) → Ticket → Option Leg
+owned_among x bs resource t = leg_with (has_ticket resource t) x bs
+
+-- a ticket has the branch that it had, and else the one that these say
+abbrev pub Takes : Owners → ((resource : ℕ) → Ticket → Option Leg) → Owners → Type 0
+Takes old more new = (resource : ℕ) (t : Ticket) → owned_leg new resource t ≡ or_else (owned_leg old resource t) (more resource t)
 
 -- ---- passes
 

@@ -13,7 +13,6 @@ mod memory;
 mod owners;
 mod sessions;
 mod snapshots;
-mod sought;
 pub mod statuses;
 pub mod uncounted;
 

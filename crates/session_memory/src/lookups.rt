@@ -3,11 +3,10 @@ ghost use Rattle.std.specs.Prelude.{◌≡◌, ◌≤◌, ◌+◌, ◌&&◌, fin
 ghost use Rattle.std.specs.List.{list_all, list_any, position};
 ghost use Rattle.std.specs.Option.{option_copied};
 ghost use Rattle.session_log.specs.Soundness.{entry_xid, is_at_branch, is_open_with};
-ghost use Rattle.session_memory.specs.Lookups.{has_number, has_xid, session_of, has_manager, was_of_manager, xid_of, forgotten_xid, has_ticket, has_call, is_sought, leg_with};
+ghost use Rattle.session_memory.specs.Lookups.{has_number, has_xid, session_of, has_manager, was_of_manager, xid_of, forgotten_xid, has_ticket, has_call, is_with, leg_with};
 ghost use Rattle.session_memory.specs.Order.{AreRising, branch_number};
 ghost use Rattle.durable_records.specs.Branches.{is_at, same_ticket};
 
-use crate::sought::Sought;
 use lock_table::Steps;
 use seata_types::{BranchId, BranchKind, Leg, List, NoMemory, Ticket, Xid};
 use session_log::{Branch, Forgotten, Session, SessionEntry};
@@ -84,28 +83,20 @@ fn has_call(branch: &Branch, resource: u16, call: u16) -> bool
     !is_at(branch) && branch.place.resource == resource && branch.place.call == call
 }
 
-fn is_sought(branch: &Branch, sought: Sought) -> bool
-    ensures { result ≡ is_sought sought branch.now }
-{
-    match sought {
-        Sought::Ticket { resource, ticket } => has_ticket(branch, resource, ticket),
-        Sought::Call { resource, call } => has_call(branch, resource, call),
-    }
-}
-
-/// The first branch that is looked for. A step is a branch that is passed.
+/// The first branch of a call. A step is a branch that is passed.
 pub(crate) fn leg<L: Ledger>(
     xid: Xid,
     branches: &[Branch],
-    sought: Sought,
+    resource: u16,
+    call: u16,
     steps: &mut Steps<L>,
 ) -> Option<Leg>
-    ensures leg { result ≡ leg_with (is_sought sought) xid branches.now }
+    ensures leg { result ≡ leg_with (has_call resource call) xid branches.now }
     ensures cost { steps.new ≤ steps.old + length branches.now }
 {
     for branch in branches {
         steps.tick();
-        if is_sought(branch, sought) {
+        if has_call(branch, resource, call) {
             return Some(Leg {
                 xid,
                 branch: branch.id,
@@ -140,6 +131,17 @@ pub(crate) fn has_open(branches: &[Branch], id: BranchId) -> bool
 {
     match branch_place(branches, id) {
         Some(at) => !branches[at].ended,
+        None => false,
+    }
+}
+
+/// Whether this is a branch of a ticket.
+pub(crate) fn is_with(branches: &[Branch], id: BranchId, resource: u16, ticket: Ticket) -> bool
+    requires rising { AreRising branch_number branches.now }
+    ensures { result ≡ list_any (is_with id.0 resource ticket) branches.now }
+{
+    match branch_place(branches, id) {
+        Some(at) => has_ticket(&branches[at], resource, ticket),
         None => false,
     }
 }

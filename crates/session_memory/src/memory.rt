@@ -1,5 +1,5 @@
 //! The memory of a coordinator.
-ghost use Rattle.std.specs.Prelude.{◌≡◌, ◌<◌, ◌≤◌, ◌+◌, ◌++◌, ◌^◌, [], map, length, is_none, true, IfOk, OnOk, OnErr, Some, None, Err, Ok};
+ghost use Rattle.std.specs.Prelude.{◌≡◌, ◌<◌, ◌≤◌, ◌+◌, ◌++◌, ◌^◌, [], map, length, is_none, true, IfOk, OnOk, OnErr, Some, None, Err, Ok, if◌then◌else◌};
 ghost use Rattle.std.specs.List.{list_all, list_any};
 ghost use Rattle.std.specs.Option.{option_copied};
 ghost use Rattle.durable_records.specs.declared.coordinators.SessionRecord.TheVariants as log;
@@ -7,7 +7,7 @@ ghost use Rattle.lock_table.specs.Locks.{locks, TakesAtMost};
 ghost use Rattle.lock_table.specs.Answers.{FindsConflict};
 ghost use Rattle.session_log.specs.SnapshotOf.{snapshot_of};
 ghost use Rattle.session_log.specs.Soundness.{all_differ, is_ended_branch, is_open_with, same_ticket_key, tickets};
-ghost use Rattle.session_memory.specs.Lookups.{session_in, status_in, xid_for, ticket_leg, call_leg, branches_in, leg_with, next_open, is_sought, xid_of};
+ghost use Rattle.session_memory.specs.Lookups.{session_in, status_in, xid_for, ticket_leg, call_leg, branches_in, next_open, is_with, xid_of};
 ghost use Rattle.session_memory.specs.Holding.{held_in};
 ghost use Rattle.session_memory.specs.Changes.{is_new, is_open, may_come, after, granted_record, taken_rows, turns, MayTake, TakesIn};
 ghost use Rattle.session_memory.specs.Order.{IsCounted};
@@ -17,7 +17,6 @@ ghost use Rattle.session_memory.specs.Owners.{most_branches};
 use crate::ends::Ends;
 use crate::errors::LoadError;
 use crate::owners::TicketOwners;
-use crate::sought::Sought;
 use crate::{allowing, grants, loading, lookups, snapshots, statuses};
 use durable_records::SessionRecord;
 use lock_table::{HoldError, LockTable, Steps};
@@ -28,8 +27,8 @@ use std::marker::Model;
 use std::sync::ledger::Ledger;
 
 /// All that a coordinator knows of its transactions: contracts see the snapshot of its records. The table of global locks
-/// beside it has the rows that the snapshot's branches hold, and each AT branch's ticket tells its transaction, so that the
-/// branch of a ticket is looked for in one transaction. An open branch is looked for behind those that are known to be ended.
+/// beside it has the rows that the snapshot's branches hold, and each AT branch's ticket tells the branch, so that the branch of
+/// a ticket isn't looked for among those of its transaction. An open branch is looked for behind those that are known to be ended.
 #[derive(Drop)]
 pub struct Memory {
     snapshot: Snapshot,
@@ -167,20 +166,39 @@ impl Memory {
         ensures cost { steps.new ≤ steps.old + 1 + most_branches self.now.sessions }
     {
         match self.owners.find(resource, ticket) {
-            Some(xid) => self.leg_in(xid, Sought::Ticket { resource, ticket }, steps),
+            Some(leg) => self.if_known(leg, resource, ticket, steps),
             None => None,
         }
     }
 
-    // The branch of a transaction that is looked for.
-    fn leg_in<L: Ledger>(&self, xid: Xid, sought: Sought, steps: &mut Steps<L>) -> Option<Leg>
-        ensures leg { result ≡ leg_with (is_sought sought) xid (branches_in self.now xid.0) }
-        ensures cost { steps.new ≤ steps.old + 1 + length (branches_in self.now xid.0) }
+    // A branch, where it is known and has this ticket. What was kept of a branch that memory was refused for isn't.
+    fn if_known<L: Ledger>(
+        &self,
+        leg: Leg,
+        resource: u16,
+        ticket: Ticket,
+        steps: &mut Steps<L>,
+    ) -> Option<Leg>
+        ensures leg { result ≡ (if list_any (is_with leg.branch.0 resource ticket)
+            (branches_in self.now leg.xid.0) then Some leg else None) }
+        ensures cost { steps.new ≤ steps.old + 1 }
     {
         steps.tick();
-        match self.find(xid) {
-            Some(session) => lookups::leg(xid, session.branches.as_slice(), sought, steps),
-            None => None,
+        if self.has_ticket(leg, resource, ticket) {
+            return Some(leg);
+        }
+        None
+    }
+
+    fn has_ticket(&self, leg: Leg, resource: u16, ticket: Ticket) -> bool
+        ensures { result ≡ list_any (is_with leg.branch.0 resource ticket)
+            (branches_in self.now leg.xid.0) }
+    {
+        match lookups::session(self.snapshot.sessions.as_slice(), leg.xid) {
+            Some(session) => {
+                lookups::is_with(session.branches.as_slice(), leg.branch, resource, ticket)
+            }
+            None => false,
         }
     }
 
@@ -196,7 +214,13 @@ impl Memory {
         ensures leg { result ≡ call_leg self.now xid resource call }
         ensures cost { steps.new ≤ steps.old + 1 + length (branches_in self.now xid.0) }
     {
-        self.leg_in(xid, Sought::Call { resource, call }, steps)
+        steps.tick();
+        match self.find(xid) {
+            Some(session) => {
+                lookups::leg(xid, session.branches.as_slice(), resource, call, steps)
+            }
+            None => None,
+        }
     }
 
     /// Whether another transaction holds a row, and the first one, of those to hold and then those to check, as an error. A step is a

@@ -1,5 +1,5 @@
 -- What a coordinator's sessions on two disks show of themselves and keep, said of each list of records.
-use Rattle.std.specs.Prelude.{◌≡◌, ◌≢◌, ◌⊎◌, ℕ, ◌<◌, ◌+◌, Bool, true, false, Option, Some, None, List, ◌∷◌, length, Result, Ok, Err, IfOk, IfErr}
+use Rattle.std.specs.Prelude.{◌≡◌, ◌≢◌, ℕ, ◌+◌, Bool, true, false, Option, Some, None, List, ◌∷◌, length, Result, Ok, Err, IfOk, IfErr}
 use Rattle.std.specs.Borrow.{Lends, Fml, RattleType, MutBor}
 use Rattle.disk_model.specs.Disk.{DiskState, present}
 use Rattle.seata_types.specs.declared.errors.Full.{Full}
@@ -11,19 +11,20 @@ use Rattle.seata_types.specs.declared.ids.Xid.{Xid}
 use Rattle.seata_types.specs.declared.rows.RowKey.{RowKey}
 use Rattle.journal_checkpoint.specs.declared.types.Found.{Found}
 use Rattle.journal_checkpoint.specs.declared.twin.Twin.{Twin}
-use Rattle.journal_checkpoint.specs.Images.{LeavesPairs}
-use Rattle.journal_checkpoint.specs.Extents.{Extent, extent_of, longer}
-use Rattle.journal_checkpoint.specs.Keeping.{active_disk, first_disk, second_disk, twin_extent, with_active, disks}
+use Rattle.journal_checkpoint.specs.Extents.{Extent, longer}
+use Rattle.journal_checkpoint.specs.Keeping.{twin_extent, with_active}
 use Rattle.memory_store.specs.declared.store.Store.{Store}
 use Rattle.memory_store.specs.Meanings.{Meaning}
 pub use Rattle.memory_store.specs.Settling.{IsNoDamage}
-use Rattle.memory_store.specs.Keeping.{SameTwins, with_twin, twin_of, memory_of, machine_of, found_of as store_found_of, is_down as store_is_down, Keeps, Takes, Falls, HasRoomFor, IsFullFor, IsOf}
+use Rattle.memory_store.specs.ListKeeping as listed
+use Rattle.memory_store.specs.Lists as standing
+use Rattle.memory_store.specs.Lists.{Lists}
+use Rattle.memory_store.specs.Keeping.{SameTwins, with_twin, twin_of, memory_of, machine_of, found_of as store_found_of, is_down as store_is_down, Keeps, Takes, Falls, IsFullFor}
 use Rattle.durable_records.specs.declared.coordinators.SessionRecord.{SessionRecord}
 use Rattle.durable_records.specs.declared.coordinators.SessionRecord.TheVariants as log
 use Rattle.session_log.specs.declared.sessions.RegisterPlace.{RegisterPlace}
 use Rattle.session_log.specs.declared.sessions.Snapshot.{Snapshot}
 use Rattle.session_log.specs.Records.{record_bytes}
-use Rattle.session_log.specs.SnapshotOf.{snapshot_of}
 use Rattle.lock_table.specs.Locks.{first_held, locks, TakesAtMost}
 use Rattle.session_memory.specs.Holding.{held_in}
 use Rattle.session_memory.specs.Changes.{after, granted_record, taken_rows}
@@ -33,7 +34,7 @@ use Rattle.session_store.specs.declared.machine.SessionMachine.{SessionMachine}
 use Rattle.session_store.specs.declared.sessions.Sessions.{Sessions}
 use Rattle.session_store.specs.contracts.sessions.Sessions.{the_row}
 use Rattle.session_store.specs.Meaning.{meaning_of}
-use Rattle.session_store.specs.Standing.{IsListOf, StandsForSessions}
+use Rattle.session_store.specs.Standing.{lists_of, StandsForSessions}
 
 -- ---- what it shows of itself
 
@@ -80,31 +81,31 @@ meaning s = meaning_of (managers_of s) (resources_of s)
 abbrev pub StandsFor : {D : Type 0} → Sessions D → List SessionRecord → List ℕ → List ℕ → Type 0
 StandsFor s rs a b = StandsForSessions (managers_of s) (resources_of s) rs a b
 
+-- what lists of its scenario's records say
+abbrev pub lists : {D : Type 0} → Sessions D → Lists Snapshot SessionRecord Snapshot
+lists s = lists_of (managers_of s) (resources_of s)
+
 -- each pair of images of its disks stands for these records, and what it knows is their snapshot
-pub record KeepsRecords {D : Type 0} (state : D → DiskState) (rs : List SessionRecord) (s : Sessions D) : Type 0 where
-  pub found : Found
-  pub store : Keeps state (meaning s) found s.store
-  pub list : IsListOf (managers_of s) (resources_of s) rs found
-  pub knows : known s ≡ snapshot_of rs
+abbrev pub KeepsRecords : {D : Type 0} → (D → DiskState) → List SessionRecord → Sessions D → Type 0
+KeepsRecords state rs s = listed.KeepsRecords state (lists s) rs s.store
 
 -- ---- one record more
 
 -- the bytes stand for these records, and their journal stands there
 abbrev pub StandsAt : {D : Type 0} → Sessions D → List SessionRecord → Extent → List ℕ → List ℕ → Type 0
-StandsAt s rs e a b = (h : StandsFor s rs a b) × (extent_of h.found ≡ e)
+StandsAt s rs e a b = listed.StandsAt (lists s) rs e a b
 
 -- the bytes stand for the records, with their journal there, or for these and the new one behind them
 abbrev pub AtOrBehind : {D : Type 0} → Sessions D → SessionRecord → List SessionRecord → Extent → List ℕ → List ℕ → Type 0
-AtOrBehind s r rs e a b = StandsAt s rs e a b ⊎ StandsAt s (r ∷ rs) (longer (length (record_bytes r)) e) a b
+AtOrBehind s r rs e a b = listed.AtOrBehind (lists s) r rs e a b
 
 -- a crash at any moment of the call leaves the records, with the new one or without
 abbrev pub LeavesEither : {D : Type 0} → (D → DiskState) → SessionRecord → Sessions D → Sessions D → Type 0
-LeavesEither state r old new =
-    (rs : List SessionRecord) → KeepsRecords state rs old → LeavesPairs (disks state (twin old)) (disks state (twin new)) (AtOrBehind new r rs (twin_extent (twin old)))
+LeavesEither state r old new = (rs : List SessionRecord) → KeepsRecords state rs old → listed.LeavesEither state (lists new) r rs old.store new.store
 
 -- the record ends within the active disk
 abbrev pub HasRoom : {D : Type 0} → (D → DiskState) → SessionRecord → Sessions D → Type 0
-HasRoom state r s = HasRoomFor state (length (record_bytes r)) s.store
+HasRoom state r s = listed.HasRoom state (lists s) r s.store
 
 -- The record fits, is on the disks, and known.
 pub record Adds {D : Type 0} (state : D → DiskState) (r : SessionRecord) (old new : Sessions D) : Type 0 where
@@ -123,8 +124,7 @@ pub record Loses {D : Type 0} (state : D → DiskState) (r : SessionRecord) (old
   pub fits : HasRoom state r old
   pub knows : known new ≡ after r (known old)
   pub any_moment : LeavesEither state r old new
-  pub not_begun : (rs : List SessionRecord) → KeepsRecords state rs old → (calls : ℕ) → (state (active_disk (twin old))).counts.left ≡ Some calls → calls < 2 →
-      LeavesPairs (disks state (twin old)) (disks state (twin new)) (StandsAt new rs (twin_extent (twin old)))
+  pub not_begun : (rs : List SessionRecord) → KeepsRecords state rs old → listed.LeavesFirst state (lists new) rs old.store new.store
   pub falls : Falls state (twin old) (twin new)
   pub down : is_down new ≡ true
   pub opening : SameOpening old new
@@ -192,8 +192,7 @@ SameDisks old new = SameTwins (twin old) (twin new)
 
 -- each list of records that the one pair of bytes stands for, the other one stands for too
 abbrev pub GoesOnAs : (managers resources : ℕ) → (a b c d : List ℕ) → Type 0
-GoesOnAs managers resources a b c d =
-    (rs : List SessionRecord) → StandsForSessions managers resources rs a b → StandsForSessions managers resources rs c d
+GoesOnAs managers resources a b c d = standing.GoesOnAs (lists_of managers resources) a b c d
 
 -- Two disks were read, of a scenario with so many managers and resources: each list of records that their bytes stand for is kept, and
 -- bytes that stand for records are never damaged.
@@ -205,15 +204,9 @@ pub record KeepsEach {D : Type 0} (state : D → DiskState) (of_managers of_reso
   pub managers : IfOk result (λ s. managers_of s ≡ of_managers)
   pub resources : IfOk result (λ s. resources_of s ≡ of_resources)
 
--- It came back as one of the pairs of images that this pick may give: it knows what that pair holds, and keeps each list of
--- records that it stands for.
-pub record BringsBack {D : Type 0} (state : D → DiskState) (pick : ℕ) (old new : Sessions D) : Type 0 where
-  pub a : List ℕ
-  pub b : List ℕ
-  pub first : (state (first_disk (twin old))).may_leave a × (state (first_disk (twin old))).comes_back pick a
-  pub second : (state (second_disk (twin old))).may_leave b × (state (second_disk (twin old))).comes_back pick b
-  pub is : IsOf state (meaning new) a b new.store
-  pub keeps : (rs : List SessionRecord) → StandsFor new rs a b → KeepsRecords state rs new
+-- It came back as one of the pairs of images that this pick may give, and keeps each list of records that the pair stands for.
+abbrev pub BringsBack : {D : Type 0} → (D → DiskState) → ℕ → Sessions D → Sessions D → Type 0
+BringsBack state pick old new = listed.BringsBack state (lists new) pick old.store new.store
 
 -- ---- a disk that is lent
 

@@ -1,5 +1,4 @@
 pub mod Meaning
-pub mod Readings
 pub mod Standing
 pub mod Refusals
 pub mod Keeping

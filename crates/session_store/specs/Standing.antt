@@ -1,14 +1,15 @@
 -- Which records of a coordinator two disks stand for, so that an opening takes them. Lists of records stand newest first.
-use Rattle.std.specs.Prelude.{◌≡◌, ℕ, ◌<◌, ◌^◌, true, Option, Some, None, List, length}
+use Rattle.std.specs.Prelude.{◌≡◌, ◌⊎◌, ℕ, ◌<◌, ◌^◌, false, true, List, length}
 use Rattle.std.specs.List.{list_all}
-use Rattle.journal_checkpoint.specs.declared.types.Found.{Found}
-use Rattle.journal_checkpoint.specs.Images.{PairStandsFor}
 use Rattle.durable_records.specs.declared.coordinators.SessionRecord.{SessionRecord}
-use Rattle.durable_records.specs.SessionOrder.{Allowed, is_within}
+use Rattle.durable_records.specs.SessionOrder.{Allowed, is_within, may}
+use Rattle.memory_store.specs.Lists.{Lists, StandsForList}
+use Rattle.memory_store.specs.Readings.{Reading}
 use Rattle.session_log.specs.declared.sessions.Snapshot.{Snapshot}
-use Rattle.seata_types.specs.declared.limits.TheConstants.{ACTS}
+use Rattle.session_log.specs.Records.{record_of, record_bytes}
 use Rattle.session_log.specs.Snapshots.{snapshot_in_bytes}
-use Rattle.session_store.specs.Readings.{AreRecords, of_coordinator}
+use Rattle.session_log.specs.SnapshotOf.{snapshot_of}
+use Rattle.session_store.specs.Meaning.{meaning_of}
 
 -- records that a coordinator with so many managers and resources can have made
 pub record AreMade (managers resources : ℕ) (rs : List SessionRecord) : Type 0 where
@@ -16,19 +17,21 @@ pub record AreMade (managers resources : ℕ) (rs : List SessionRecord) : Type 0
   pub within : list_all (is_within managers resources) rs ≡ true
   pub few : length rs < 2 ^ 32
 
--- a snapshot, if there is one, stands for fewer acts than 2^31
-abbrev pub HasFewActs : Option (List ℕ) → Type 0
-HasFewActs None = Unit {0}
-HasFewActs (Some bytes) = (s : Snapshot) → snapshot_in_bytes bytes ≡ Some s → s.acts < ACTS
+-- the records and snapshots that its bytes are
+abbrev pub of_coordinator : Reading SessionRecord Snapshot
+of_coordinator = record { record_of = record_of; snapshot_in = snapshot_in_bytes; snapshot_of = snapshot_of }
 
--- what two disks hold is these records, and an opening takes them
-pub record IsListOf (managers resources : ℕ) (rs : List SessionRecord) (found : Found) : Type 0 where
-  pub records : AreRecords of_coordinator found.snapshot found.records rs
-  pub made : AreMade managers resources rs
-  pub few : HasFewActs found.snapshot
+-- what lists of its records say
+abbrev pub lists_of : (managers resources : ℕ) → Lists Snapshot SessionRecord Snapshot
+lists_of managers resources = record {
+  meaning = meaning_of managers resources;
+  reading = of_coordinator;
+  bytes_of = record_bytes;
+  says = snapshot_of;
+  AreMade = AreMade managers resources;
+  MayNotCome = λ rs r. (is_within managers resources r ≡ false) ⊎ (may rs r ≡ false);
+}
 
 -- the bytes of two disks stand for these records, and an opening takes them
-pub record StandsForSessions (managers resources : ℕ) (rs : List SessionRecord) (a b : List ℕ) : Type 0 where
-  pub found : Found
-  pub pair : PairStandsFor found a b
-  pub list : IsListOf managers resources rs found
+abbrev pub StandsForSessions : (managers resources : ℕ) → List SessionRecord → List ℕ → List ℕ → Type 0
+StandsForSessions managers resources rs a b = StandsForList (lists_of managers resources) rs a b

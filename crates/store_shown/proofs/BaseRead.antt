@@ -3,7 +3,6 @@ use Rattle.std.proofs.Common.{◌≡◌, ◌⊎◌, inl, inr, ◌∙◌, ℕ, Bo
 use Rattle.std.proofs.lemmas.Bool.{false≢true}
 use Rattle.disk_model.specs.Disk.{DiskState, HasCause, Rose, present}
 use Rattle.disk_model.specs.Shelf.{IsGivenBack, IsTaken, KeepsOthers, OnlyTellersHave, SamePlaces, SameUnder, ShelfState, taken_tells}
-use Rattle.disk_model.proofs.Taken.{next_since}
 use Rattle.disk_journal.specs.Keeping.{IsDamageIn, OnlyReads, StandsFor}
 use Rattle.disk_journal.specs.declared.errors.JournalError.{JournalError}
 use Rattle.disk_journal.specs.declared.errors.JournalError.TheVariants as why
@@ -13,9 +12,9 @@ use Rattle.seata_types.specs.declared.limits.TheConstants.{SCENARIO_DISK}
 use Rattle.node_seat.specs.declared.faults.RunFault.{RunFault}
 use Rattle.node_seat.specs.declared.faults.RunFault.TheVariants as fault
 use Rattle.scenario_nodes.specs.Opening.{IsShelfFault}
-use Rattle.scenario_nodes.specs.Shelves.{AllTell, HasDisk, IsGivenIn}
-use Rattle.scenario_nodes.proofs.Holding.{bytes_of}
-use Rattle.scenario_nodes.proofs.Returned.{all_in, given_since, keeps_then, none_made, one_given, one_made, still}
+use Rattle.scenario_nodes.specs.Shelves.{HasDisk, IsGivenIn}
+use Rattle.scenario_nodes.proofs.Holding.{bytes_of, next_given}
+use Rattle.scenario_nodes.proofs.Returned.{all_in, given_since, is_next_since, keeps_then, none_made, one_given, one_made, still}
 use Rattle.base_shelf.specs.Keeping.{NetIs, net_name}
 use Rattle.store_shown.specs.Bases.{IsReadFault, IsTextFault, IsUnreadBack, NetHolds, ReadsBase, ReadsText, fault_of}
 use Rattle.store_shown.specs.Texts.{IsKeptIn}
@@ -50,7 +49,7 @@ pub no_base : {D : Type 0} (state : D → DiskState) (old new : ShelfState D) (m
 no_base state old new missed cause places same keeps = record {
   reads = tt;
   refused = inl cause;
-  still = λ all bytes next. next_since state (old.given_back net_name) (new.given_back net_name) SCENARIO_DISK same bytes next;
+  still = λ bytes next. is_next_since state SCENARIO_DISK net_name bytes old new same next;
   keeps = keeps;
   returned = none_made net_name old new places same keeps;
 }
@@ -60,36 +59,31 @@ module _ {D : Type 0} (state : D → DiskState) (old mid new : ShelfState D) (be
     (back : IsGivenBack new net_name disk) (counted : IsTrue mid.tells → Rose (mid.gives net_name) (new.gives net_name)) (places : SamePlaces mid new) (gave : KeepsOthers (λ n. n ≡ net_name) mid new)
     (read : Result (Option (List ℕ)) RunFault) (r : ReadsText (state before) (state disk) read) where
   -- the bytes that were taken
-  had : AllTell state → (bytes : List ℕ) → NetIs state old bytes → present (state before) ≡ Some bytes
-  had all bytes next =
-      let (c, is_c) = bytes_of (state before) (all before) in
-      is_c ∙ ap (λ (b : List ℕ). Some b) (taken_tells state (old.given_back net_name) SCENARIO_DISK (state before) bytes c taken next is_c)
+  had : (bytes : List ℕ) → NetIs state old bytes → present (state before) ≡ Some bytes
+  had bytes next =
+      let (c, is_c) = bytes_of (state before) (next.tells before taken) in
+      is_c ∙ ap (λ (b : List ℕ). Some b) (taken_tells state (old.given_back net_name) SCENARIO_DISK (state before) bytes c taken next.has is_c)
 
   tells_still : IsTrue old.tells → IsTrue new.tells
   tells_still told = still mid.tells new.tells gave.tells (still old.tells mid.tells took.tells told)
 
-  stays : AllTell state → (bytes : List ℕ) → NetIs state old bytes → NetIs state new bytes
-  stays all bytes next = by new.tells refl
+  stays : (bytes : List ℕ) → NetIs state old bytes → NetIs state new bytes
+  stays bytes next = by new.tells refl
     where
       by : (tells : Bool) → new.tells ≡ tells → NetIs state new bytes
-      by true told = inl (disk, back.given told, still_present bytes r.only_reads (had all bytes next))
-      by false silent = silently next
-        where
-          never : {A : Type 0} → IsTrue new.tells → A
-          never told = absurd (false≢true (sym silent ∙ told))
-
-          silently : NetIs state old bytes → NetIs state new bytes
-          silently (inl (d, given, is)) = never (tells_still (had_law net_name d given))
-          silently (inr (none, zero)) = inr ((λ d given. absurd (false≢true (sym silent ∙ has_law net_name d given))), zero)
+      by true told = next_given state new SCENARIO_DISK net_name disk bytes (back.given told) (still_present bytes r.only_reads (had bytes next))
+      by false silent =
+          is_next_since state SCENARIO_DISK net_name bytes old new
+          (λ d. ((λ here. absurd (false≢true (sym silent ∙ has_law net_name d here))), (λ there. absurd (false≢true (sym silent ∙ tells_still (had_law net_name d there)))))) next
 
   reads_as : (a : Result (Option (List ℕ)) RunFault) → ReadsText (state before) (state disk) a
       → IfOk a (λ found. NetHolds state old (λ records. IsKeptIn records found))
-  reads_as (Ok found) t = λ all bytes next. t.reads bytes (had all bytes next)
+  reads_as (Ok found) t = λ bytes next. t.reads bytes (had bytes next)
   reads_as (Err missed) t = tt
 
   cause : (missed : RunFault) → IsTextFault (state before) (state disk) missed → IsReadFault state old (state disk) missed
   cause (fault.Store at) why = (why.0, let rose = why.1.fault in omega (arith, rose))
-  cause (fault.Damaged at second offset) why = (why.0, why.1, λ all bytes next. why.2 bytes (had all bytes next))
+  cause (fault.Damaged at second offset) why = (why.0, why.1, λ bytes next. why.2 bytes (had bytes next))
   cause fault.NoMemory why = tt
   cause (fault.Full at full) why = absurd why
   cause fault.Other why = absurd why

@@ -10,7 +10,7 @@ use Rattle.node_seat.specs.declared.faults.RunFault.{RunFault}
 use Rattle.node_seat.specs.declared.faults.RunFault.TheVariants as fault
 use Rattle.base_shelf.specs.Keeping.{NetIs, net_name}
 use Rattle.scenario_nodes.specs.Opening.{IsShelfFault}
-use Rattle.scenario_nodes.specs.Shelves.{AllTell, IsGivenIn, ReturnsAll}
+use Rattle.scenario_nodes.specs.Shelves.{IsGivenIn, ReturnsAll}
 use Rattle.store_shown.specs.Texts.{IsKeptIn}
 
 -- ---- why it wasn't read
@@ -19,7 +19,7 @@ use Rattle.store_shown.specs.Texts.{IsKeptIn}
 abbrev pub IsReadFault : {D : Type 0} → (D → DiskState) → (old : ShelfState D) → (disk : DiskState) → RunFault → Type 0
 IsReadFault state old disk (fault.Store at) = (at ≡ place.Net) × (1 ≤ disk.counts.faults)
 IsReadFault state old disk (fault.Damaged at second offset) =
-    (at ≡ place.Net) × (second ≡ false) × (AllTell state → (bytes : List ℕ) → NetIs state old bytes → IsDamageIn 0 bytes (why.Damaged offset))
+    (at ≡ place.Net) × (second ≡ false) × ((bytes : List ℕ) → NetIs state old bytes → IsDamageIn 0 bytes (why.Damaged offset))
 IsReadFault state old disk fault.NoMemory = Unit {0}
 IsReadFault state old disk _ = ⊥
 
@@ -41,9 +41,9 @@ pub record StandsSuch (Is : List (List ℕ) → Type 0) (bytes : List ℕ) : Typ
   pub stand : StandsFor 0 records bytes
   pub is : Is records
 
--- So are the bytes of the disk that the shelf gives next, where disks tell theirs: they are never damaged.
+-- So are the bytes of the disk that the shelf gives next, where it tells them: they are never damaged.
 abbrev pub NetHolds : {D : Type 0} → (D → DiskState) → ShelfState D → (List (List ℕ) → Type 0) → Type 0
-NetHolds state shelf Is = AllTell state → (bytes : List ℕ) → NetIs state shelf bytes → StandsSuch Is bytes
+NetHolds state shelf Is = (bytes : List ℕ) → NetIs state shelf bytes → StandsSuch Is bytes
 
 -- ---- on a shelf
 
@@ -52,7 +52,7 @@ NetHolds state shelf Is = AllTell state → (bytes : List ℕ) → NetIs state s
 pub record ReadsBase {D : Type 0} (state : D → DiskState) (old new : ShelfState D) (result : Result (Option (List ℕ)) RunFault) : Type 0 where
   pub reads : IfOk result (λ found. NetHolds state old (λ records. IsKeptIn records found))
   pub refused : IfErr result (IsNetUnread state old new)
-  pub still : AllTell state → (bytes : List ℕ) → NetIs state old bytes → NetIs state new bytes
+  pub still : (bytes : List ℕ) → NetIs state old bytes → NetIs state new bytes
   pub keeps : KeepsOthers (λ n. n ≡ net_name) old new
   pub returned : ReturnsAll old new
 

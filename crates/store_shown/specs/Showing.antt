@@ -1,8 +1,8 @@
 -- What the disks of a shelf show.
-use Rattle.std.specs.Prelude.{◌≡◌, ◌≢◌, ◌⊎◌, ℕ, List, Result, IfOk}
+use Rattle.std.specs.Prelude.{◌≡◌, ◌≢◌, ◌⊎◌, ℕ, IsSome, List, Result, IfOk}
 use Rattle.std.specs.List.{AllByRecursion}
 use Rattle.disk_model.specs.Disk.{DiskState, present}
-use Rattle.disk_model.specs.Shelf.{KeepsOthers, ShelfState, TakenAs}
+use Rattle.disk_model.specs.Shelf.{KeepsOthers, ShelfState}
 use Rattle.scenario_form.specs.declared.scenarios.Scenario.{Scenario}
 use Rattle.scenario_reader.specs.Reading.{IsFault, IsScenario}
 use Rattle.base_records.specs.Pieces.{IsWhole, joined}
@@ -19,7 +19,7 @@ use Rattle.report_text.specs.Sections.{shown_text}
 use Rattle.scenario_nodes.specs.Nodes.{Held, HoldAll, server_names, servers_of}
 use Rattle.scenario_nodes.specs.Opening.{StopsLoading}
 use Rattle.scenario_nodes.specs.Reading.{GivesStill, HoldStill, IsReadFault, IsSound}
-use Rattle.scenario_nodes.specs.Shelves.{AllTell, ReturnsAll}
+use Rattle.scenario_nodes.specs.Shelves.{IsNext, ReturnsAll}
 use Rattle.scenario_nodes.specs.Together.{IsOfOne}
 use Rattle.store_shown.specs.declared.found.Shown.{Shown}
 use Rattle.store_shown.specs.declared.found.Shown.TheVariants as shown
@@ -35,11 +35,11 @@ KeepsScenario state shelf s = NetHolds state shelf (λ records. IsWhole records 
 abbrev pub TouchesNet : {D : Type 0} → (old new : ShelfState D) → Type 0
 TouchesNet old new = KeepsOthers (λ n. n ≡ net_name) old new
 
--- Only that and the disks of the nodes of a scenario are. Under each name but that one the shelf gives next the bytes that it gave before, of
--- a disk that was there or of a blank one.
+-- Only that and the disks of the nodes of a scenario are. Under each name but that one the shelf gives next the bytes that it gave before,
+-- where the disk tells them, one that was there or a blank one.
 pub record TouchesNodes {D : Type 0} (state : D → DiskState) (s : Scenario) (old new : ShelfState D) : Type 0 where
   pub keeps : KeepsOthers (λ n. (n ≡ net_name) ⊎ IsOfOne (server_names s) n) old new
-  pub next : AllTell state → (n : List ℕ) → n ≢ net_name → (bytes : List ℕ) → TakenAs state (old.given_back n) s.disk bytes → TakenAs state (new.given_back n) s.disk bytes
+  pub next : (n : List ℕ) → n ≢ net_name → (bytes : List ℕ) → IsNext state old s.disk n bytes → IsNext state new s.disk n bytes
 
 -- that of the scenario whose text the disk `net` keeps
 pub record TouchesScenario {D : Type 0} (state : D → DiskState) (old new : ShelfState D) : Type 0 where
@@ -56,8 +56,8 @@ Touches state old new = TouchesNet old new ⊎ TouchesScenario state old new
 pub record TellsState {D : Type 0} (state : D → DiskState) (old new : ShelfState D) (text : List ℕ) : Type 0 where
   pub scenario : Scenario
   pub kept : KeepsScenario state old scenario
-  pub is_text : AllTell state → (held : Held) → HoldAll state old scenario held → text ≡ shown_text scenario held.past
-  pub sound : AllTell state → (held : Held) → AllByRecursion (IsSound state old scenario) (servers_of scenario held)
+  pub is_text : (held : Held) → HoldAll state old scenario held → text ≡ shown_text scenario held.past
+  pub sound : (held : Held) → AllByRecursion (IsSound state old scenario) (servers_of scenario held)
   pub still : HoldStill state scenario old new
   pub touches : TouchesNodes state scenario old new
 
@@ -91,17 +91,17 @@ IsFound state seen old new (shown.Unread missed names) =
 
 -- ---- what stays
 
--- each disk that a shelf had is there with the bytes that it had, where every disk tells its own
+-- each disk that a shelf had is there with the bytes that it had, where it tells them
 abbrev pub KeepsBytes : {D : Type 0} → (D → DiskState) → (old new : ShelfState D) → Type 0
 KeepsBytes {D} state old new =
-    AllTell state → (name : List ℕ) (disk : D) → old.given_back name disk → (same : D) × new.given_back name same × (present (state same) ≡ present (state disk))
+    (name : List ℕ) (disk : D) → old.given_back name disk → IsSome (state disk).content → (same : D) × new.given_back name same × (present (state same) ≡ present (state disk))
 
 -- What the disks of a shelf show was told, unless memory was refused. However it ends: each disk that was there has its bytes, the disk `net`
 -- is next with those that it had, blank or not, no disk but that and those of the nodes is touched, and all that were taken are given back.
 pub record Shows {D S : Type 0} (state : D → DiskState) (seen : S → ShelfState D) (old new : S) (result : Result Shown NoMemory) : Type 0 where
   pub found : IfOk result (IsFound state seen old new)
   pub bytes : KeepsBytes state (seen old) (seen new)
-  pub net : AllTell state → (bytes : List ℕ) → NetIs state (seen old) bytes → NetIs state (seen new) bytes
+  pub net : (bytes : List ℕ) → NetIs state (seen old) bytes → NetIs state (seen new) bytes
   pub touches : Touches state (seen old) (seen new)
   pub tells : (seen new).tells ≡ (seen old).tells
   pub returned : ReturnsAll (seen old) (seen new)
@@ -116,7 +116,7 @@ IsState s before _ = ⊥
 -- what was found on the disks of the nodes of a scenario
 abbrev pub IsFoundAt : {D : Type 0} → (D → DiskState) → Scenario → (old new : ShelfState D) → Shown → Type 0
 IsFoundAt state s old new (shown.State text) =
-    (AllTell state → (held : Held) → HoldAll state old s held → text ≡ shown_text s held.past) × (AllTell state → (held : Held) → AllByRecursion (IsSound state old s) (servers_of s held))
+    ((held : Held) → HoldAll state old s held → text ≡ shown_text s held.past) × ((held : Held) → AllByRecursion (IsSound state old s) (servers_of s held))
 IsFoundAt state s old new (shown.Unread missed names) =
     (missed ≢ fault.NoMemory) × (names ≡ names_of s) × ((held : Held) → StopsLoading state s (servers_of s held) old new missed) × ((held : Held) → IsReadFault (servers_of s held) missed)
 IsFoundAt state s old new _ = ⊥

@@ -9,6 +9,7 @@ use Rattle.seata_types.specs.declared.ids.Ticket.{Ticket}
 use Rattle.seata_types.specs.declared.limits.TheConstants.{FIELD_ITEMS}
 use Rattle.seata_types.specs.declared.messages.Registered.TheVariants as registered
 use Rattle.seata_types.specs.declared.messages.Step.{Step}
+use Rattle.seata_types.specs.declared.rows.Image.{Image}
 use Rattle.seata_types.specs.declared.statements.Action.{Action}
 use Rattle.seata_types.specs.declared.statements.Work.{Work}
 use Rattle.seata_types.specs.declared.statements.Work.TheVariants as work
@@ -29,7 +30,7 @@ use Rattle.history_rules.specs.ResourceMemory.{Memory, Setup, call_of, effect_on
 use Rattle.history_rules.specs.ResourceRules as rules
 use Rattle.history_rules.specs.ResourceRules.{resource_answer, untouched}
 use Rattle.resource_memory.specs.Known.{Known}
-use Rattle.resource_rules.specs.Answers.{own_step}
+use Rattle.resource_rules.specs.Answers.{answer_by, own_step}
 use Rattle.resource_rules.specs.Grants as looked
 use Rattle.resource_rules.specs.declared.answers.Answer.{Answer as Ruling}
 use Rattle.resource_rules.proofs.TccEnds.{images_fit}
@@ -38,12 +39,17 @@ use Rattle.resource_store.specs.Answers.{Answer, Gives, HasPlaces}
 use Rattle.resource_store.specs.Keeping.{IsTaken, known, setting_of}
 use Rattle.resource_store.proofs.AnswerLaws.{fence_of, gives_only, tables_of, tried_taken}
 use Rattle.rule_calls.specs.Calls.{bare, memory_of, resource_of, told_of, viewed}
-use Rattle.tcc_branch.specs.Tries.{Grants, MayTry, granting, is_tcc_call, opens_in, owner_in, ticket_in, tried_by}
+use Rattle.rule_calls.specs.Grants.{granting, opens_in, owner_in, ticket_in}
+use Rattle.tcc_branch.specs.Tries.{Grants, MayTry, is_tcc_call, tried_by}
 use Rattle.tcc_branch.specs.declared.answers.TryAnswer.{TryAnswer}
 use Rattle.tcc_branch.specs.declared.answers.TryAnswer.TheVariants as tries
 
 abbrev Meaning : Type 0
 Meaning = Result Effect (ℕ × StmtError)
+
+-- the answer to a Try with these images, by the first statement that touched no row
+abbrev pub touched_answer : OpenTxn → Leg → List Image → Option ℕ → Ruling
+touched_answer txn leg images index = answer_by txn.call images [] (rules.try_touched (open_of txn) txn.manager leg.xid.0 txn.call leg.branch.0 index)
 
 -- ---- a ticket of a TCC call
 
@@ -71,7 +77,7 @@ module _ (txn : OpenTxn) (kind : is_tcc_call (open_of txn).owner ≡ true) where
 
     module _ (rows : AreRows (known s).tables) where
       module _ (action : Action) (places : HasPlaces (known s).tables action.tries (log.Tried leg.xid leg.branch txn.call)) (runs : on_try (fence_at (known s).fences leg) ≡ Runs) where
-        touched_takes : (e : Effect) → effect (known s).tables action.tries ≡ Ok e → (index : Option ℕ) → IfSome (looked.try_touched txn leg e.images index).asked (λ r. IsTaken r s)
+        touched_takes : (e : Effect) → effect (known s).tables action.tries ≡ Ok e → (index : Option ℕ) → IfSome (touched_answer txn leg e.images index).asked (λ r. IsTaken r s)
         touched_takes e means (Some index) = tt
         touched_takes e means None =
             let place = places e means in
@@ -124,7 +130,7 @@ module _ (txn : OpenTxn) (kind : is_tcc_call (open_of txn).owner ≡ true) where
       owner_here = ap (owner_in leg.xid) owner ∙ ap (OfCall txn.manager leg.xid.0 txn.call) is
 
       abbrev tcc_step : FenceAnswer → Step
-      tcc_step f = rules.tcc_granted s rs (it ∷ []) (next_ticket m) it txn.manager leg.xid.0 txn.call leg.branch.0 action f
+      tcc_step f = rules.tcc_granted it txn.manager leg.xid.0 txn.call leg.branch.0 (effect db action.tries) f
 
       answers : resource_answer s m (granting t leg) ≡ tcc_step (on_try (fence rs leg.xid.0 leg.branch.0))
       answers =
@@ -132,7 +138,7 @@ module _ (txn : OpenTxn) (kind : is_tcc_call (open_of txn).owner ≡ true) where
           ∙ ap (λ (w : Owner). rules.granted_answer s rs (it ∷ []) (next_ticket m) it w leg.branch.0) owner_here
 
       touched : (e : Effect) → effect db action.tries ≡ Ok e → (index : Option ℕ)
-          → read (rules.try_touched s rs (it ∷ []) (next_ticket m) it txn.manager leg.xid.0 txn.call leg.branch.0 index) ≡ told_of tried_by (looked.try_touched txn leg e.images index)
+          → read (rules.try_touched it txn.manager leg.xid.0 txn.call leg.branch.0 index) ≡ told_of tried_by (touched_answer txn leg e.images index)
       touched e means (Some index) = refl
       touched e means None = ap (λ (r : Option ResourceRecord). record { told = tries.Tried; made = r }) recorded
         where
@@ -143,7 +149,7 @@ module _ (txn : OpenTxn) (kind : is_tcc_call (open_of txn).owner ≡ true) where
               ∙ ap (λ (r : Meaning). Some (log.Tried leg.xid leg.branch txn.call (or_none r).images)) means
 
       meant : (r : Meaning) → effect db action.tries ≡ r
-          → read (rules.try_meant s rs (it ∷ []) (next_ticket m) it txn.manager leg.xid.0 txn.call leg.branch.0 r) ≡ told_of tried_by (looked.try_meant txn leg r)
+          → read (rules.try_meant it txn.manager leg.xid.0 txn.call leg.branch.0 r) ≡ told_of tried_by (looked.try_meant txn leg r)
       meant (Err (index, error)) means = refl
       meant (Ok e) means = touched e means (untouched 1 e.touched)
 

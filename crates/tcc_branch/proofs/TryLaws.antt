@@ -2,13 +2,10 @@
 use Rattle.std.proofs.Common.{◌≡◌, ◌∙◌, ℕ, true, List, Option, Some, None, Result, Ok, Err, refl, sym, ap, subst, true≢false}
 use Rattle.std.specs.Prelude.{IfSome}
 use Rattle.disk_model.specs.Disk.{DiskState}
-use Rattle.seata_types.specs.declared.acts.Durable.{Durable}
-use Rattle.seata_types.specs.declared.acts.Durable.TheVariants as durable
 use Rattle.seata_types.specs.declared.errors.StmtError.{StmtError}
 use Rattle.seata_types.specs.declared.errors.StoreError.{StoreError}
 use Rattle.seata_types.specs.declared.errors.Why.{Why}
 use Rattle.seata_types.specs.declared.errors.Why.TheVariants as why
-use Rattle.seata_types.specs.declared.ids.BranchId.{BranchId}
 use Rattle.seata_types.specs.declared.ids.Leg.{Leg}
 use Rattle.seata_types.specs.declared.rows.Image.{Image}
 use Rattle.seata_types.specs.declared.statements.Work.{Work}
@@ -24,14 +21,14 @@ use Rattle.local_txn.specs.Answers.{open_of}
 use Rattle.local_txn.specs.declared.transactions.OpenTxn.{OpenTxn}
 use Rattle.history_rules.specs.ResourceRules.{untouched}
 use Rattle.resource_memory.specs.Known.{Known}
-use Rattle.resource_rules.specs.Grants.{done, dropped, granted, tcc_granted, try_meant, try_touched}
+use Rattle.resource_rules.specs.Grants.{granted, tcc_granted, try_meant}
 use Rattle.resource_store.specs.declared.store.Store.{Store}
 use Rattle.resource_store.specs.Answers.{Gives}
 use Rattle.rule_calls.specs.Calls.{told_of}
 use Rattle.tcc_branch.specs.Tries.{StaysUnlessTried, TellsOn, is_tcc_call, tried_by}
 use Rattle.tcc_branch.specs.declared.answers.TryAnswer.{TryAnswer}
 use Rattle.tcc_branch.specs.declared.answers.TryAnswer.TheVariants as tries
-use Rattle.tcc_branch.proofs.GrantLaws.{owner, tcc_kind}
+use Rattle.tcc_branch.proofs.GrantLaws.{owner, tcc_kind, touched_answer}
 
 abbrev Meaning : Type 0
 Meaning = Result Effect (ℕ × StmtError)
@@ -92,21 +89,21 @@ ignored_tried : tries.NotOpen ≡ tries.Tried → ⊥
 ignored_tried e = cc
 
 module _ {D : Type 0} (state : D → DiskState) (old new : Store D) (txn : OpenTxn) (leg : Leg) where
-  dropped_stays : (cause : Why) (result : Result TryAnswer StoreError) → Gives state (told_of tried_by (dropped txn cause)) result old new → StaysUnlessTried result old new
+  dropped_stays : (cause : Why) (result : Result TryAnswer StoreError) → Gives state (record { told = tries.Refused cause; made = None }) result old new → StaysUnlessTried result old new
   dropped_stays cause (Ok tries.Tried) gives = tt
   dropped_stays cause (Ok (tries.Refused other)) gives = gives.does
   dropped_stays cause (Ok tries.NotOpen) gives = gives.does
   dropped_stays cause (Err e) gives = tt
 
-  done_stays : (b : BranchId) (d : Durable) (r : ResourceRecord) (result : Result TryAnswer StoreError) → Gives state (told_of tried_by (done txn b d r)) result old new → StaysUnlessTried result old new
-  done_stays b d r (Ok tries.Tried) gives = tt
-  done_stays b d r (Ok (tries.Refused cause)) gives = absurd (refused_tried cause gives.told)
-  done_stays b d r (Ok tries.NotOpen) gives = absurd (ignored_tried gives.told)
-  done_stays b d r (Err e) gives = tt
+  done_stays : (r : ResourceRecord) (result : Result TryAnswer StoreError) → Gives state (record { told = tries.Tried; made = Some r }) result old new → StaysUnlessTried result old new
+  done_stays r (Ok tries.Tried) gives = tt
+  done_stays r (Ok (tries.Refused cause)) gives = absurd (refused_tried cause gives.told)
+  done_stays r (Ok tries.NotOpen) gives = absurd (ignored_tried gives.told)
+  done_stays r (Err e) gives = tt
 
-  touched_stays : (images : List Image) (index : Option ℕ) (result : Result TryAnswer StoreError) → Gives state (told_of tried_by (try_touched txn leg images index)) result old new → StaysUnlessTried result old new
+  touched_stays : (images : List Image) (index : Option ℕ) (result : Result TryAnswer StoreError) → Gives state (told_of tried_by (touched_answer txn leg images index)) result old new → StaysUnlessTried result old new
   touched_stays images (Some index) = dropped_stays (why.NoRow index)
-  touched_stays images None = done_stays leg.branch (durable.Tried leg.xid leg.branch txn.ticket) (log.Tried leg.xid leg.branch txn.call images)
+  touched_stays images None = done_stays (log.Tried leg.xid leg.branch txn.call images)
 
   meant_stays : (r : Meaning) (result : Result TryAnswer StoreError) → Gives state (told_of tried_by (try_meant txn leg r)) result old new → StaysUnlessTried result old new
   meant_stays (Err (index, error)) = dropped_stays (why.Stmt index error)

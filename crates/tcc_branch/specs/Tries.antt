@@ -1,18 +1,12 @@
 -- What a grant does to a TCC branch: what it asks of a resource, and what the act that it answers by its rules tells.
-use Rattle.std.specs.Prelude.{◌≡◌, ◌≤◌, Bool, true, false, List, [], ◌∷◌, length, Option, Some, None, Result, Ok, Err}
+use Rattle.std.specs.Prelude.{◌≡◌, ◌≤◌, Bool, true, false, List, length, Option, Some, None, Result, Ok, Err}
 use Rattle.disk_model.specs.Disk.{DiskState}
 use Rattle.seata_types.specs.declared.limits.TheConstants.{FIELD_ITEMS}
 use Rattle.seata_types.specs.declared.acts.Act.{Act}
 use Rattle.seata_types.specs.declared.acts.Act.TheVariants as act
 use Rattle.seata_types.specs.declared.errors.StoreError.{StoreError}
 use Rattle.seata_types.specs.declared.ids.Leg.{Leg}
-use Rattle.seata_types.specs.declared.ids.Place.TheVariants as place
 use Rattle.seata_types.specs.declared.ids.Ticket.{Ticket}
-use Rattle.seata_types.specs.declared.ids.Xid.{Xid}
-use Rattle.seata_types.specs.declared.messages.Input.{Input}
-use Rattle.seata_types.specs.declared.messages.Input.TheVariants as input
-use Rattle.seata_types.specs.declared.messages.Message.TheVariants as message
-use Rattle.seata_types.specs.declared.messages.Registered.TheVariants as registered
 use Rattle.seata_types.specs.declared.statements.Work.TheVariants as work
 use Rattle.local_tables.specs.Rows.{Database}
 use Rattle.durable_records.specs.declared.resources.ResourceRecord.TheVariants as log
@@ -25,27 +19,9 @@ use Rattle.resource_rules.specs.Grants.{granted}
 use Rattle.resource_store.specs.declared.store.Store.{Store}
 use Rattle.resource_store.specs.Answers.{HasPlaces}
 use Rattle.rule_calls.specs.Calls.{GivesAs, bare}
+use Rattle.rule_calls.specs.Grants.{granting, opens_in}
 use Rattle.tcc_branch.specs.declared.answers.TryAnswer.{TryAnswer}
 use Rattle.tcc_branch.specs.declared.answers.TryAnswer.TheVariants as tries
-
--- ---- what is asked
-
--- the coordinator grants a ticket this branch
-abbrev pub granting : Ticket → Leg → Input
-granting t leg = input.Message place.Tc (message.RegisterAnswer t leg.xid (registered.Granted leg.branch))
-
--- a ticket as that of a call of this transaction, which the rules take the branch to be of
-abbrev pub owner_in : Xid → Owner → Owner
-owner_in x (OfCall m y c w) = OfCall m x.0 c w
-owner_in x (OfLocal k) = OfLocal k
-
-abbrev pub ticket_in : Xid → Open → Open
-ticket_in x o = record o { owner = owner_in x o.owner }
-
--- where it is open, and no other one is
-abbrev pub opens_in : Xid → Option Open → List Open
-opens_in x None = []
-opens_in x (Some o) = ticket_in x o ∷ []
 
 -- ---- what is told
 

@@ -1,12 +1,13 @@
 //! The first phase of TCC branches.
 ghost use Rattle.std.specs.Prelude.{◌≡◌, ◌<◌, ◌^◌, ◌-◌, false, Ok, IfSome, IfOk};
 ghost use Rattle.seata_types.specs.declared.statements.Work.TheVariants.{Tcc};
-ghost use Rattle.local_txn.specs.OpenTickets.{open_at};
+ghost use Rattle.local_txn.specs.OpenTickets.{no_effect, open_at};
 ghost use Rattle.local_txn.specs.Answers.{open_of, owner_by, Prepares};
 ghost use Rattle.resource_rules.specs.Grants as looked;
 ghost use Rattle.resource_store.specs.Keeping.{known, is_down};
 ghost use Rattle.resource_store.specs.Answers.{Gives, Leaves};
 ghost use Rattle.rule_calls.specs.Calls.{told_of};
+ghost use Rattle.rule_calls.specs.Openings.{TellsCall};
 ghost use Rattle.tcc_branch.specs.Tries.{tried_by, tickets_after, Grants, MayTry, StaysUnlessTried, TellsOn};
 
 use crate::answers::TryAnswer;
@@ -28,7 +29,9 @@ pub fn prepare(
     action: &Shared<Action>,
 ) -> Result<Ticket, NoMemory>
     requires { txns.old.opened < 2 ^ 32 - 1 }
-    ensures { Prepares txns.old (owner_by xid.0 manager call (Tcc action.now)) result txns.new }
+    ensures opens { Prepares txns.old (owner_by xid.0 manager call (Tcc action.now)) result txns.new }
+    ensures rules { IfOk result (λ t.
+        TellsCall txns.old manager xid.0 call (Tcc action.now) (Ok no_effect) (Ok t)) }
 {
     txns.prepare(alloc, xid, call, manager, action)
 }

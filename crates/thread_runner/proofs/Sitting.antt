@@ -152,10 +152,10 @@ module _ (world : World) (held : Past → Starts → Type 0) (run : Run) (s : Sc
         may_sit (coordinator.node_state state c) place.Tc refl (begun_at o (coordinator.start_of c)) (coordinator.start_of c)
         (record { is = ap (λ (q : Plan). record q { from = coordinator.start_of c }) is.plan.is; starts = new.early; picks = is.plan.picks }) is.ends begins
         fresh inputs
-        (λ tells has. new.told (knows.told tells)) (λ has. have_bytes (coordinator.disks_of state c) new.sized) (λ some. refl)
+        (λ tells has. let some = knows.told tells in new.told some.0 some.1.0) (λ has. have_bytes (coordinator.disks_of state c) new.sized) (λ some. refl)
       where
         stands : (h : Held) → IsKnown held run h → coordinator.StandsAs state c (coordinator_role s h) []
-        stands h known = new.stands h (knows.held_all h known.1).0 (new.told (knows.told known.0))
+        stands h known = new.stands h (knows.held_all h known.1).0 (new.told h (knows.held_all h known.1).0)
 
         begins : (h : Held) → IsKnown held run h → place.Tc ≡ place.Tc → coordinator.start_of c ≡ start h.past.sessions
         begins h known tc = (stands h known).1.starts
@@ -167,7 +167,7 @@ module _ (world : World) (held : Past → Starts → Type 0) (run : Run) (s : Sc
               here past place.Tc (coordinator_role s h) refl,
               λ tells. (
                 stands h tells,
-                sized_in (λ size. coordinator.LiesAs state c (coordinator_role s h) (starts place.Tc) size []) (new.lies h (knows.held_all h tells.1).0 (new.told (knows.told tells.0))),
+                sized_in (λ size. coordinator.LiesAs state c (coordinator_role s h) (starts place.Tc) size []) (new.lies h (knows.held_all h tells.1).0 (new.told h (knows.held_all h tells.1).0)),
               ),
             )
 
@@ -187,7 +187,7 @@ module _ (world : World) (held : Past → Starts → Type 0) (run : Run) (s : Sc
         may_sit (resource.node_state state r) (place.Res (k + 1)) new.at o 0 is.plan is.ends
         (λ h known tc. absurd (let no : place.Res (k + 1) ≡ place.Tc = tc in cc)) fresh
         (λ given framable may. inputs given framable (subst (λ p. MayBeGiven o.plan p given) new.at may))
-        (λ tells has. new.told (knows.told tells)) (λ has. have_bytes (shown.disks_of state r) new.sized) (λ some. refl)
+        (λ tells has. let some = knows.told tells in new.told some.0 (held_at state shelf s some.0 some.1 k def there)) (λ has. have_bytes (shown.disks_of state r) new.sized) (λ some. refl)
       where
         fresh : OverAll held run (λ past over. IsFreshIn world past over (resource.node_state state r))
         fresh past starts =
@@ -195,8 +195,8 @@ module _ (world : World) (held : Past → Starts → Type 0) (run : Run) (s : Sc
               resource_role s h (k + 1) def,
               here past (place.Res (k + 1)) (resource_role s h (k + 1) def) (role_of_resource s past k def there),
               λ tells.
-                  let told = new.told (knows.told tells.0) in
-                  let holds = held_at state shelf s h (knows.held_all h tells.1) k def there in (
+                  let holds = held_at state shelf s h (knows.held_all h tells.1) k def there in
+                  let told = new.told h holds in (
                     new.stands h holds told,
                     sized_in (λ size. resource.LiesAs state r (resource_role s h (k + 1) def) (starts (place.Res (k + 1))) size []) (new.lies h holds told),
                   ),

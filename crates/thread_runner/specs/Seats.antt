@@ -17,7 +17,6 @@ use Rattle.node_seat.specs.Seating.{Seated}
 use Rattle.node_seat.specs.Turns.{HasDisksToStop}
 use Rattle.scenario_nodes.specs.Nodes.{AreNewServers, Held, HoldAll, IsNewManager}
 use Rattle.scenario_nodes.specs.declared.servers.Servers.{Servers}
-use Rattle.scenario_nodes.specs.Shelves.{AllTell}
 use Rattle.scenario_nodes.specs.Together.{AreEach, numbered}
 use Rattle.run_links.specs.Linked.{AreEndsAt}
 use Rattle.run_links.specs.Plans.{IsPlanOf, stops_of}
@@ -42,10 +41,10 @@ pub record IsNamedFor (world : World) (run : Run) (s : Scenario) : Type 0 where
   pub managers : run.managers ≡ length s.managers
   pub resources : run.resources ≡ length s.resources
 
--- what it knows of disks is that they tell their bytes, and over some records, that the disks which a shelf gives next hold these
+-- what it knows of disks is that those which a shelf gives next tell their bytes, and over some records, that they hold these
 pub record KnowsDisks {D : Type 0} (state : D → DiskState) (shelf : ShelfState D) (s : Scenario) (held : Past → Starts → Type 0) (run : Run) : Type 0 where
-  pub tells : AllTell state → run.tells
-  pub told : run.tells → AllTell state
+  pub tells : (h : Held) → HoldAll state shelf s h → run.tells
+  pub told : run.tells → (h : Held) × HoldAll state shelf s h
   pub holds : (h : Held) → HoldAll state shelf s h → held h.past h.starts
   pub held_all : (h : Held) → held h.past h.starts → HoldAll state shelf s h
 

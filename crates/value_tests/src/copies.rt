@@ -1,8 +1,8 @@
 //! Copies of rows, of steps and of inputs, with the keys and texts in them.
 use crate::samples::{Fail, copied, so, text};
 use seata_types::{
-    Act, Duplicate, Image, Input, List, Message, Outgoing, Place, Row, RowKey, Step, Ticket, Value,
-    Xid,
+    Act, Boxed, Duplicate, Image, Input, List, Message, Outgoing, Place, Row, RowKey, Step, Ticket,
+    Value, Xid,
 };
 use std::alloc::Global;
 
@@ -45,7 +45,7 @@ fn step(alloc: Global) -> Result<Step, Fail> {
 }
 
 fn input(alloc: Global) -> Result<Input, Fail> {
-    let message = answer(alloc, 6)?;
+    let message = Boxed::new(alloc, answer(alloc, 6)?)?;
     Ok(Input::Message {
         from: Place::Tc,
         message,
@@ -102,7 +102,7 @@ fn is_input(input: &Input) -> bool {
         Input::Message {
             from: Place::Tc,
             message,
-        } => is_answer(message),
+        } => is_answer(message.get()),
         _ => false,
     }
 }

@@ -6,7 +6,7 @@ ghost use Rattle.frame_codec.specs.Limits.{IsKeyWithin, AreKeysWithin, IsFramabl
 use crate::samples::{Fail, copied, so};
 use frame_codec::{Packet, encode};
 use seata_types::{
-    BranchId, BranchKind, BranchStatus, CallAnswer, GlobalStatus, List, Message, NoMemory,
+    Boxed, BranchId, BranchKind, BranchStatus, CallAnswer, GlobalStatus, List, Message, NoMemory,
     Registered, RowKey, Shared, StmtError, Text, Ticket, Value, Why, Work, Xid,
 };
 use std::alloc::Global;
@@ -187,7 +187,7 @@ fn registrations(alloc: Global) -> Result<(), Fail> {
 
 fn answers(alloc: Global) -> Result<(), Fail> {
     let xid = Xid(7);
-    let key = key(alloc)?;
+    let key = Boxed::new(alloc, key(alloc)?)?;
     let why = Why::Stmt {
         index: 1,
         why: StmtError::Overflow { key },

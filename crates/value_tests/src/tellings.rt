@@ -77,8 +77,8 @@ fn word_of(why: &StmtError) -> (&'static str, Option<&RowKey>) {
         StmtError::KeyChanged => ("KeyChanged", None),
         StmtError::TypeMismatch => ("TypeMismatch", None),
         StmtError::TooManyRows => ("TooManyRows", None),
-        StmtError::Overflow { key } => ("Overflow ", Some(key)),
-        StmtError::Duplicate { key } => ("Duplicate ", Some(key)),
+        StmtError::Overflow { key } => ("Overflow ", Some(key.get())),
+        StmtError::Duplicate { key } => ("Duplicate ", Some(key.get())),
         StmtError::TableFull => ("TableFull", None),
     }
 }

@@ -1,6 +1,6 @@
 use Rattle.coordinator_rules.specs.Answers.{Answers}
 use Rattle.coordinator_rules.specs.Knowledge.{knows, waits}
-use Rattle.coordinator_rules.proofs.RulingLaws.{of_like, ok_as}
+use Rattle.coordinator_rules.proofs.RulingLaws.{of_like, of_heard, ok_as}
 use Rattle.coordinator_rules.proofs.uncounted.answer.Goals as goal
 
 pub returns-in-Turn : goal.returns-in-Turn
@@ -9,5 +9,5 @@ returns-in-Turn c = λ retry.
 
 pub returns-in-Message : goal.returns-in-Message
 returns-in-Message c =
-    ok_as c.hear.result (λ a all retry. of_like (λ i. Answers (knows (waits retry c.args.forget) c.args.memory.now c.args.moments.now) i c.args.now a) c.args.given.now _ c.in-Message.is
+    ok_as c.hear.result (λ a all retry. of_heard (λ i. Answers (knows (waits retry c.args.forget) c.args.memory.now c.args.moments.now) i c.args.now a) c.args.given.now _ _ _ c.in-Message.is c.get.ensures
     (all (waits retry c.args.forget) c.args.moments.now)) c.hear.ensures

@@ -10,7 +10,7 @@ returns-in-Some-Normal c =
     let e : entry_at c.args.memory.now.undo_log c.args.leg ≡ Some (entry.Normal c.in-Some-Normal.record) =
     sym (ap (λ (o : Option _). option_copied o) (sym c.in-Some-Normal.is) ∙ c.entry.ensures) ∙ ap Some c.in-Some-Normal.field-0-is in
     undone_ok c.args.memory.now c.args.txns.now.opens c.args.leg c.in-Some-Normal.record c.tables.result.now c.as_slice.result.now c.undo.result c.tables.ensures c.as_slice.ensures e
-    c.in_range.ensures.xid c.in_range.ensures.branch c.undo.ensures.step c.undo.ensures.undo
+    c.in_range.ensures.xid c.in_range.ensures.branch c.undo.ensures
 
 pub returns-in-Some-Finished : goal.returns-in-Some-Finished
 returns-in-Some-Finished c =

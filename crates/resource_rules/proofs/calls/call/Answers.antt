@@ -10,7 +10,7 @@ returns-then-is_nobody c = λ resource from.
 pub returns-in-Some : goal.returns-in-Some
 returns-in-Some c = λ resource from.
     is_again c.args.setup.now c.args.memory.now c.args.txns.now c.args.caller c.args.work.now resource from (sym c.is_nobody.ensures ∙ c.if-is_nobody.false) c.requires.counted
-    c.in-Some.branch c.in_range.ensures.branch (sym c.done_for.ensures ∙ c.in-Some.is) _ c.again.ensures
+    c.in-Some.branch c.in_range.ensures.branch (sym c.done_for.ensures ∙ c.in-Some.is) _ c.told.ensures
 
 pub returns-then-is_some : goal.returns-then-is_some
 returns-then-is_some c = λ resource from.
@@ -21,3 +21,6 @@ pub returns : goal.returns
 returns c =
     is_new_ok c.args.setup.now c.args.memory.now c.args.txns.now c.args.caller c.args.work.now c.tables.result.now (sym c.is_nobody.ensures ∙ c.if-is_nobody.false) c.requires.counted
     (sym c.done_for.ensures ∙ c.in_default.is) (ap is_some (sym c.find_call.ensures) ∙ sym c.is_some.ensures ∙ c.if-is_some.false) (subst FitsTicket c.next-ticket.ensures (record { boot = c.in_ticket.ensures.boot; seq = c.in_ticket.ensures.seq })) c.tables.ensures c.new_call.result c.new_call.ensures
+
+pub new_call-requires-clause-one : goal.new_call-requires-clause-one
+new_call-requires-clause-one c = sym c.is_nobody.ensures ∙ c.if-is_nobody.false

@@ -1,4 +1,4 @@
-use Rattle.resource_store.proofs.DamageLaws.{hold_records}
+use Rattle.resource_store.proofs.ListLaws.{hold_records}
 use Rattle.resource_store.proofs.laws.disks_hold_their_records.Goals as goal
 
 pub returns : goal.returns

@@ -5,7 +5,7 @@ use Rattle.std.specs.declared.alloc.Global.{Global}
 use Rattle.scenario_form.specs.Runnable.{resource_name}
 use Rattle.scenario_nodes.specs.Shelves.{second_name}
 use Rattle.scenario_nodes.proofs.Cut.{IsItsSecond}
-use Rattle.scenario_nodes.proofs.Made.{drop_at, drop_end}
+use Rattle.scenario_setups.proofs.Made.{drop_at, drop_end}
 use Rattle.scenario_nodes.proofs.Together.{AreFirst, first_all, first_none, first_push}
 use Rattle.scenario_nodes.proofs.openings.second_names.Goals as goal
 

@@ -86,8 +86,8 @@ returns-in-Ok-read_resources g c =
     let one = subst (ReadsCoordinator state s coordinator_name old now) c.in-Ok-read_coordinator.is c.read_coordinator.ensures in
     let two = subst (ReadsResources state s now new) c.in-Ok-read_resources.is c.read_resources.ensures in
     let sessions = c.in-Ok-read_coordinator.sessions in record {
-      says = λ all held holds. record { sessions = one.says all held holds.0; resources = two.says all held (both_hold state s c.requires old now new sessions one two.keeps held holds.1) };
-      sound = λ all held. (one.sound all held, all_sound_before state s old now one.still all (resource_servers s held) (two.sound all held));
+      says = λ held holds. record { sessions = one.says held holds.0; resources = two.says held (both_hold state s c.requires old now new sessions one two.keeps held holds.1) };
+      sound = λ held. (one.sound held, all_sound_before state s old now one.still (resource_servers s held) (two.sound held));
       back = λ held. both_read state s c.requires old now new sessions one two.keeps held (two.back held);
       refused = tt;
       cause = tt;

@@ -7,7 +7,7 @@ pub returns-in-Ok : goal.returns-in-Ok
 returns-in-Ok g c =
     let s = c.args.scenario.now in
     let r = subst (ReadsServers g.H.D.Disk.state s (g.H.Shelf.state c.args.shelf.now) (g.H.Shelf.state c.read_servers.new.shelf)) c.in-Ok.is c.read_servers.ensures in record {
-      says = λ all held holds. is_read s held c.in-Ok.memories (r.says all held holds);
+      says = λ held holds. is_read s held c.in-Ok.memories (r.says held holds);
       sound = r.sound;
       back = r.back;
       refused = tt;

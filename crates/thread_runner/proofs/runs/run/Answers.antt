@@ -15,7 +15,7 @@ run_named-requires-clause-named g c κs within = record {
 }
 
 pub run_named-requires-clause-disks : goal.run_named-requires-clause-disks
-run_named-requires-clause-disks g c κs within = record { tells = λ told. told; told = λ told. told; holds = λ h holds. holds; held_all = λ h holds. holds }
+run_named-requires-clause-disks g c κs within = record { tells = λ h holds. (h, holds); told = λ told. told; holds = λ h holds. holds; held_all = λ h holds. holds }
 
 pub returns-clause-calm : goal.returns-clause-calm
 returns-clause-calm g c held holds =

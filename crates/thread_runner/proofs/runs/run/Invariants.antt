@@ -1,8 +1,7 @@
 use Rattle.std.proofs.Common.{length}
 use Rattle.history_text.specs.Worlds.{world_of}
 use Rattle.node_steps.specs.Ends.{no_starts}
-use Rattle.scenario_nodes.specs.Nodes.{HoldAll}
-use Rattle.scenario_nodes.specs.Shelves.{AllTell}
+use Rattle.scenario_nodes.specs.Nodes.{Held, HoldAll}
 use Rattle.run_links.specs.Linked.{queue_of}
 use Rattle.run_links.specs.Plans.{stops_of}
 use Rattle.thread_runner.proofs.runs.run.Given as goal
@@ -15,7 +14,7 @@ ghosts-run_named g a = record {
   run = record {
     queue = queue_of a.links;
     stops = stops_of a.scenario.now;
-    tells = AllTell g.H.D.Disk.state;
+    tells = (h : Held) × HoldAll g.H.D.Disk.state (g.H.Shelf.state a.shelf.now) a.scenario.now h;
     bytes = a.scenario.now.disk;
     starts = no_starts;
     managers = length a.scenario.now.managers;

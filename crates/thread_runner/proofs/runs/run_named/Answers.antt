@@ -20,7 +20,7 @@ pub returns-in-Ok-open_servers : goal.returns-in-Ok-open_servers
 returns-in-Ok-open_servers g c =
     let state = g.H.Shelf.state in
     played_on (Leaves c.args.scenario.now) g.H.D.Disk.state c.args.scenario.now (IsKnown g.K.RunName.held g.K.RunName.run) (state c.args.shelf.now) (state c.open_servers.new.shelf) (state c.run_nodes.new.shelf) c.run_nodes.result
-    (λ all held holds. (c.requires.disks.tells all, c.requires.disks.holds held holds)) c.in-Ok-open_servers.ensures.shelf.takes c.run_nodes.ensures
+    (λ held holds. (c.requires.disks.tells held holds, c.requires.disks.holds held holds)) c.in-Ok-open_servers.ensures.shelf.takes c.run_nodes.ensures
 
 pub returns : goal.returns
 returns g c = let e = c.in-Err.ensures in record { uses = inr e.refused; returned = e.shelf.returned; keeps = e.shelf.keeps }

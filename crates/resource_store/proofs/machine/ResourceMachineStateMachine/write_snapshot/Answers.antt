@@ -1,7 +1,7 @@
 use Rattle.std.proofs.Common.{subst}
 use Rattle.resource_memory.proofs.Saved.{saves_known}
 use Rattle.resource_store.specs.Meaning.{Opens}
-use Rattle.resource_store.proofs.StoreLaws.{has_counts}
+use Rattle.resource_store.proofs.ListLaws.{has_counts}
 use Rattle.resource_store.proofs.machine.ResourceMachineStateMachine.write_snapshot.Goals as goal
 
 pub write-requires : goal.write-requires

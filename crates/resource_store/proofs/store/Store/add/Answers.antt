@@ -10,4 +10,4 @@ take-requires-clause-is g c = ap record_of (c.deref.ensures.value ∙ c.in-Ok.en
 pub returns : goal.returns
 returns g c =
     changes g.D.Disk.state c.args.self.now (record { kept = c.take.new.self }) c.args.item c.deref.result.now c.requires.taken.fits (c.deref.ensures.value ∙ c.in-Ok.ensures) c.requires.taken.allowed
-    c.take.result c.take.ensures.keeps c.take.ensures.extent c.take.ensures.memory c.take.ensures.any_moment c.take.ensures.not_begun c.take.ensures.took c.take.ensures.failed c.take.ensures.exact c.take.ensures.room c.take.ensures.down c.take.ensures.machine c.take.ensures.found
+    c.take.result c.take.ensures

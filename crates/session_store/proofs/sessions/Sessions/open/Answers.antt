@@ -1,15 +1,20 @@
 use Rattle.std.proofs.Common.{ap}
+use Rattle.memory_store.proofs.ListKeeping.{open_keeps}
+use Rattle.memory_store.proofs.Lists.{goes_on}
 use Rattle.session_store.specs.declared.machine.SessionMachine.{SessionMachine}
 use Rattle.session_store.specs.Keeping.{store_of}
 use Rattle.session_store.specs.Meaning.{meaning_of}
+use Rattle.session_store.specs.Standing.{lists_of}
 use Rattle.memory_store.proofs.Openings.{opens_in, opens_none}
-use Rattle.session_store.proofs.SessionLaws.{open_keeps, not_damaged, goes_on}
+use Rattle.session_store.proofs.ListLaws.{lists_lawful}
+use Rattle.session_store.proofs.SessionLaws.{keeps_of, not_damaged}
 use Rattle.session_store.proofs.sessions.Sessions.open.Goals as goal
 
 pub returns-in-Ok-clause-stands : goal.returns-in-Ok-clause-stands
 returns-in-Ok-clause-stands g c = record {
   keeps = λ rs a b is too stands.
-      open_keeps c.args.managers c.args.resources g.D.Disk.state a b (record { store = c.in-Ok.store }) c.in-Ok.ensures.machine (c.in-Ok.ensures.opens.opened a b is too) rs stands;
+      keeps_of g.D.Disk.state (record { managers = c.args.managers; resources = c.args.resources }) rs (record { store = c.in-Ok.store }) c.in-Ok.ensures.machine
+      (open_keeps (lists_of c.args.managers c.args.resources) (lists_lawful c.args.managers c.args.resources) g.D.Disk.state a b c.in-Ok.store (c.in-Ok.ensures.opens.opened a b is too) rs stands);
   recovers = tt;
   managers = ap (λ (q : SessionMachine). q.managers) c.in-Ok.ensures.machine;
   resources = ap (λ (q : SessionMachine). q.resources) c.in-Ok.ensures.machine;
@@ -17,7 +22,7 @@ returns-in-Ok-clause-stands g c = record {
 
 pub returns-in-Ok-clause-opens : goal.returns-in-Ok-clause-opens
 returns-in-Ok-clause-opens g c =
-    opens_in g.D.Disk.state (meaning_of c.args.managers c.args.resources) store_of c.args.first c.args.second (goes_on c.args.managers c.args.resources) (record { store = c.in-Ok.store }) c.in-Ok.ensures.opens
+    opens_in g.D.Disk.state (meaning_of c.args.managers c.args.resources) store_of c.args.first c.args.second (goes_on (lists_of c.args.managers c.args.resources) (lists_lawful c.args.managers c.args.resources)) (record { store = c.in-Ok.store }) c.in-Ok.ensures.opens
 
 pub returns-in-Err-clause-stands : goal.returns-in-Err-clause-stands
 returns-in-Err-clause-stands g c = record {
@@ -29,4 +34,4 @@ returns-in-Err-clause-stands g c = record {
 
 pub returns-in-Err-clause-opens : goal.returns-in-Err-clause-opens
 returns-in-Err-clause-opens g c =
-    opens_none g.D.Disk.state (meaning_of c.args.managers c.args.resources) store_of c.args.first c.args.second (goes_on c.args.managers c.args.resources) c.in-Err.failed c.in-Err.ensures.opens
+    opens_none g.D.Disk.state (meaning_of c.args.managers c.args.resources) store_of c.args.first c.args.second (goes_on (lists_of c.args.managers c.args.resources) (lists_lawful c.args.managers c.args.resources)) c.in-Err.failed c.in-Err.ensures.opens

@@ -8,7 +8,7 @@ use Rattle.session_log.specs.declared.sessions.Snapshot.{Snapshot}
 use Rattle.session_log.specs.Records.{record_bytes}
 use Rattle.session_memory.specs.Changes.{granted_record, may_come}
 use Rattle.session_memory.specs.Holding.{held_in}
-use Rattle.session_store.specs.Keeping.{known, managers_of, register_record, resources_of}
+use Rattle.session_store.specs.Keeping.{Adds, known, managers_of, register_record, resources_of}
 use Rattle.session_store.proofs.SessionLaws.{conflict_refuses, may_register}
 use Rattle.session_store.proofs.sessions.Sessions.register.Goals as goal
 
@@ -35,3 +35,11 @@ add_counted-made-requires-clause-small g c =
     let is : c.in-Ok.item ≡ register_record (known c.args.self.now) c.args.xid c.args.place c.args.hold.now =
     c.in-Ok.ensures ∙ ap (λ n. granted_record c.args.xid n c.args.place c.args.hold.now) (c.next_branch-branch.ensures ∙ ap (λ (s : Snapshot). s.granted + 1) c.memory-memory.ensures) in
     subst (λ (r : SessionRecord). length (record_bytes r) ≤ BODY_BYTES) (sym is) c.requires.small
+
+pub returns-in-Ok-made-clause-made : goal.returns-in-Ok-made-clause-made
+returns-in-Ok-made-clause-made g c =
+    let is : c.in-Ok.item ≡ register_record (known c.args.self.now) c.args.xid c.args.place c.args.hold.now =
+    c.in-Ok.ensures ∙ ap (λ n. granted_record c.args.xid n c.args.place c.args.hold.now) (c.next_branch-branch.ensures ∙ ap (λ (s : Snapshot). s.granted + 1) c.memory-memory.ensures) in (
+      subst (λ (s : Snapshot). first_locked (locks (held_in s)) c.args.xid (c.args.hold.now ++ c.args.check.now) ≡ None) c.memory-memory.ensures c.in_default.ensures.found,
+      subst (λ (r : SessionRecord). Adds g.D.Disk.state r c.args.self.now c.add_counted-made.new.self) is c.in-Ok-made.ensures.made,
+    )
